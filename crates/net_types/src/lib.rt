@@ -1,0 +1,10 @@
+//! Addresses, interfaces and the faults that every layer shares.
+#![tactic(auto)]
+
+mod address;
+mod fault;
+mod interface;
+
+pub use address::{Ip4, Ip6, Mac, Net, Net4, Net6};
+pub use fault::{BadText, Failed, NoMemory};
+pub use interface::{IfIndex, IfSpec, Name};
