@@ -1,0 +1,10 @@
+pub mod Causes
+pub mod Reasons
+pub mod RowOrder
+pub mod Rows
+pub mod FileNames
+pub mod Streams
+pub mod LinkCalls
+pub mod StoreCalls
+pub mod HostCalls
+pub mod HookCalls

@@ -1,0 +1,23 @@
+//! The outside of the daemon: what each device is asked, what it answers, and what is known of it.
+#![tactic(auto)]
+
+mod faults;
+mod hooking;
+mod hosts;
+mod links;
+mod reasons;
+mod rows;
+mod stores;
+mod streams;
+mod wakes;
+
+pub use faults::DeviceAnswer;
+pub use hooking::{HookJob, HookVar, Hooks, Poll};
+pub use hosts::Host;
+pub use links::Link;
+pub use net_types::{Failed, NoMemory};
+pub use reasons::{Reason, reason_text};
+pub use rows::{HostRow, Via};
+pub use stores::Store;
+pub use streams::{Sink, Source};
+pub use wakes::{Begin, Event, Wake};

@@ -1,0 +1,35 @@
+ghost use Rattle.std.specs.Prelude.{◌≡◌, ◌≤◌, ℕ, Option, List, length, IfOk};
+ghost use Rattle.world.specs.Causes.{HasCause, HasDeviceCause};
+ghost use Rattle.world.specs.Streams.{Reads, Writes};
+
+use crate::faults::DeviceAnswer;
+use net_types::Failed;
+
+/// Where input comes from.
+pub trait Source {
+    /// How many calls failed.
+    ghost faults: { Self → ℕ };
+
+    /// The bytes left, where these are told.
+    ghost left: { Self → Option (List ℕ) };
+
+    /// Puts the next bytes at the front of `buf` and says how many; 0 for a buffer with room is the end of input.
+    fn read(&mut self, buf: &mut [u8]) -> Result<usize, Failed>
+        ensures cause { HasCause (faults self.old) (faults self.new) result }
+        ensures room { IfOk result (λ n. n ≤ length buf.new) }
+        ensures told { Reads (left self.old) (left self.new) buf.new result };
+}
+
+/// Where output goes.
+pub trait Sink {
+    /// How many calls failed.
+    ghost faults: { Self → ℕ };
+
+    /// The bytes written, where these are told.
+    ghost written: { Self → Option (List ℕ) };
+
+    /// Appends all the bytes, or on a refusal some of the first of them.
+    fn write(&mut self, bytes: &[u8]) -> Result<(), DeviceAnswer>
+        ensures cause { HasDeviceCause (faults self.old) (faults self.new) result }
+        ensures told { Writes (written self.old) (written self.new) bytes.now result };
+}
