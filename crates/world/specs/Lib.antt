@@ -8,3 +8,4 @@ pub mod LinkCalls
 pub mod StoreCalls
 pub mod HostCalls
 pub mod HookCalls
+pub mod RowText

@@ -1,0 +1,9 @@
+pub mod StaticRows
+pub mod Interfaces
+pub mod HostTurn
+pub mod Turns
+pub mod Opening
+pub mod Lines
+pub mod Lives
+pub mod ToldDevices
+pub mod Scripts

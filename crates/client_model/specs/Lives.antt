@@ -1,0 +1,78 @@
+-- The lines of a life, from what it met.
+use Rattle.std.specs.Prelude.{ℕ, ◌≡◌, Bool, if◌then◌else◌, List, [], ◌∷◌, ◌++◌, map, flat_map, length, Option, Some, None}
+use Rattle.world.specs.declared.rows.HostRow.{HostRow}
+use Rattle.world.specs.declared.rows.HostRow.TheVariants.{Addr, Route}
+use Rattle.world.specs.StoreCalls.{Reading}
+use Rattle.world.specs.HostCalls as calls
+use Rattle.client_model.specs.declared.interfaces.Managed.{Managed}
+use Rattle.client_model.specs.Interfaces.{stepped, rows_of}
+use Rattle.client_model.specs.HostTurn.{AnswersAll, host_calls}
+use Rattle.client_model.specs.Turns.{Life, Met, moment_of, turned, until, life_after}
+use Rattle.client_model.specs.Opening.{OpeningMet, file_names, opened_client, opened_life}
+use Rattle.client_model.specs.Lines as lines
+use Rattle.client_model.specs.Lines.{Line}
+
+abbrev pub call_lines : calls.HostCall → List Line
+call_lines (calls.Listed None) = lines.HostListFailed ∷ []
+call_lines (calls.Listed (Some rows)) = lines.HostListed (length rows) ∷ map lines.Row rows
+call_lines (calls.Added row done) = lines.HostAdd row done ∷ []
+call_lines (calls.Removed row done) = lines.HostDel row done ∷ []
+
+abbrev pub host_lines : List calls.HostCall → List Line
+host_lines made = flat_map call_lines made
+
+-- one turn: what came, the host calls, and what the next wait is asked
+abbrev pub turn_lines : List Managed → Life → Met → List Line
+turn_lines managed life met =
+    lines.Turn (moment_of life met.wake) met.wake.salt met.wake.event met.bytes
+    ∷ (host_lines (host_calls managed life.known (rows_of (stepped met.wake.event life.client)) met.host)
+    ++ lines.Until (until (turned managed life met)) ∷ [])
+
+abbrev pub turns_lines : List Managed → Life → List Met → List Line
+turns_lines managed life [] = []
+turns_lines managed life (met ∷ mets) = turn_lines managed life met ++ turns_lines managed (turned managed life met) mets
+
+-- each host change of each turn has an answer
+abbrev pub AllAnswered : List Managed → Life → List Met → Type 0
+AllAnswered managed life [] = Unit {0}
+AllAnswered managed life (met ∷ mets) =
+    AnswersAll managed life.known (rows_of (stepped met.wake.event life.client)) met.host
+    × AllAnswered managed (turned managed life met) mets
+
+abbrev pub removal_lines : List (List ℕ) → List Bool → List Line
+removal_lines [] removed = []
+removal_lines (name ∷ names) [] = []
+removal_lines (name ∷ names) (done ∷ removed) = lines.Removed name done ∷ removal_lines names removed
+
+abbrev pub settle_lines : Option Bool → List Line
+settle_lines None = []
+settle_lines (Some done) = lines.Settled done ∷ []
+
+abbrev pub aside_lines : Option (List (List ℕ)) → List Bool → Option Bool → List Line
+aside_lines None removed settled = lines.AsidesFailed ∷ []
+aside_lines (Some names) removed settled = lines.Asides names ∷ (removal_lines names removed ++ settle_lines settled)
+
+abbrev pub reading_lines : List (List ℕ) → List Reading → List Line
+reading_lines [] readings = []
+reading_lines (name ∷ names) [] = []
+reading_lines (name ∷ names) (reading ∷ readings) = lines.Read name reading ∷ reading_lines names readings
+
+abbrev pub opening_lines : List Managed → OpeningMet → List Line
+opening_lines managed met =
+    lines.Start met.begin ∷ (aside_lines met.asides met.removed met.settled ++ (reading_lines file_names met.readings
+    ++ (host_lines (host_calls managed None (rows_of (opened_client managed met)) met.host)
+    ++ lines.Until (until (opened_life managed met)) ∷ [])))
+
+-- the wanted addresses as the last turn left them
+abbrev pub hold_lines : List HostRow → List Line
+hold_lines [] = []
+hold_lines (Addr iface net ∷ rows) = lines.Hold iface net ∷ hold_lines rows
+hold_lines (Route iface dest way metric ∷ rows) = hold_lines rows
+
+abbrev pub closing_lines : Life → List Line
+closing_lines life = hold_lines (rows_of life.client) ++ lines.EndOfLife ∷ []
+
+abbrev pub life_lines : List Managed → OpeningMet → List Met → List Line
+life_lines managed opening mets =
+    opening_lines managed opening ++ (turns_lines managed (opened_life managed opening) mets
+    ++ closing_lines (life_after managed (opened_life managed opening) mets))

@@ -1,0 +1,49 @@
+-- The opening of a life: asides are cleared, the files read, the client opened and the host's table brought about.
+use Rattle.std.specs.Prelude.{ℕ, ◌≡◌, Bool, List, [], ◌∷◌, length, map, codes, Option, Some, None}
+use Rattle.world.specs.declared.wakes.Begin.{Begin}
+use Rattle.world.specs.StoreCalls.{Reading}
+use Rattle.client_model.specs.declared.interfaces.Managed.{Managed}
+use Rattle.client_model.specs.Interfaces.{Client, opening, rows_of}
+use Rattle.client_model.specs.HostTurn.{HostMet, AnswersAll, known_after}
+use Rattle.client_model.specs.Turns.{Life, capped}
+
+-- what an opening met
+pub record OpeningMet : Type 0 where
+  pub begin : Begin
+  -- the names of the asides, nothing where the listing failed
+  pub asides : Option (List (List ℕ))
+  -- for each aside, whether it was removed; and whether that was settled, where there was any
+  pub removed : List Bool
+  pub settled : Option Bool
+  -- for each file, what reading it gave
+  pub readings : List Reading
+  pub host : HostMet
+
+-- the files that a life reads and keeps
+abbrev pub file_names : List (List ℕ)
+file_names = codes "resolv.conf" ∷ []
+
+abbrev pub listed : Option (List (List ℕ)) → List (List ℕ)
+listed None = []
+listed (Some names) = names
+
+-- Where there was an aside, the removals are settled.
+abbrev pub SettlesIfAny : List (List ℕ) → Option Bool → Type 0
+SettlesIfAny [] settled = settled ≡ None
+SettlesIfAny (name ∷ names) None = ⊥
+SettlesIfAny (name ∷ names) (Some done) = Unit {0}
+
+abbrev pub opened_client : List Managed → OpeningMet → Client
+opened_client managed met = opening managed met.begin.up
+
+abbrev pub opened_life : List Managed → OpeningMet → Life
+opened_life managed met =
+    let client = opened_client managed met in
+    record { client = client; known = known_after managed None (rows_of client) met.host; now = capped met.begin.at; stop = None }
+
+-- each call has its answer
+pub record Opens (managed : List Managed) (met : OpeningMet) : Type 0 where
+  pub removed : length met.removed ≡ length (listed met.asides)
+  pub settled : SettlesIfAny (listed met.asides) met.settled
+  pub readings : length met.readings ≡ length file_names
+  pub host : AnswersAll managed None (rows_of (opened_client managed met)) met.host

@@ -1,0 +1,81 @@
+-- The rows that static lines give, computed from scratch.
+use Rattle.std.specs.Prelude.{ℕ, ◌+◌, ◌-◌, ◌/◌, ◌%◌, ◌^◌, Bool, true, false, not, ◌&&◌, ◌||◌, ◌==◌, nat_lt, if◌then◌else◌, List, [], ◌∷◌, ◌++◌, filter, flat_map, Option, Some, None}
+use Rattle.std.specs.List.{list_any}
+use Rattle.std.specs.Ordering.{is_lt}
+use Rattle.net_types.specs.declared.address.Ip4.{Ip4}
+use Rattle.net_types.specs.declared.address.Net4.{Net4}
+use Rattle.net_types.specs.declared.address.Net.{Net}
+use Rattle.net_types.specs.declared.address.Net.TheVariants as Family
+use Rattle.net_types.specs.declared.interface.IfIndex.{IfIndex}
+use Rattle.world.specs.declared.rows.HostRow.{HostRow}
+use Rattle.world.specs.declared.rows.HostRow.TheVariants.{Addr, Route}
+use Rattle.world.specs.declared.rows.Via.TheVariants.{OnLink, Gate4}
+use Rattle.world.specs.RowOrder.{family, net_number, net_len, row_iface, row_cmp, in_row_order}
+use Rattle.client_model.specs.declared.interfaces.StaticLine.{StaticLine}
+use Rattle.client_model.specs.declared.interfaces.Managed.{Managed}
+use Rattle.client_model.specs.declared.interfaces.Iface.{Iface}
+
+-- how many addresses a network of this prefix length has
+abbrev pub span : ℕ → ℕ
+span len = 2 ^ (32 - len)
+
+-- a net without the bits past its length
+abbrev pub network_of : Net4 → Net4
+network_of net = record { ip = record { number = net.ip.number - net.ip.number % span net.len }; len = net.len }
+
+-- whether an address is in the network of another
+abbrev pub is_within : Ip4 → Net4 → Bool
+is_within ip net = (ip.number / span net.len) == (net.ip.number / span net.len)
+
+-- the metric of an interface's routes
+abbrev pub metric_of : IfIndex → ℕ
+metric_of iface = 1000 + iface.number
+
+-- an address shorter than the whole width gives its network
+abbrev pub network_routes : IfIndex → Net4 → List HostRow
+network_routes iface net =
+    if nat_lt net.len 32
+    then Route iface (Family.V4 (network_of net)) OnLink (metric_of iface) ∷ []
+    else []
+
+-- a router outside the network is given on the link itself
+abbrev pub gateway_routes : IfIndex → Net4 → Ip4 → List HostRow
+gateway_routes iface net router =
+    if is_within router net
+    then []
+    else Route iface (Family.V4 (record { ip = router; len = 32 })) OnLink (metric_of iface) ∷ []
+
+-- the default route, by the router
+abbrev pub router_routes : IfIndex → Net4 → Option Ip4 → List HostRow
+router_routes iface net None = []
+router_routes iface net (Some router) =
+    Route iface (Family.V4 (record { ip = record { number = 0 }; len = 0 })) (Gate4 router) (metric_of iface)
+    ∷ gateway_routes iface net router
+
+abbrev pub line_rows : IfIndex → StaticLine → List HostRow
+line_rows iface line =
+    Addr iface (Family.V4 line.address) ∷ (network_routes iface line.address ++ router_routes iface line.address line.router)
+
+-- static lines are in force while the carrier is up
+abbrev pub iface_rows : Iface → List HostRow
+iface_rows f = if f.up then line_rows f.managed.spec.index f.managed.line else []
+
+-- whether two routes have one destination, length and metric
+abbrev pub same_target : HostRow → HostRow → Bool
+same_target (Route i a via_a m) (Route j b via_b n) =
+    (family a == family b) && (net_number a == net_number b) && (net_len a == net_len b) && (m == n)
+same_target a b = false
+
+-- of such routes the one of the lowest interface is kept, then the first in row order
+abbrev pub goes_before : HostRow → HostRow → Bool
+goes_before a b =
+    nat_lt (row_iface a) (row_iface b) || ((row_iface a == row_iface b) && is_lt (row_cmp a b))
+
+abbrev pub is_kept : List HostRow → HostRow → Bool
+is_kept rows row = not (list_any (λ other. same_target other row && goes_before other row) rows)
+
+-- the rows that are wanted, in row order
+abbrev pub wanted_rows : List Iface → List HostRow
+wanted_rows ifaces =
+    let rows = flat_map iface_rows ifaces in
+    in_row_order (filter (is_kept rows) rows)

@@ -1,0 +1,82 @@
+-- What devices that tell what they hold and which calls fail make of a life: it is determined.
+use Rattle.std.specs.Prelude.{ℕ, ◌≡◌, ◌+◌, Bool, true, false, not, if◌then◌else◌, List, [], ◌∷◌, ◌++◌, map, length, take, Option, Some, None}
+use Rattle.world.specs.Causes.{has_number}
+use Rattle.world.specs.declared.rows.HostRow.{HostRow}
+use Rattle.world.specs.declared.wakes.Begin.{Begin}
+use Rattle.world.specs.declared.wakes.Wake.{Wake}
+use Rattle.world.specs.RowOrder.{with_row, without_row}
+use Rattle.world.specs.HostCalls.{HostTold, Listed, host_answered}
+use Rattle.world.specs.LinkCalls.{Given, LinkTold, cut_wake, frame_len}
+use Rattle.world.specs.StoreCalls.{StoreTold, Reading, Missing}
+use Rattle.client_model.specs.declared.interfaces.Managed.{Managed}
+use Rattle.client_model.specs.Interfaces.{stepped, rows_of, opening}
+use Rattle.client_model.specs.HostTurn.{Change, Remove, Add, HostMet, change_call, changes_from, learnt}
+use Rattle.client_model.specs.Turns.{Life, Met, turned, is_over}
+use Rattle.client_model.specs.Opening.{OpeningMet, file_names, opened_life}
+
+-- whether the host's next call fails
+abbrev pub fails_next : List ℕ → HostTold → Bool
+fails_next failing told = has_number failing (length told.calls + 1)
+
+abbrev pub applied : Change → List HostRow → List HostRow
+applied (Remove row) rows = without_row row rows
+applied (Add row) rows = with_row row rows
+
+-- an answer, and what the host tells then
+pub record HostStep (A : Type 0) : Type 0 where
+  pub answer : A
+  pub told : HostTold
+
+abbrev pub listing_from : Bool → HostTold → HostStep (Option (List HostRow))
+listing_from true told = record { answer = None; told = host_answered (Listed None) told.rows told }
+listing_from false told = record { answer = Some told.rows; told = host_answered (Listed (Some told.rows)) told.rows told }
+
+abbrev pub told_listing : List ℕ → Option (List HostRow) → HostTold → HostStep (Option (List HostRow))
+told_listing failing (Some known) told = record { answer = None; told = told }
+told_listing failing None told = listing_from (fails_next failing told) told
+
+abbrev pub change_from : Bool → Change → HostTold → HostTold
+change_from true change told = host_answered (change_call change false) told.rows told
+change_from false change told = host_answered (change_call change true) (applied change told.rows) told
+
+abbrev pub told_changes : List ℕ → List Change → HostTold → HostStep (List Bool)
+told_changes failing [] told = record { answer = []; told = told }
+told_changes failing (change ∷ rest) told =
+    let more = told_changes failing rest (change_from (fails_next failing told) change told) in
+    record { answer = not (fails_next failing told) ∷ more.answer; told = more.told }
+
+-- the host calls of a turn
+abbrev pub told_host : List Managed → List ℕ → Option (List HostRow) → List HostRow → HostTold → HostStep HostMet
+told_host managed failing known wanted told =
+    let listing = told_listing failing known told in
+    let outcomes = told_changes failing (changes_from (learnt managed known listing.answer) wanted) listing.told in
+    record { answer = record { listing = listing.answer; outcomes = outcomes.answer }; told = outcomes.told }
+
+-- the room for a frame
+abbrev pub frame_room : ℕ
+frame_room = 2048
+
+abbrev pub told_wake : Given → Wake
+told_wake given = cut_wake given frame_room
+
+abbrev pub told_turn : List Managed → List ℕ → Life → HostTold → Given → HostStep Met
+told_turn managed failing life told given =
+    let wake = told_wake given in
+    let host = told_host managed failing life.known (rows_of (stepped wake.event life.client)) told in
+    record { answer = record { wake = wake; bytes = take (frame_len wake.event) given.bytes; host = host.answer }; told = host.told }
+
+-- the turns of a life, up to the one that ends it
+abbrev pub told_turns : List Managed → List ℕ → Life → HostTold → List Given → List Met
+told_turns managed failing life told [] = []
+told_turns managed failing life told (given ∷ coming) =
+    let turn = told_turn managed failing life told given in
+    turn.answer ∷ (if is_over (turned managed life turn.answer) then [] else told_turns managed failing (turned managed life turn.answer) turn.told coming)
+
+-- an opening over a store without files and without failures
+abbrev pub told_opening : List Managed → List ℕ → Begin → HostTold → HostStep OpeningMet
+told_opening managed failing begin told =
+    let host = told_host managed failing None (rows_of (opening managed begin.up)) told in
+    record {
+      answer = record { begin = begin; asides = Some []; removed = []; settled = None; readings = map (λ name. Missing) file_names; host = host.answer };
+      told = host.told;
+    }
