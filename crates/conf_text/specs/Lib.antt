@@ -1,0 +1,2 @@
+pub mod ConfLines
+pub mod Settings
