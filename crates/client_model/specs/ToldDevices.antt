@@ -4,23 +4,18 @@ use Rattle.world.specs.Causes.{has_number}
 use Rattle.world.specs.declared.rows.HostRow.{HostRow}
 use Rattle.world.specs.declared.wakes.Begin.{Begin}
 use Rattle.world.specs.declared.wakes.Wake.{Wake}
-use Rattle.world.specs.RowOrder.{with_row, without_row}
 use Rattle.world.specs.HostCalls.{HostTold, Listed, host_answered}
 use Rattle.world.specs.LinkCalls.{Given, LinkTold, cut_wake, frame_len}
 use Rattle.world.specs.StoreCalls.{StoreTold, Reading, Missing}
 use Rattle.client_model.specs.declared.interfaces.Managed.{Managed}
 use Rattle.client_model.specs.Interfaces.{stepped, rows_of, opening}
-use Rattle.client_model.specs.HostTurn.{Change, Remove, Add, HostMet, change_call, changes_from, learnt}
+use Rattle.client_model.specs.HostTurn.{Change, Remove, Add, HostMet, change_call, applied, changes_from, learnt}
 use Rattle.client_model.specs.Turns.{Life, Met, turned, is_over}
 use Rattle.client_model.specs.Opening.{OpeningMet, file_names, opened_life}
 
 -- whether the host's next call fails
 abbrev pub fails_next : List ℕ → HostTold → Bool
 fails_next failing told = has_number failing (length told.calls + 1)
-
-abbrev pub applied : Change → List HostRow → List HostRow
-applied (Remove row) rows = without_row row rows
-applied (Add row) rows = with_row row rows
 
 -- an answer, and what the host tells then
 pub record HostStep (A : Type 0) : Type 0 where
