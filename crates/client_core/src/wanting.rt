@@ -55,10 +55,16 @@ fn is_outranked(row: HostRow, other: HostRow) -> bool
     has_same_target(other, row) && is_before(other, row)
 }
 
+fn has_outranking(rows: &[HostRow], row: HostRow) -> bool
+    ensures { result ≡ list_any (λ other. outranks other row) rows.now }
+{
+    rows.iter().any(|other| is_outranked(row, *other))
+}
+
 fn is_unique(rows: &[HostRow], row: HostRow) -> bool
     ensures { result ≡ is_kept rows.now row }
 {
-    !rows.iter().any(|other| is_outranked(row, *other))
+    !has_outranking(rows, row)
 }
 
 fn all_rows(alloc: Global, ifaces: &[Iface]) -> Result<Vec<HostRow>, AllocError>

@@ -34,11 +34,17 @@ abbrev pub change_from : Bool → Change → HostTold → HostTold
 change_from true change told = host_answered (change_call change false) told.rows told
 change_from false change told = host_answered (change_call change true) (applied change told.rows) told
 
+abbrev pub told_change : Change → List ℕ → HostTold → HostStep Bool
+told_change change failing told = record { answer = not (fails_next failing told); told = change_from (fails_next failing told) change told }
+
 abbrev pub told_changes : List ℕ → List Change → HostTold → HostStep (List Bool)
 told_changes failing [] told = record { answer = []; told = told }
 told_changes failing (change ∷ rest) told =
     let more = told_changes failing rest (change_from (fails_next failing told) change told) in
     record { answer = not (fails_next failing told) ∷ more.answer; told = more.told }
+
+abbrev pub told_changes_for : List Change → List ℕ → HostTold → HostStep (List Bool)
+told_changes_for changes failing told = told_changes failing changes told
 
 -- the host calls of a turn
 abbrev pub told_host : List Managed → List ℕ → Option (List HostRow) → List HostRow → HostTold → HostStep HostMet
@@ -75,3 +81,10 @@ told_opening managed failing begin told =
       answer = record { begin = begin; asides = Some []; removed = []; settled = None; readings = map (λ name. Missing) file_names; host = host.answer };
       told = host.told;
     }
+
+-- Where the host tells what it holds and which calls fail, what it answers and what it tells then are determined.
+abbrev pub Determined : {A : Type 0} → (List ℕ → HostTold → HostStep A) → Option (List ℕ) → Option HostTold → A → Option HostTold → Type 0
+Determined step None None answer new = new ≡ None
+Determined step (Some failing) None answer new = new ≡ None
+Determined step None (Some told) answer new = Unit {0}
+Determined step (Some failing) (Some told) answer new = (answer ≡ (step failing told).answer) × (new ≡ Some (step failing told).told)

@@ -1,0 +1,2 @@
+pub mod ChangeLists
+pub mod Makings

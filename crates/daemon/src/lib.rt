@@ -1,0 +1,8 @@
+//! The loop of turns over the devices, and the top call.
+#![tactic(auto)]
+
+mod devices;
+mod host_changes;
+mod host_turns;
+
+pub use devices::Devices;
