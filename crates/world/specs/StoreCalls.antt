@@ -52,8 +52,10 @@ abbrev pub put_file : StoreFile → List StoreFile → List StoreFile
 put_file file [] = file ∷ []
 put_file file (f ∷ files) = match_ordering (name_cmp file.name f.name) (file ∷ f ∷ files) (file ∷ files) (f ∷ put_file file files)
 
+-- the files without the one of a name
 abbrev pub drop_file : List ℕ → List StoreFile → List StoreFile
-drop_file name files = filter (λ file. not (is_name name file.name)) files
+drop_file name [] = []
+drop_file name (file ∷ files) = if is_name name file.name then files else file ∷ drop_file name files
 
 -- whether a name is that of an aside
 abbrev pub is_aside : List ℕ → Bool
