@@ -7,6 +7,7 @@ mod hosts;
 mod links;
 mod reasons;
 mod row_laws;
+mod row_text;
 mod rows;
 mod stores;
 mod streams;

@@ -1,0 +1,3 @@
+mod CarrierSteps
+mod HexSteps
+mod Holding
