@@ -1,0 +1,174 @@
+//! The texts of host rows, read.
+ghost use Rattle.std.specs.Prelude.{◌≡◌, ◌≢◌, ◌≤◌, option_map, IfOk, IfErr, IfSome};
+ghost use Rattle.net_types.specs.AddressText.{ip4_at, net4_at};
+ghost use Rattle.net_types.specs.Cutting.{field_at};
+ghost use Rattle.world.specs.RowText.{row_text, IsBuiltRow};
+ghost use Rattle.world.specs.declared.rows.HostRow.{HostRow};
+ghost use Rattle.replay_text.specs.RowReading.{iface_at, metric_at, on_link_at, reject_at, gate_at, tail_at, addr_at, is_network, route_parts_at, route_at, row_at};
+
+use net_types::{
+    BadText, IfIndex, Ip4, Net, Net4, ip4_of, net4_of, number_of, split_at_byte, strip_word,
+};
+use world::{HostRow, Via};
+
+/// One more than the largest number of an interface.
+const INTERFACE_LIMIT: u64 = 65;
+/// One more than the largest metric.
+const METRIC_LIMIT: u64 = 4_294_967_296;
+
+/// The number of an interface, 1 to 64.
+#[tactic(auto, unfolding(crate::specs::RowReading::iface_at))]
+pub fn iface_of(bytes: &[u8]) -> Option<IfIndex>
+    ensures { result ≡ iface_at bytes.now }
+{
+    let number = number_of(bytes, INTERFACE_LIMIT)?;
+    if number >= 1 {
+        Some(IfIndex {
+            number: number as u32,
+        })
+    } else {
+        None
+    }
+}
+
+/// The interface before the first blank, and the text after it.
+pub fn iface_field_of(bytes: &[u8]) -> Option<(IfIndex, &[u8])>
+    ensures { option_map (λ p. (p.0, p.1.now)) result ≡ field_at 32 iface_at bytes.now }
+{
+    let (part, rest) = split_at_byte(bytes, b' ')?;
+    let iface = iface_of(part)?;
+    Some((iface, rest))
+}
+
+fn net_field_of(bytes: &[u8]) -> Option<(Net4, &[u8])>
+    ensures { option_map (λ p. (p.0, p.1.now)) result ≡ field_at 32 net4_at bytes.now }
+{
+    let (part, rest) = split_at_byte(bytes, b' ')?;
+    let net = net4_of(part)?;
+    Some((net, rest))
+}
+
+fn gateway_field_of(bytes: &[u8]) -> Option<(Ip4, &[u8])>
+    ensures { option_map (λ p. (p.0, p.1.now)) result ≡ field_at 32 ip4_at bytes.now }
+{
+    let (part, rest) = split_at_byte(bytes, b' ')?;
+    let gateway = ip4_of(part)?;
+    Some((gateway, rest))
+}
+
+#[tactic(auto, unfolding(crate::specs::RowReading::metric_at))]
+fn metric_of(bytes: &[u8]) -> Option<u32>
+    ensures { result ≡ metric_at bytes.now }
+{
+    let metric = number_of(bytes, METRIC_LIMIT)?;
+    Some(metric as u32)
+}
+
+#[tactic(auto, unfolding(crate::specs::RowReading::on_link_at))]
+fn on_link_of(bytes: &[u8]) -> Option<(Via, u32)>
+    ensures { result ≡ on_link_at bytes.now }
+{
+    let metric = metric_of(bytes)?;
+    Some((Via::OnLink, metric))
+}
+
+#[tactic(auto, unfolding(crate::specs::RowReading::reject_at))]
+fn reject_of(bytes: &[u8]) -> Option<(Via, u32)>
+    ensures { result ≡ reject_at bytes.now }
+{
+    let metric = metric_of(bytes)?;
+    Some((Via::Reject, metric))
+}
+
+#[tactic(auto, unfolding(crate::specs::RowReading::gate_at))]
+fn gate_of(bytes: &[u8]) -> Option<(Via, u32)>
+    ensures { result ≡ gate_at bytes.now }
+{
+    let (gateway, rest) = gateway_field_of(bytes)?;
+    let rest = strip_word(rest, b"metric ")?;
+    let metric = metric_of(rest)?;
+    Some((Via::Gate4(gateway), metric))
+}
+
+/// Where a route leads, and its metric.
+#[tactic(auto, unfolding(crate::specs::RowReading::tail_at))]
+fn tail_of(bytes: &[u8]) -> Option<(Via, u32)>
+    ensures { result ≡ tail_at bytes.now }
+{
+    match strip_word(bytes, b"metric ") {
+        Some(rest) => on_link_of(rest),
+        None => match strip_word(bytes, b"reject metric ") {
+            Some(rest) => reject_of(rest),
+            None => gate_of(strip_word(bytes, b"via ")?),
+        },
+    }
+}
+
+#[tactic(auto, unfolding(crate::specs::RowReading::addr_at))]
+fn addr_of(bytes: &[u8]) -> Option<HostRow>
+    ensures { result ≡ addr_at bytes.now }
+{
+    let (iface, rest) = iface_field_of(bytes)?;
+    let net = net4_of(rest)?;
+    Some(HostRow::Addr {
+        iface,
+        net: Net::V4(net),
+    })
+}
+
+/// Whether no bit is set past the length.
+fn is_network(net: Net4) -> bool
+    ensures { result ≡ is_network net }
+{
+    let past = 32_u8.saturating_sub(net.len);
+    u64::from(net.ip.number) % (1 << past) == 0
+}
+
+#[tactic(auto, unfolding(crate::specs::RowReading::route_parts_at))]
+fn route_parts_of(bytes: &[u8]) -> Option<(IfIndex, (Net4, (Via, u32)))>
+    ensures { result ≡ route_parts_at bytes.now }
+{
+    let (iface, rest) = iface_field_of(bytes)?;
+    let (dest, rest) = net_field_of(rest)?;
+    let tail = tail_of(rest)?;
+    Some((iface, (dest, tail)))
+}
+
+#[tactic(auto, unfolding(crate::specs::RowReading::route_at))]
+fn route_of(bytes: &[u8]) -> Option<HostRow>
+    ensures { result ≡ route_at bytes.now }
+{
+    let (iface, (dest, (via, metric))) = route_parts_of(bytes)?;
+    if is_network(dest) {
+        Some(HostRow::Route {
+            iface,
+            dest: Net::V4(dest),
+            via,
+            metric,
+        })
+    } else {
+        None
+    }
+}
+
+/// The row that the bytes spell.
+#[tactic(auto, unfolding(crate::specs::RowReading::row_at))]
+pub fn row_of(bytes: &[u8]) -> Option<HostRow>
+    ensures { result ≡ row_at bytes.now }
+{
+    match strip_word(bytes, b"addr ") {
+        Some(rest) => addr_of(rest),
+        None => route_of(strip_word(bytes, b"route ")?),
+    }
+}
+
+/// Reads a row of an IPv4 address or route. Each row that is built has one text.
+pub fn read_row(text: &str) -> Result<HostRow, BadText>
+    ensures found { IfOk result (λ row. (text.now ≡ row_text row) × IsBuiltRow row) }
+    ensures bad { IfErr result (λ _. (row : HostRow) → IsBuiltRow row → text.now ≢ row_text row) }
+{
+    match row_of(text.as_bytes()) {
+        Some(row) => Ok(row),
+        None => Err(BadText),
+    }
+}
