@@ -58,8 +58,8 @@ pub fn core_open(alloc: Global, managed: &[Managed], begin: Begin) -> Result<Cor
     requires { AreManaged managed.now }
     ensures { IfOk result (λ core. core ≡ opening managed.now begin.up) }
 {
-    let ifaces = opened_ifaces(alloc, managed, begin).map_err(|_| NoMemory)?;
-    let wanted = wanted(alloc, &ifaces).map_err(|_| NoMemory)?;
+    let ifaces = opened_ifaces(alloc, managed, begin)?;
+    let wanted = wanted(alloc, &ifaces)?;
     Ok(Core {
         alloc,
         ifaces,
@@ -107,8 +107,8 @@ impl Core {
             stopped,
             wanted: _,
         } = self;
-        let ifaces = with_carriers(alloc, &ifaces, index, up).map_err(|_| NoMemory)?;
-        let wanted = wanted(alloc, &ifaces).map_err(|_| NoMemory)?;
+        let ifaces = with_carriers(alloc, &ifaces, index, up)?;
+        let wanted = wanted(alloc, &ifaces)?;
         Ok(Core {
             alloc,
             ifaces,

@@ -3,7 +3,7 @@
 use Rattle.std.specs.Prelude.{ℕ, ◌≡◌, Bool, true, false, ◌&&◌, if◌then◌else◌, List, [], ◌∷◌, ◌++◌, map, filter, reverse, length, Option, Some, None}
 use Rattle.std.specs.List.{list_all}
 use Rattle.world.specs.declared.rows.HostRow.{HostRow}
-use Rattle.world.specs.RowOrder.{rows_beyond, with_row, without_row}
+use Rattle.world.specs.RowOrder.{in_row_order, rows_beyond, with_row, without_row}
 use Rattle.world.specs.HostCalls.{HostCall, Listed, Added, Removed}
 use Rattle.client_model.specs.declared.interfaces.Managed.{Managed}
 use Rattle.client_model.specs.Interfaces.{is_managed}
@@ -25,7 +25,7 @@ changes known wanted = map Remove (reverse (rows_beyond wanted known)) ++ map Ad
 abbrev pub learnt : List Managed → Option (List HostRow) → Option (List HostRow) → Option (List HostRow)
 learnt managed (Some known) listing = Some known
 learnt managed None None = None
-learnt managed None (Some listing) = Some (filter (is_managed managed) listing)
+learnt managed None (Some listing) = Some (in_row_order (filter (is_managed managed) listing))
 
 abbrev pub changes_from : Option (List HostRow) → List HostRow → List Change
 changes_from None wanted = []

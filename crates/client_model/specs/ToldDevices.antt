@@ -30,6 +30,9 @@ abbrev pub told_listing : List ℕ → Option (List HostRow) → HostTold → Ho
 told_listing failing (Some known) told = record { answer = None; told = told }
 told_listing failing None told = listing_from (fails_next failing told) told
 
+abbrev pub told_listing_for : Option (List HostRow) → List ℕ → HostTold → HostStep (Option (List HostRow))
+told_listing_for known failing told = told_listing failing known told
+
 abbrev pub change_from : Bool → Change → HostTold → HostTold
 change_from true change told = host_answered (change_call change false) told.rows told
 change_from false change told = host_answered (change_call change true) (applied change told.rows) told
@@ -52,6 +55,9 @@ told_host managed failing known wanted told =
     let listing = told_listing failing known told in
     let outcomes = told_changes failing (changes_from (learnt managed known listing.answer) wanted) listing.told in
     record { answer = record { listing = listing.answer; outcomes = outcomes.answer }; told = outcomes.told }
+
+abbrev pub told_host_for : List Managed → Option (List HostRow) → List HostRow → List ℕ → HostTold → HostStep HostMet
+told_host_for managed known wanted failing told = told_host managed failing known wanted told
 
 -- the room for a frame
 abbrev pub frame_room : ℕ

@@ -1,2 +1,4 @@
 pub mod ChangeLists
 pub mod Makings
+pub mod Calls
+pub mod Printings

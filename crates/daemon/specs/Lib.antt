@@ -1,1 +1,2 @@
 pub mod HostTurns
+pub mod Printing

@@ -115,12 +115,12 @@ fn note(
     making
         .made
         .push(Made { change, done })
-        .map_err(|_| NoMemory)?;
+        ?;
     if !done {
         making.known = None;
     }
     if let Some(known) = &mut making.known {
-        apply(known, change).map_err(|_| NoMemory)?;
+        apply(known, change)?;
     }
     Ok(())
 }

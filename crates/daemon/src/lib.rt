@@ -3,6 +3,7 @@
 
 mod devices;
 mod host_changes;
+mod host_lines;
 mod host_turns;
 
 pub use devices::Devices;
