@@ -1,6 +1,6 @@
 -- The lines of a configuration, and what they say one after another. Global lines come first, then the blocks
 -- of unlike interfaces, at most 64; each line stands at most once in its place.
-use Rattle.std.specs.Prelude.{ℕ, ◌≡◌, Bool, true, false, not, ◌&&◌, nat_lt, if◌then◌else◌, List, [], ◌∷◌, ◌++◌, flat_map, length, codes, Option, Some, None, bytes_eq}
+use Rattle.std.specs.Prelude.{ℕ, Bool, true, false, not, ◌&&◌, nat_lt, if◌then◌else◌, List, [], ◌∷◌, ◌++◌, flat_map, length, codes, Option, Some, None, bytes_eq}
 use Rattle.std.specs.List.{list_any}
 use Rattle.net_types.specs.declared.interface.Name.{Name}
 use Rattle.net_types.specs.declared.address.Ip4.{Ip4}
@@ -55,16 +55,16 @@ begin_block name said =
     then Some (record { no_script = said.no_script; over = blocks_of said; current = Some (record { name = name; address = None; router = None }) })
     else None
 
-abbrev pub say_globally : Bool → Option Block → Option Said
-say_globally false None = Some (record { no_script = true; over = []; current = None })
-say_globally no_script current = None
+abbrev pub say_globally : Said → Bool → Option Block → Option Said
+say_globally said false None = Some (record said { no_script = true })
+say_globally said no_script current = None
 
 abbrev pub put_address : Net4 → Said → Block → Option Net4 → Option Said
-put_address net said block None = Some (record { no_script = said.no_script; over = said.over; current = Some (record { name = block.name; address = Some net; router = block.router }) })
+put_address net said block None = Some (record said { current = Some (record block { address = Some net }) })
 put_address net said block (Some earlier) = None
 
 abbrev pub put_router : Ip4 → Said → Block → Option Ip4 → Option Said
-put_router ip said block None = Some (record { no_script = said.no_script; over = said.over; current = Some (record { name = block.name; address = block.address; router = Some ip }) })
+put_router ip said block None = Some (record said { current = Some (record block { router = Some ip }) })
 put_router ip said block (Some earlier) = None
 
 abbrev pub say_address : Net4 → Said → Option Block → Option Said
@@ -75,8 +75,9 @@ abbrev pub say_router : Ip4 → Said → Option Block → Option Said
 say_router ip said None = None
 say_router ip said (Some block) = put_router ip said block block.router
 
-abbrev pub say : Said → ConfLine → Option Said
-say said NoScript = say_globally said.no_script said.current
+-- one line more, where it may stand there
+unfoldable pub say : Said → ConfLine → Option Said
+say said NoScript = say_globally said said.no_script said.current
 say said (Interface name) = begin_block name said
 say said (Address net) = say_address net said said.current
 say said (Router ip) = say_router ip said said.current

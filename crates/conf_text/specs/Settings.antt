@@ -1,5 +1,5 @@
 -- What a configuration says of the interfaces of a run.
-use Rattle.std.specs.Prelude.{ℕ, Bool, true, false, if◌then◌else◌, List, [], ◌∷◌, find, Option, Some, None, option_map, option_and_then}
+use Rattle.std.specs.Prelude.{Bool, if◌then◌else◌, List, [], ◌∷◌, find, Option, Some, None, option_map, option_and_then}
 use Rattle.net_types.specs.declared.interface.IfSpec.{IfSpec}
 use Rattle.net_types.specs.declared.address.Net4.{Net4}
 use Rattle.client_model.specs.declared.interfaces.Managed.{Managed}

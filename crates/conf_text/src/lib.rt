@@ -2,5 +2,14 @@
 #![tactic(auto)]
 
 mod conf;
+mod line;
+mod reading;
+mod saying;
+mod settings;
 
 pub use conf::{Block, Conf, ConfLine};
+pub use reading::{ConfAnswer, ConfCause, ConfFault, configuration_is_one, read_conf};
+pub use settings::managed;
+
+#[cfg(test)]
+mod tests;
