@@ -8,7 +8,7 @@ use Rattle.net_types.specs.declared.address.Net6.{Net6}
 use Rattle.net_types.specs.declared.address.Net.{Net}
 use Rattle.net_types.specs.declared.address.Net.TheVariants.{V4, V6}
 use Rattle.net_types.specs.declared.address.Mac.{Mac}
-use Rattle.net_types.specs.Cutting.{◌>>=◌, field_at, pair_at}
+use Rattle.net_types.specs.Cutting.{◌>>=◌, field_at}
 use Rattle.net_types.specs.Numbers.{number_at}
 use Rattle.net_types.specs.HexText.{byte_hex, hex_byte_at}
 use Rattle.net_types.specs.Marks.{AreBytes}
