@@ -1,0 +1,7 @@
+pub mod Reads
+pub mod Cutting
+pub mod Marks
+pub mod Numbers
+pub mod HexText
+pub mod AddressText
+pub mod NameText
