@@ -53,7 +53,7 @@ decimal_lacks n byte small other = lacks_from is_ascii_digit byte (decimal n) ot
 abbrev pub is_hex_digit : ℕ → Bool
 is_hex_digit b = is_in_range 48 57 b || is_in_range 97 102 b
 
-digit_only : (n : ℕ) → n < 16 → is_hex_digit (digit_char n) ≡ true
+pub digit_only : (n : ℕ) → n < 16 → is_hex_digit (digit_char n) ≡ true
 digit_only n small = grind (arith, nat_tests)
 
 pub byte_only : (b : ℕ) → b < 256 → Only is_hex_digit (byte_hex b)
