@@ -54,9 +54,9 @@ written_none up old = record { spelled = refl; front = take-length old; none = �
 pub written_up : (up : ℕ) (old now new : List ℕ) (some some' : Bool) (i : ℕ) → i < 65 → is_up up i ≡ true → new ≡ now ++ next_text some i → some' ≡ true → WrittenTo up old now some i → WrittenTo up old new some' (i + 1)
 written_up up old now new some some' i h e is is_some w = rw is_some (record {
   spelled =
-    w.spelled ∙ ap (λ text. now ++ text) (ap (rest_text some) (listed_up up i h e) ∙ rest_next some i (listed up (i + 1)))
-    ∙ sym (append_assoc now (next_text some i) (rest_text true (listed up (i + 1))))
-    ∙ ap (λ text. text ++ rest_text true (listed up (i + 1))) (sym is);
+      w.spelled ∙ ap (λ text. now ++ text) (ap (rest_text some) (listed_up up i h e) ∙ rest_next some i (listed up (i + 1)))
+      ∙ sym (append_assoc now (next_text some i) (rest_text true (listed up (i + 1))))
+      ∙ ap (λ text. text ++ rest_text true (listed up (i + 1))) (sym is);
   front = rw is (front_more old now (next_text some i) w.front);
   none = λ f. (cc);
 })

@@ -1,3 +1,5 @@
 mod CarrierSteps
-mod HexSteps
+mod Fields
 mod Holding
+mod Named
+mod UpLaws

@@ -9,3 +9,6 @@ mod printing;
 
 pub use lines::{ReadLine, TranscriptLine};
 pub use printing::print_line;
+
+#[cfg(test)]
+mod tests;

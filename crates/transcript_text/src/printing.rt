@@ -1,18 +1,20 @@
 //! The texts of lines.
-ghost use Rattle.std.specs.Prelude.{◌≡◌, ◌∷◌, [], ◌++◌, codes, OnOk, OnErr};
-ghost use Rattle.net_types.specs.HexText.{hex_text};
+ghost use Rattle.std.specs.Prelude.{◌≡◌, ◌∷◌, [], ◌++◌, codes, decimal, flat_map, map, OnOk, OnErr};
+ghost use Rattle.std.specs.String.{string_bytes};
 ghost use Rattle.world.specs.RowText.{row_text};
 ghost use Rattle.client_model.specs.Lines as Lines;
-ghost use Rattle.client_model.specs.Lines.{line_text, event_text, interface_text, outcome_text, start_text, turn_text};
+ghost use Rattle.client_model.specs.Lines.{line_text, event_text, outcome_text};
 ghost use Rattle.transcript_text.specs.Pieces.{piece_text};
 ghost use Rattle.transcript_text.specs.Printed.{line_of, reading_of};
 
+use crate::appending::append_bytes;
 use crate::lines::{ReadLine, TranscriptLine};
 use crate::pieces::{Piece, append_pieces};
-use net_types::{IfSpec, NoMemory};
+use net_types::{IfIndex, IfSpec, Net, NoMemory};
 use world::{Begin, Event, HostRow};
 
 const BLANK: Piece<'static> = Piece::Word(b" ");
+
 const LINE_END: Piece<'static> = Piece::Word(b"\n");
 
 /// The end of a line that tells whether a call was done.
@@ -104,7 +106,11 @@ fn print_event(event: Event, bytes: &[u8], into: &mut Vec<u8>) -> Result<(), NoM
             into,
         ),
         Event::Carrier { iface, up } => {
-            let change = if up { b" up\n".as_slice() } else { b" down\n".as_slice() };
+            let change = if up {
+                b" up\n".as_slice()
+            } else {
+                b" down\n".as_slice()
+            };
             append_pieces(
                 &[
                     Piece::Word(b"carrier "),
@@ -124,25 +130,11 @@ fn print_event(event: Event, bytes: &[u8], into: &mut Vec<u8>) -> Result<(), NoM
             ],
             into,
         ),
-        Event::Release { iface } => append_pieces(
-            &[
-                Piece::Word(b"release "),
-                Piece::Number(u64::from(iface)),
-                LINE_END,
-            ],
-            into,
-        ),
-        Event::Rebind { iface } => append_pieces(
-            &[
-                Piece::Word(b"rebind "),
-                Piece::Number(u64::from(iface)),
-                LINE_END,
-            ],
-            into,
-        ),
-        Event::Stop => append_pieces(&[Piece::Word(b"stop\n")], into),
-        Event::Quiet => append_pieces(&[Piece::Word(b"quiet\n")], into),
-        Event::End => append_pieces(&[Piece::Word(b"end\n")], into),
+        Event::Release { iface } => print_number(b"release ", u64::from(iface), into),
+        Event::Rebind { iface } => print_number(b"rebind ", u64::from(iface), into),
+        Event::Stop => append_bytes(b"stop\n", into),
+        Event::Quiet => append_bytes(b"quiet\n", into),
+        Event::End => append_bytes(b"end\n", into),
     }
 }
 
@@ -175,24 +167,54 @@ fn print_turn(
     Ok(())
 }
 
-#[tactic(auto, unfolding(client_model::specs::Lines::line_words), using(std::proofs::Common::append_assoc))]
-fn print_until(moment: Option<u64>, into: &mut Vec<u8>) -> Result<(), NoMemory>
-    ensures ok { OnOk result (into.new.items ≡ into.old.items ++ line_text (Lines.Until moment)) }
+/// A word and a number.
+#[tactic(auto, using(std::proofs::Common::append_assoc))]
+fn print_number(word: &[u8], number: u64, into: &mut Vec<u8>) -> Result<(), NoMemory>
+    ensures ok { OnOk result (into.new.items ≡ into.old.items ++ ((word.now ++ decimal number) ++ 10 ∷ [])) }
     ensures err { OnErr result (into.new.items ≡ into.old.items) }
 {
-    match moment {
-        Some(at) => append_pieces(&[Piece::Word(b"until "), Piece::Number(at), LINE_END], into),
-        None => append_pieces(&[Piece::Word(b"until none\n")], into),
-    }
+    append_pieces(&[Piece::Word(word), Piece::Number(number), LINE_END], into)
 }
 
-/// A line of a word, a row and whether the call was done.
+/// A word, what a call was about and whether it was done.
 #[tactic(auto, using(std::proofs::Common::append_assoc))]
-fn print_change(word: &[u8], row: &HostRow, ok: bool, into: &mut Vec<u8>) -> Result<(), NoMemory>
-    ensures ok { OnOk result (into.new.items ≡ into.old.items ++ ((word.now ++ row_text row.now ++ codes " " ++ outcome_text ok) ++ 10 ∷ [])) }
+fn print_done<'a>(
+    word: &'a [u8],
+    about: Piece<'a>,
+    ok: bool,
+    into: &mut Vec<u8>,
+) -> Result<(), NoMemory>
+    ensures ok { OnOk result (into.new.items ≡ into.old.items ++ ((word.now ++ piece_text about.entry ++ codes " " ++ outcome_text ok) ++ 10 ∷ [])) }
     ensures err { OnErr result (into.new.items ≡ into.old.items) }
 {
-    append_pieces(&[Piece::Word(word), Piece::Row(row), outcome(ok)], into)
+    append_pieces(&[Piece::Word(word), about, outcome(ok)], into)
+}
+
+fn print_listed(names: &[String], into: &mut Vec<u8>) -> Result<(), NoMemory>
+    ensures ok { OnOk result (into.new.items ≡ into.old.items ++ ((codes "store list ok" ++ flat_map (λ name. codes " " ++ name) (map string_bytes names.now)) ++ 10 ∷ [])) }
+    ensures err { OnErr result (into.new.items ≡ into.old.items) }
+{
+    append_pieces(
+        &[Piece::Word(b"store list ok"), Piece::Names(names), LINE_END],
+        into,
+    )
+}
+
+#[tactic(auto, unfolding(client_model::specs::Lines::line_words), using(std::proofs::Common::append_assoc))]
+fn print_hold(iface: IfIndex, net: Net, into: &mut Vec<u8>) -> Result<(), NoMemory>
+    ensures ok { OnOk result (into.new.items ≡ into.old.items ++ line_text (Lines.Hold iface net)) }
+    ensures err { OnErr result (into.new.items ≡ into.old.items) }
+{
+    append_pieces(
+        &[
+            Piece::Word(b"hold addr "),
+            Piece::Number(u64::from(iface.number)),
+            BLANK,
+            Piece::Net(net),
+            LINE_END,
+        ],
+        into,
+    )
 }
 
 /// Appends the text of a line; where memory runs out the bytes are as before.
@@ -201,74 +223,38 @@ pub fn print_line(line: &TranscriptLine<'_>, into: &mut Vec<u8>) -> Result<(), N
     ensures ok { OnOk result (into.new.items ≡ into.old.items ++ line_text (line_of line.now)) }
     ensures err { OnErr result (into.new.items ≡ into.old.items) }
 {
+    use Piece::{Row, Word};
+    use TranscriptLine as Line;
     match *line {
-        TranscriptLine::Head => append_pieces(&[Piece::Word(b"dhcpcd-transcript 1\n")], into),
-        TranscriptLine::ConfLine(text) => {
-            append_pieces(&[Piece::Word(b"c:"), Piece::Word(text), LINE_END], into)
-        }
-        TranscriptLine::IfLine(spec) => print_interface(spec, into),
-        TranscriptLine::Life(number) => append_pieces(
-            &[Piece::Word(b"life "), Piece::Number(number), LINE_END],
+        Line::Head => append_bytes(b"dhcpcd-transcript 1\n", into),
+        Line::ConfLine(text) => append_pieces(&[Word(b"c:"), Word(text), LINE_END], into),
+        Line::IfLine(spec) => print_interface(spec, into),
+        Line::Life(number) => print_number(b"life ", number, into),
+        Line::Start(begin) => print_start(begin, into),
+        Line::Listed(names) => print_listed(names, into),
+        Line::ListFailed => append_bytes(b"store list failed\n", into),
+        Line::FileRemove { name, ok } => print_done(
+            b"store remove ",
+            Word(name.as_bytes()),
+            ok,
             into,
         ),
-        TranscriptLine::Start(begin) => print_start(begin, into),
-        TranscriptLine::Listed(names) => append_pieces(
-            &[
-                Piece::Word(b"store list ok"),
-                Piece::Names(names),
-                LINE_END,
-            ],
-            into,
-        ),
-        TranscriptLine::ListFailed => {
-            append_pieces(&[Piece::Word(b"store list failed\n")], into)
-        }
-        TranscriptLine::FileRemove { name, ok } => append_pieces(
-            &[
-                Piece::Word(b"store remove "),
-                Piece::Word(name.as_bytes()),
-                outcome(ok),
-            ],
-            into,
-        ),
-        TranscriptLine::Settled { ok } => {
-            append_pieces(&[Piece::Word(b"store settle"), outcome(ok)], into)
-        }
-        TranscriptLine::FileRead { name, got } => print_read(name, got, into),
-        TranscriptLine::Turn {
+        Line::Settled { ok } => append_pieces(&[Word(b"store settle"), outcome(ok)], into),
+        Line::FileRead { name, got } => print_read(name, got, into),
+        Line::Turn {
             at,
             salt,
             event,
             bytes,
         } => print_turn(at, salt, event, bytes, into),
-        TranscriptLine::HostListed { count } => append_pieces(
-            &[
-                Piece::Word(b"host list ok "),
-                Piece::Number(count),
-                LINE_END,
-            ],
-            into,
-        ),
-        TranscriptLine::Row(row) => append_pieces(
-            &[Piece::Word(b"row "), Piece::Row(row), LINE_END],
-            into,
-        ),
-        TranscriptLine::HostListFailed => {
-            append_pieces(&[Piece::Word(b"host list failed\n")], into)
-        }
-        TranscriptLine::HostDel { row, ok } => print_change(b"host del ", row, ok, into),
-        TranscriptLine::HostAdd { row, ok } => print_change(b"host add ", row, ok, into),
-        TranscriptLine::Until(moment) => print_until(moment, into),
-        TranscriptLine::Hold { iface, net } => append_pieces(
-            &[
-                Piece::Word(b"hold addr "),
-                Piece::Number(u64::from(iface.number)),
-                BLANK,
-                Piece::Net(net),
-                LINE_END,
-            ],
-            into,
-        ),
-        TranscriptLine::End => append_pieces(&[Piece::Word(b"end\n")], into),
+        Line::HostListed { count } => print_number(b"host list ok ", count, into),
+        Line::Row(row) => append_pieces(&[Word(b"row "), Row(row), LINE_END], into),
+        Line::HostListFailed => append_bytes(b"host list failed\n", into),
+        Line::HostDel { row, ok } => print_done(b"host del ", Row(row), ok, into),
+        Line::HostAdd { row, ok } => print_done(b"host add ", Row(row), ok, into),
+        Line::Until(Some(moment)) => print_number(b"until ", moment, into),
+        Line::Until(None) => append_bytes(b"until none\n", into),
+        Line::Hold { iface, net } => print_hold(iface, net, into),
+        Line::End => append_bytes(b"end\n", into),
     }
 }

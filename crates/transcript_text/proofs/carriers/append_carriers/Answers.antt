@@ -10,12 +10,12 @@ loop-index-init c = written_none c.args.up c.args.into.now.items
 
 pub loop-index-preserved : goal.loop-index-preserved
 loop-index-preserved c = elim c.if-is_up.branch [
-  then-is_up+in_default w ↦
-    written_up c.args.up c.args.into.now.items c.loop-index.into.items c.if-is_up.into.items c.loop-index.some c.if-is_up.some c.loop-index.index
-    (omega arith) (sym w.if-is_up.ensures) (ap (λ v. v.items) w.into-is ∙ w.in_default.ensures.ok) w.some-is c.loop-index.invariant
+  | then-is_up+in_default w ↦
+      written_up c.args.up c.args.into.now.items c.loop-index.into.items c.if-is_up.into.items c.loop-index.some c.if-is_up.some c.loop-index.index
+      (omega arith) (sym w.if-is_up.ensures) (ap (λ v. v.items) w.into-is ∙ w.in_default.ensures.ok) w.some-is c.loop-index.invariant
   | else-is_up w ↦
-    rw (w.into-is, w.some-is) (written_down c.args.up c.args.into.now.items c.loop-index.into.items c.loop-index.some c.loop-index.index
-    (omega arith) (sym w.if-is_up.ensures) c.loop-index.invariant)
+      rw (w.into-is, w.some-is) (written_down c.args.up c.args.into.now.items c.loop-index.into.items c.loop-index.some c.loop-index.index
+      (omega arith) (sym w.if-is_up.ensures) c.loop-index.invariant)
 ]
 
 pub returns-then-some-clause-ok : goal.returns-then-some-clause-ok
