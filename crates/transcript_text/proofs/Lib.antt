@@ -1,5 +1,4 @@
 mod CarrierSteps
-mod Fields
+mod HexSteps
 mod Holding
 mod Named
-mod UpLaws

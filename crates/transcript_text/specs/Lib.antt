@@ -1,4 +1,3 @@
 pub mod Carriers
-pub mod Fits
 pub mod Pieces
 pub mod Printed
