@@ -77,7 +77,7 @@ abbrev pub told_turns : List Managed → List ℕ → Life → HostTold → List
 told_turns managed failing life told [] = []
 told_turns managed failing life told (given ∷ coming) =
     let turn = told_turn managed failing life told given in
-    turn.answer ∷ (if is_over (turned managed life turn.answer) then [] else told_turns managed failing (turned managed life turn.answer) turn.told coming)
+    if is_over life then [] else turn.answer ∷ told_turns managed failing (turned managed life turn.answer) turn.told coming
 
 -- an opening over a store without files and without failures
 abbrev pub told_opening : List Managed → List ℕ → Begin → HostTold → HostStep OpeningMet

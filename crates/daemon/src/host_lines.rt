@@ -30,6 +30,7 @@ fn say_rows(rows: &[HostRow], text: &mut Vec<u8>) -> Result<(), NoMemory>
     Ok(())
 }
 
+#[tactic(auto, using(crate::proofs::Printings::prints_then))]
 fn say_listed(
     alloc: Global,
     rows: &BTreeSet<HostRow>,
@@ -40,7 +41,8 @@ fn say_listed(
     let all: Vec<HostRow> = rows.iter().copied().collect(alloc)?;
     let count = all.len() as u64;
     say(&TranscriptLine::HostListed { count }, text)?;
-    say_rows(&all, text)
+    say_rows(&all, text)?;
+    Ok(())
 }
 
 fn say_listing(alloc: Global, listing: &Listing, text: &mut Vec<u8>) -> Result<(), NoMemory>
@@ -81,5 +83,6 @@ pub fn say_host_turn(
     ensures { OnOk result (Prints text.old.items text.new.items (host_lines (calls_of turn.now))) }
 {
     say_listing(alloc, &turn.listing, text)?;
-    say_changes(&turn.made, text)
+    say_changes(&turn.made, text)?;
+    Ok(())
 }

@@ -5,5 +5,10 @@ mod devices;
 mod host_changes;
 mod host_lines;
 mod host_turns;
+mod lives;
+mod serving;
+mod turns;
+mod waking;
 
 pub use devices::Devices;
+pub use serving::ServeEnd;
