@@ -1,5 +1,6 @@
 ghost use Rattle.std.specs.Prelude.{◌≡◌, IfOk, IsTrue, not, map, Bool, true, false};
-ghost use Rattle.world.specs.Rows.{IsInterface};
+ghost use Rattle.std.specs.List.{AllByRecursion};
+ghost use Rattle.world.specs.Rows.{IsInterface, IsRow};
 ghost use Rattle.client_model.specs.Fitting.{AreManaged, AreIfaces};
 ghost use Rattle.client_model.specs.Interfaces.{Client, opening, stepped, rows_of, carrier, is_up, opened};
 
@@ -28,11 +29,7 @@ impl Model for Core {
     ghost invariant = { λ core. AreIfaces core.ifaces.items × (core.wanted.keys ≡ rows_of (record { ifaces = core.ifaces.items; stopped = core.stopped })) };
 }
 
-fn opened_ifaces(
-    alloc: Global,
-    managed: &[Managed],
-    begin: Begin,
-) -> Result<Vec<Iface>, AllocError>
+fn opened_ifaces(alloc: Global, managed: &[Managed], begin: Begin) -> Result<Vec<Iface>, AllocError>
     requires { AreManaged managed.now }
     ensures { IfOk result (λ v. v.items ≡ map (opened begin.up) managed.now) }
 {
@@ -157,7 +154,8 @@ pub fn step(core: Core, event: Event) -> Result<Core, NoMemory>
 
 /// The rows that the host is to hold on the managed interfaces.
 pub fn rows(core: &Core) -> &BTreeSet<HostRow>
-    ensures { result.now.keys ≡ rows_of core.now }
+    ensures rows { result.now.keys ≡ rows_of core.now }
+    ensures fit { AllByRecursion IsRow result.now.keys }
 {
     &core.wanted
 }

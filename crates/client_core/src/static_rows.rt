@@ -115,11 +115,7 @@ fn push_router(
     }
 }
 
-fn push_line(
-    rows: &mut Vec<HostRow>,
-    iface: IfIndex,
-    line: StaticLine,
-) -> Result<(), AllocError>
+fn push_line(rows: &mut Vec<HostRow>, iface: IfIndex, line: StaticLine) -> Result<(), AllocError>
     requires { iface.number ≤ 64 }
     ensures { OnOk result (rows.new.items ≡ rows.old.items ++ line_rows iface line) }
 {
