@@ -4,7 +4,7 @@ ghost use Rattle.client_model.specs.Lines as lines;
 ghost use Rattle.client_model.specs.Turns.{is_over};
 ghost use Rattle.daemon.specs.Lives.{life_of, IsTimely};
 ghost use Rattle.daemon.specs.Serving.{WritesLines, Goes, IsUsedUp, HasServeCause};
-ghost use Rattle.daemon.specs.Waking.{is_end, WritesBytes, IsOver, IsOneTurn};
+ghost use Rattle.daemon.specs.Waking.{is_end, WritesBytes, IsOneTurn};
 
 use crate::devices::Devices;
 use crate::lives::Life;
