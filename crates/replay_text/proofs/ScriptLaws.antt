@@ -22,7 +22,9 @@ use Rattle.replay_text.specs.RowReading.{row_at}
 use Rattle.replay_text.specs.LineReading.{spec_at, turn_at}
 use Rattle.replay_text.specs.Carriers.{begin_at}
 use Rattle.replay_text.specs.Blocks.{parts_of, Block, block_at, line_at, are_done}
-use Rattle.replay_text.specs.Scripts.{unless_last, lines_within, conf_lines, interfaces_fit, are_once, turns_fit, only_if, conf_at, ifaces_at, rows_at, life_at, body_at, head, script_at}
+use Rattle.replay_text.specs.ScriptContent.{unless_last, lines_within, conf_lines}
+use Rattle.replay_text.specs.KindTests.{interfaces_fit, are_once, turns_fit}
+use Rattle.replay_text.specs.ScriptReading.{only_if, conf_at, ifaces_at, rows_at, life_at, body_at, head, script_at}
 use Rattle.replay_text.proofs.RowLaws.{row_reads, row_line}
 use Rattle.replay_text.proofs.LineLaws.{spec_text, FitsSpec, spec_reads, spec_spelled, spec_line, turn_words, turn_reads, turn_spelled, turn_line}
 use Rattle.replay_text.proofs.CarrierLaws.{begin_words, FitsBegin, begin_reads, begin_spelled, begin_line}

@@ -2,5 +2,7 @@ pub mod RowReading
 pub mod LineReading
 pub mod Carriers
 pub mod Blocks
-pub mod Scripts
+pub mod ScriptContent
+pub mod KindTests
+pub mod ScriptReading
 pub mod Answers

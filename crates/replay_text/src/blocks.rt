@@ -6,7 +6,8 @@ ghost use Rattle.world.specs.LinkCalls.{Given};
 ghost use Rattle.replay_text.specs.RowReading.{row_at};
 ghost use Rattle.replay_text.specs.LineReading.{spec_at, turn_at};
 ghost use Rattle.replay_text.specs.Blocks.{line_after, block_at, parts_of};
-ghost use Rattle.replay_text.specs.Scripts.{conf_at, given_of};
+ghost use Rattle.replay_text.specs.ScriptContent.{given_of};
+ghost use Rattle.replay_text.specs.ScriptReading.{conf_at};
 ghost use Rattle.replay_text.specs.Answers.{Gives};
 
 use crate::lines::{spec_of, turn_of};
@@ -100,7 +101,7 @@ pub fn block_of<'a, T: LineForm + Drop>(
 }
 
 /// The configuration: the texts of the lines that begin with `c:`, each with its line feed, and the text after them.
-#[tactic(auto, unfolding(crate::specs::Scripts::conf_at))]
+#[tactic(auto, unfolding(crate::specs::ScriptReading::conf_at))]
 pub fn conf_of(alloc: Global, text: &[u8]) -> Result<(Vec<u8>, &[u8]), Refusal>
     ensures { Gives (λ b. (b.0.items, parts_of b.1.now)) result (conf_at (parts_of text.now)) }
 {

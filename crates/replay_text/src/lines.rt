@@ -3,7 +3,7 @@ ghost use Rattle.std.specs.Prelude.{◌≡◌, ◌^◌, ◌<◌, option_map};
 ghost use Rattle.net_types.specs.NameText.{name_at};
 ghost use Rattle.net_types.specs.Cutting.{field_at};
 ghost use Rattle.replay_text.specs.LineReading.{spec_at, moment_at, salt_at, switch_at, carrier_at, event_at, turn_at};
-ghost use Rattle.replay_text.specs.Scripts.{given_of};
+ghost use Rattle.replay_text.specs.ScriptContent.{given_of};
 
 use crate::rows::iface_field_of;
 use crate::script::TurnLine;

@@ -4,7 +4,9 @@ ghost use Rattle.std.specs.List.{list_all};
 ghost use Rattle.client_model.specs.Scripts.{ScriptLines, script_text, FitsScript};
 ghost use Rattle.replay_text.specs.Blocks.{parts_of, line_at, block_at, are_done};
 ghost use Rattle.replay_text.specs.Carriers.{begin_at};
-ghost use Rattle.replay_text.specs.Scripts.{script_of, life_of, given_of, counts_from, is_unlike, all_unlike, interfaces_fit, are_once, is_listed, turns_fit, ifaces_at, rows_at, life_at, body_at, script_at};
+ghost use Rattle.replay_text.specs.ScriptContent.{script_of, life_of, given_of};
+ghost use Rattle.replay_text.specs.KindTests.{counts_from, is_unlike, all_unlike, interfaces_fit, are_once, is_listed, turns_fit};
+ghost use Rattle.replay_text.specs.ScriptReading.{ifaces_at, rows_at, life_at, body_at, script_at};
 ghost use Rattle.replay_text.specs.Answers.{Gives, IsBad};
 
 use crate::blocks::{block_of, conf_of, line_after};
@@ -65,7 +67,7 @@ fn all_unlike(specs: &[IfSpec]) -> bool
     }
 }
 
-#[tactic(auto, unfolding(crate::specs::Scripts::interfaces_fit))]
+#[tactic(auto, unfolding(crate::specs::KindTests::interfaces_fit))]
 fn interfaces_fit(specs: &[IfSpec]) -> bool
     ensures value { result ≡ interfaces_fit specs.now }
     ensures few { IsTrue result → length specs.now ≤ 64 }
@@ -78,7 +80,7 @@ fn interfaces_fit(specs: &[IfSpec]) -> bool
 }
 
 /// Whether each row stands once.
-#[tactic(auto, unfolding(crate::specs::Scripts::are_once))]
+#[tactic(auto, unfolding(crate::specs::KindTests::are_once))]
 fn are_once(alloc: Global, rows: &[HostRow]) -> Result<bool, NoMemory>
     ensures { IfOk result (λ once. once ≡ are_once rows.now) }
 {
@@ -111,14 +113,14 @@ fn are_listed(count: u32, turns: &[TurnLine]) -> bool
 }
 
 /// Whether the turns name interfaces of the script alone.
-#[tactic(auto, unfolding(crate::specs::Scripts::turns_fit))]
+#[tactic(auto, unfolding(crate::specs::KindTests::turns_fit))]
 fn turns_fit(count: u32, turns: &[TurnLine]) -> bool
     ensures { result ≡ turns_fit count (map given_of turns.now) }
 {
     are_listed(count, turns)
 }
 
-#[tactic(auto, unfolding(crate::specs::Scripts::ifaces_at))]
+#[tactic(auto, unfolding(crate::specs::ScriptReading::ifaces_at))]
 fn ifaces_of(alloc: Global, text: &[u8]) -> Result<(Vec<IfSpec>, &[u8]), Refusal>
     ensures value { Gives (λ b. (b.0.items, parts_of b.1.now)) result (ifaces_at (parts_of text.now)) }
     ensures few { IfOk result (λ b. length b.0.items ≤ 64) }
@@ -131,7 +133,7 @@ fn ifaces_of(alloc: Global, text: &[u8]) -> Result<(Vec<IfSpec>, &[u8]), Refusal
     }
 }
 
-#[tactic(auto, unfolding(crate::specs::Scripts::rows_at))]
+#[tactic(auto, unfolding(crate::specs::ScriptReading::rows_at))]
 fn rows_of(alloc: Global, text: &[u8]) -> Result<(Vec<HostRow>, &[u8]), Refusal>
     ensures { Gives (λ b. (b.0.items, parts_of b.1.now)) result (rows_at (parts_of text.now)) }
 {
@@ -164,7 +166,7 @@ fn start_of(alloc: Global, count: u32, text: &[u8]) -> Result<(Begin, &[u8]), Re
     }
 }
 
-#[tactic(auto, unfolding(crate::specs::Scripts::life_at))]
+#[tactic(auto, unfolding(crate::specs::ScriptReading::life_at))]
 fn life_of(alloc: Global, count: u32, text: &[u8]) -> Result<LifeLines, Refusal>
     requires { count ≤ 64 }
     ensures { Gives life_of result (life_at count (parts_of text.now)) }
@@ -181,7 +183,7 @@ fn life_of(alloc: Global, count: u32, text: &[u8]) -> Result<LifeLines, Refusal>
     }
 }
 
-#[tactic(auto, unfolding(crate::specs::Scripts::body_at))]
+#[tactic(auto, unfolding(crate::specs::ScriptReading::body_at))]
 fn body_of(alloc: Global, text: &[u8]) -> Result<Script, Refusal>
     ensures { Gives script_of result (body_at (parts_of text.now)) }
 {
@@ -197,7 +199,7 @@ fn body_of(alloc: Global, text: &[u8]) -> Result<Script, Refusal>
     })
 }
 
-#[tactic(auto, unfolding(crate::specs::Scripts::script_at))]
+#[tactic(auto, unfolding(crate::specs::ScriptReading::script_at))]
 fn script_of(alloc: Global, text: &[u8]) -> Result<Script, Refusal>
     ensures { Gives script_of result (script_at text.now) }
 {

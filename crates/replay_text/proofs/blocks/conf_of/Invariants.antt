@@ -1,6 +1,6 @@
 use Rattle.std.proofs.Common.{◌≡◌, ◌++◌, length, option_map}
 use Rattle.replay_text.specs.Blocks.{parts_of}
-use Rattle.replay_text.specs.Scripts.{conf_at}
+use Rattle.replay_text.specs.ScriptReading.{conf_at}
 use Rattle.replay_text.proofs.blocks.conf_of.Given as goal
 
 abbrev pub invariant-lines : goal.invariant-lines

@@ -1,6 +1,6 @@
 use Rattle.std.proofs.Common.{sym, ap, ◌∙◌}
 use Rattle.net_types.proofs.ReadsLaws.{spells_none}
-use Rattle.replay_text.specs.Scripts.{script_of}
+use Rattle.replay_text.specs.ScriptContent.{script_of}
 use Rattle.replay_text.proofs.ScriptLaws.{script_reads}
 use Rattle.replay_text.proofs.reading.read_script.Goals as goal
 

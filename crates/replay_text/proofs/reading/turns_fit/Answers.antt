@@ -1,7 +1,8 @@
 use Rattle.std.proofs.Common.{sym, ◌∙◌}
 use Rattle.world.specs.LinkCalls.{Given}
 use Rattle.std.proofs.lemmas.List.Folds.{list_all-map}
-use Rattle.replay_text.specs.Scripts.{turns_fit, is_listed, given_of}
+use Rattle.replay_text.specs.ScriptContent.{given_of}
+use Rattle.replay_text.specs.KindTests.{turns_fit, is_listed}
 use Rattle.replay_text.proofs.reading.turns_fit.Goals as goal
 
 pub returns : goal.returns
