@@ -49,7 +49,7 @@ abbrev pub list_text : List ℕ → List ℕ
 list_text [] = codes "-"
 list_text (i ∷ rest) = join_with_byte 44 (map decimal (i ∷ rest))
 
-abbrev pub up_text : ℕ → List ℕ
+unfoldable pub up_text : ℕ → List ℕ
 up_text up = list_text (up_list up)
 
 abbrev pub carrier_text : Bool → List ℕ

@@ -1,17 +1,16 @@
 -- Addresses and nets: what is read is spelled so, and what is spelled so is read.
-use Rattle.std.proofs.Common.{◌≡◌, ℕ, ◌+◌, ◌*◌, ◌/◌, ◌%◌, ◌^◌, ◌<◌, ◌≤◌, List, [], ◌∷◌, ◌++◌, length, get_or, Option, Some, None, option_map, option_and_then, refl, sym, ap, ◌∙◌, subst, arith, rules}
+use Rattle.std.proofs.Common.{◌≡◌, ℕ, ◌+◌, ◌*◌, ◌/◌, ◌%◌, ◌^◌, ◌<◌, List, [], ◌∷◌, ◌++◌, length, get_or, Option, option_map, refl, ap, arith}
 use Rattle.std.specs.Fmt.{decimal}
-use Rattle.std.specs.Net.Text.{dotted_text}
 use Rattle.std.proofs.lemmas.List.{append_assoc}
 use Rattle.net_types.specs.declared.address.Ip4.{Ip4}
 use Rattle.net_types.specs.declared.address.Net4.{Net4}
 use Rattle.net_types.specs.declared.address.Mac.{Mac}
 use Rattle.net_types.specs.Reads.{Reads}
 use Rattle.net_types.specs.Marks.{AreBytes, Lacks}
-use Rattle.net_types.specs.Cutting.{◌>>=◌, field_at, pair_at}
+use Rattle.net_types.specs.Cutting.{pair_at}
 use Rattle.net_types.specs.Numbers.{number_at}
 use Rattle.net_types.specs.HexText.{byte_hex, hex_byte_at}
-use Rattle.net_types.specs.AddressText.{ip4_text, ip4_at, octet_at, FitsIp4, net4_text, net4_at, FitsNet4, mac_text, mac_at, FitsMac}
+use Rattle.net_types.specs.AddressText.{ip4_text, ip4_at, FitsIp4, net4_text, net4_at, FitsNet4, mac_text, mac_at, FitsMac}
 use Rattle.net_types.proofs.ReadsLaws.{steps_assoc, pair_reads, map_reads, same_reader, same_texts}
 use Rattle.net_types.proofs.HexLaws.{hex_byte_reads, cons_bytes, no_bytes}
 use Rattle.net_types.proofs.MarkLaws.{decimal_lacks, byte_lacks, ip4_lacks}

@@ -1,14 +1,12 @@
 -- Lower-case pairs: what is read is spelled so, and what is spelled so is read.
-use Rattle.std.proofs.Common.{◌≡◌, ℕ, zero, suc, ◌+◌, ◌-◌, ◌*◌, ◌/◌, ◌%◌, ◌<◌, ◌≤◌, Bool, true, false, not, cond, ◌&&◌, List, [], ◌∷◌, ◌++◌, length, take, drop, get_or, Option, Some, None, option_map, option_and_then, refl, sym, ap, ◌∙◌, subst, arith, rules, eqb, ltb, leb, flat_map, codes, bytes_eq}
+use Rattle.std.proofs.Common.{◌≡◌, ℕ, zero, suc, ◌+◌, ◌*◌, ◌/◌, ◌%◌, ◌<◌, true, false, cond, List, [], ◌∷◌, ◌++◌, length, take, drop, Option, Some, None, option_map, option_and_then, refl, sym, ap, ◌∙◌, subst, arith, eqb, flat_map, codes, bytes_eq}
 use Rattle.std.specs.Char.{digit_char}
-use Rattle.std.specs.Int.{is_in_range}
-use Rattle.std.proofs.lemmas.Bool.{and_parts, and_from, and_right, ltb-true, lt-ltb, le-leb, lt-leb, leb-true, leb-false, cases_lt, ne_eqb}
+use Rattle.std.proofs.lemmas.Bool.{and_right, ne_eqb}
 use Rattle.std.proofs.lemmas.Bool.Decides.{nat_tests}
 use Rattle.std.proofs.lemmas.List.{append_assoc}
 use Rattle.std.proofs.lemmas.Slice.Eq.{bytes_eq-Decides}
 use Rattle.net_types.specs.Reads.{Reads}
 use Rattle.net_types.specs.Marks.{AreBytes}
-use Rattle.net_types.specs.Cutting.{◌>>=◌}
 use Rattle.net_types.specs.HexText.{byte_hex, hex_text, hex_digit_at, hex_byte_at, pairs_at, hex_at}
 use Rattle.net_types.proofs.ReadsLaws.{passed, some_same}
 
@@ -83,24 +81,31 @@ pairs_sound (x ∷ y ∷ rest) bs e =
 nonzero : (n : ℕ) → eqb (suc n) 0 ≡ false
 nonzero n = ne_eqb (suc n) 0 (λ e. omega arith)
 
+pub hex_text_none : hex_text [] ≡ codes "-"
+unfolding hex_text
+hex_text_none = refl
+
+pub hex_text_some : (b : ℕ) (bs : List ℕ) → hex_text (b ∷ bs) ≡ flat_map byte_hex (b ∷ bs)
+unfolding hex_text
+hex_text_some b bs = rw (nonzero (length bs)) refl
+
 hex_whole : (bs : List ℕ) → AreBytes bs → hex_at (hex_text bs) ≡ Some bs
-unfolding hex_at hex_text
-hex_whole [] fits = refl
-hex_whole (b ∷ bs) fits = rw (nonzero (suc (length (flat_map byte_hex bs))), and_right) (pairs_whole (b ∷ bs) fits)
+unfolding hex_at
+hex_whole [] fits = rw hex_text_none refl
+hex_whole (b ∷ bs) fits = rw (hex_text_some b bs, nonzero (suc (length (flat_map byte_hex bs))), and_right) (pairs_whole (b ∷ bs) fits)
 
 some_pairs : (text bs : List ℕ) → 0 < length text → text ≡ flat_map byte_hex bs → text ≡ hex_text bs
-unfolding hex_text
 some_pairs text [] some e = absurd (let none : length text ≡ 0 = ap length e in omega arith)
-some_pairs text (b ∷ bs) some e = e
+some_pairs text (b ∷ bs) some e = e ∙ sym (hex_text_some b bs)
 
 hex_sound : (text bs : List ℕ) → hex_at text ≡ Some bs → (text ≡ hex_text bs) × AreBytes bs
-unfolding hex_at hex_text
+unfolding hex_at
 hex_sound [] bs e = cc
 hex_sound (c ∷ cs) bs e =
     elim (bytes_eq (c ∷ cs) (codes "-")) as (λ b. bytes_eq (c ∷ cs) (codes "-") ≡ b → cond b (Some []) (pairs_at (c ∷ cs)) ≡ Some bs → (c ∷ cs ≡ hex_text bs) × AreBytes bs) [
       | true ↦ λ t q.
           let none : [] ≡ bs = some_same q in
-          ((bytes_eq-Decides _ _).0 t ∙ ap hex_text none, subst AreBytes none no_bytes)
+          ((bytes_eq-Decides _ _).0 t ∙ sym hex_text_none ∙ ap hex_text none, subst AreBytes none no_bytes)
       | false ↦ λ t q. let s = pairs_sound (c ∷ cs) bs q in (some_pairs (c ∷ cs) bs (omega arith) s.0, s.1)
     ] refl (rw (nonzero (length cs)) at e)
 

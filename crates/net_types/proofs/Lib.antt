@@ -1,5 +1,8 @@
 pub mod AddressLaws
+pub mod ChoiceLaws
 pub mod HexLaws
+pub mod Ip6Marks
+pub mod ListLaws
 pub mod MarkLaws
 pub mod NameLaws
 pub mod NumberLaws

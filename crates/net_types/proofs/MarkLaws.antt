@@ -1,10 +1,9 @@
 -- Which bytes the texts are made of, and so which separators they lack.
-use Rattle.std.proofs.Common.{◌≡◌, ℕ, suc, ◌+◌, ◌/◌, ◌%◌, ◌^◌, ◌<◌, ◌≤◌, Bool, true, false, not, ◌&&◌, ◌||◌, List, [], ◌∷◌, ◌++◌, get_or, refl, sym, ap, ◌∙◌, subst, arith, rules, eqb, flat_map}
+use Rattle.std.proofs.Common.{◌≡◌, ℕ, suc, ◌/◌, ◌%◌, ◌^◌, ◌<◌, Bool, true, false, not, ◌||◌, List, [], ◌∷◌, ◌++◌, get_or, refl, ap, arith, eqb, flat_map}
 use Rattle.std.specs.Char.{is_ascii_digit, digit_char}
 use Rattle.std.specs.Fmt.{decimal}
 use Rattle.std.specs.Int.{is_in_range}
-use Rattle.std.specs.List.{list_all}
-use Rattle.std.proofs.lemmas.Bool.{and_parts, and_from, or_left, or_right, cases_Bool, eqb-true}
+use Rattle.std.proofs.lemmas.Bool.{and_parts, and_from, or_left, eqb-true}
 use Rattle.std.proofs.lemmas.Bool.Decides.{nat_tests}
 use Rattle.std.proofs.lemmas.Fmt.{digits_decimal}
 use Rattle.std.proofs.lemmas.List.Folds.{list_all-append}
@@ -15,6 +14,7 @@ use Rattle.net_types.specs.declared.address.Mac.{Mac}
 use Rattle.net_types.specs.Marks.{Only, Lacks, AreBytes, is_printable, IsPrintable}
 use Rattle.net_types.specs.HexText.{byte_hex, hex_text}
 use Rattle.net_types.specs.AddressText.{ip4_text, FitsIp4, net4_text, FitsNet4, colon_text, mac_text, FitsMac}
+use Rattle.net_types.proofs.HexLaws.{hex_text_none, hex_text_some}
 use Rattle.net_types.proofs.NumberLaws.{own}
 
 -- ---- of any text
@@ -53,7 +53,7 @@ decimal_lacks n byte small other = lacks_from is_ascii_digit byte (decimal n) ot
 abbrev pub is_hex_digit : ℕ → Bool
 is_hex_digit b = is_in_range 48 57 b || is_in_range 97 102 b
 
-digit_only : (n : ℕ) → n < 16 → is_hex_digit (digit_char n) ≡ true
+pub digit_only : (n : ℕ) → n < 16 → is_hex_digit (digit_char n) ≡ true
 digit_only n small = grind (arith, nat_tests)
 
 pub byte_only : (b : ℕ) → b < 256 → Only is_hex_digit (byte_hex b)
@@ -69,9 +69,8 @@ abbrev pub is_hex_byte : ℕ → Bool
 is_hex_byte b = is_hex_digit b || eqb b 45
 
 pub hex_only : (bytes : List ℕ) → AreBytes bytes → Only is_hex_byte (hex_text bytes)
-unfolding hex_text
-hex_only [] fits = refl
-hex_only (b ∷ bs) fits = only_weaker is_hex_digit is_hex_byte (flat_map byte_hex (b ∷ bs)) (λ c h. or_left _ _ h) (pairs_only (b ∷ bs) fits)
+hex_only [] fits = rw hex_text_none refl
+hex_only (b ∷ bs) fits = rw (hex_text_some b bs) (only_weaker is_hex_digit is_hex_byte (flat_map byte_hex (b ∷ bs)) (λ c h. or_left _ _ h) (pairs_only (b ∷ bs) fits))
   where
     pairs_only : (bytes : List ℕ) → AreBytes bytes → Only is_hex_digit (flat_map byte_hex bytes)
     pairs_only [] fits = refl
@@ -136,3 +135,35 @@ mac_only mac fits = colon_only (get_or mac.bytes 0 0) (get_or mac.bytes 1 0) (ge
 
 pub mac_lacks : (mac : Mac) (byte : ℕ) → FitsMac mac → is_mac_byte byte ≡ false → Lacks byte (mac_text mac)
 mac_lacks mac byte fits other = lacks_from is_mac_byte byte (mac_text mac) other (mac_only mac fits)
+
+-- ---- printable
+
+digit_printable : (b : ℕ) → is_ascii_digit b ≡ true → is_printable b ≡ true
+digit_printable b h = grind (arith, nat_tests)
+
+hex_byte_printable : (b : ℕ) → is_hex_byte b ≡ true → is_printable b ≡ true
+hex_byte_printable b h = grind (arith, nat_tests)
+
+ip4_byte_printable : (b : ℕ) → is_ip4_byte b ≡ true → is_printable b ≡ true
+ip4_byte_printable b h = grind (arith, nat_tests)
+
+net4_byte_printable : (b : ℕ) → is_net4_byte b ≡ true → is_printable b ≡ true
+net4_byte_printable b h = grind (arith, nat_tests)
+
+mac_byte_printable : (b : ℕ) → is_mac_byte b ≡ true → is_printable b ≡ true
+mac_byte_printable b h = grind (arith, nat_tests)
+
+pub decimal_printable : (n : ℕ) → n < 2 ^ 64 → IsPrintable (decimal n)
+decimal_printable n small = only_weaker is_ascii_digit is_printable (decimal n) digit_printable (decimal_only n small)
+
+pub hex_printable : (bytes : List ℕ) → AreBytes bytes → IsPrintable (hex_text bytes)
+hex_printable bytes fits = only_weaker is_hex_byte is_printable (hex_text bytes) hex_byte_printable (hex_only bytes fits)
+
+pub ip4_printable : (ip : Ip4) → FitsIp4 ip → IsPrintable (ip4_text ip)
+ip4_printable ip fits = only_weaker is_ip4_byte is_printable (ip4_text ip) ip4_byte_printable (ip4_only ip fits)
+
+pub net4_printable : (net : Net4) → FitsNet4 net → IsPrintable (net4_text net)
+net4_printable net fits = only_weaker is_net4_byte is_printable (net4_text net) net4_byte_printable (net4_only net fits)
+
+pub mac_printable : (mac : Mac) → FitsMac mac → IsPrintable (mac_text mac)
+mac_printable mac fits = only_weaker is_mac_byte is_printable (mac_text mac) mac_byte_printable (mac_only mac fits)

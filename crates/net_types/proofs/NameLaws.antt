@@ -1,14 +1,15 @@
 -- Names of interfaces: what is read is spelled so, and what is spelled so is read.
-use Rattle.std.proofs.Common.{◌≡◌, ℕ, ◌-◌, ◌<◌, ◌≤◌, Bool, true, false, cond, ◌&&◌, List, [], ◌∷◌, ◌++◌, length, take, drop, replicate, Option, Some, None, refl, sym, ap, ◌∙◌, subst, arith, rules, ltb}
+use Rattle.std.proofs.Common.{◌≡◌, ℕ, ◌-◌, ◌<◌, ◌≤◌, true, false, cond, ◌&&◌, List, ◌++◌, length, take, drop, replicate, Some, None, refl, sym, ap, ◌∙◌, subst, arith, ltb}
 use Rattle.std.specs.Char.{is_ascii_alphanumeric}
 use Rattle.std.specs.List.{list_all, slice_index}
 use Rattle.std.proofs.lemmas.Bool.{and_parts, ltb-true, false≢true}
+use Rattle.std.proofs.lemmas.Bool.Decides.{nat_tests}
 use Rattle.std.proofs.lemmas.List.{take_at, drop_at, take-append-drop, length-append, length-replicate, length-take-le}
 use Rattle.net_types.specs.declared.interface.Name.{Name}
 use Rattle.net_types.specs.Reads.{Reads}
-use Rattle.net_types.specs.Marks.{Only, Lacks}
+use Rattle.net_types.specs.Marks.{Only, Lacks, is_printable, IsPrintable}
 use Rattle.net_types.specs.NameText.{is_name, is_name_byte, name_text, name_at, FitsName}
-use Rattle.net_types.proofs.MarkLaws.{lacks_from}
+use Rattle.net_types.proofs.MarkLaws.{lacks_from, only_weaker}
 use Rattle.net_types.proofs.ReadsLaws.{some_same}
 
 name_whole : (name : Name) → FitsName name → name_at (name_text name) ≡ Some name
@@ -79,3 +80,9 @@ name_only name fits = name_bytes (name_text name) fits.spelled
 
 pub name_lacks : (name : Name) (byte : ℕ) → FitsName name → is_name_byte byte ≡ false → Lacks byte (name_text name)
 name_lacks name byte fits other = lacks_from is_name_byte byte (name_text name) other (name_only name fits)
+
+name_byte_printable : (b : ℕ) → is_name_byte b ≡ true → is_printable b ≡ true
+name_byte_printable b h = grind (arith, nat_tests)
+
+pub name_printable : (name : Name) → FitsName name → IsPrintable (name_text name)
+name_printable name fits = only_weaker is_name_byte is_printable (name_text name) name_byte_printable (name_only name fits)

@@ -8,7 +8,7 @@ use Rattle.net_types.specs.declared.address.Net6.{Net6}
 use Rattle.net_types.specs.declared.address.Net.{Net}
 use Rattle.net_types.specs.declared.address.Net.TheVariants.{V4, V6}
 use Rattle.net_types.specs.declared.address.Mac.{Mac}
-use Rattle.net_types.specs.Cutting.{◌>>=◌, field_at, pair_at}
+use Rattle.net_types.specs.Cutting.{◌>>=◌, field_at}
 use Rattle.net_types.specs.Numbers.{number_at}
 use Rattle.net_types.specs.HexText.{byte_hex, hex_byte_at}
 use Rattle.net_types.specs.Marks.{AreBytes}
@@ -35,6 +35,9 @@ groups_of n =
 unfoldable pub ip6_text : Ip6 → List ℕ
 ip6_text ip = hex_groups_text (groups_of ip.number)
 
+abbrev pub FitsIp6 : Ip6 → Type 0
+FitsIp6 ip = ip.number < 2 ^ 128
+
 -- the address, a slash and the prefix length
 unfoldable pub net4_text : Net4 → List ℕ
 net4_text net = ip4_text net.ip ++ codes "/" ++ decimal net.len
@@ -46,9 +49,17 @@ pub record FitsNet4 (net : Net4) : Type 0 where
 unfoldable pub net6_text : Net6 → List ℕ
 net6_text net = ip6_text net.ip ++ codes "/" ++ decimal net.len
 
+pub record FitsNet6 (net : Net6) : Type 0 where
+  pub address : FitsIp6 net.ip
+  pub prefix : net.len ≤ 128
+
 unfoldable pub net_text : Net → List ℕ
 net_text (V4 net) = net4_text net
 net_text (V6 net) = net6_text net
+
+abbrev pub FitsNet : Net → Type 0
+FitsNet (V4 net) = FitsNet4 net
+FitsNet (V6 net) = FitsNet6 net
 
 -- six pairs with colons between them
 abbrev pub colon_text : ℕ → ℕ → ℕ → ℕ → ℕ → ℕ → List ℕ

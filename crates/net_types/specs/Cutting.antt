@@ -1,6 +1,6 @@
 -- The parts of a text: a word in front, what stands round a separator, a list of parts, a choice.
-use Rattle.std.specs.Prelude.{◌≡◌, ◌≢◌, ℕ, ◌+◌, Bool, true, false, IsTrue, List, [], ◌∷◌, ◌++◌, length, take, drop, map, Option, Some, None, option_map, option_and_then, nat_eq, ◌==◌, if◌then◌else◌}
-use Rattle.std.specs.List.{starts_with, position, slice_split, join_with_byte, AllByRecursion}
+use Rattle.std.specs.Prelude.{◌≢◌, ℕ, ◌+◌, Bool, true, false, ◌&&◌, List, [], ◌∷◌, length, take, drop, map, Option, Some, None, option_map, option_and_then, nat_eq, ◌==◌, if◌then◌else◌}
+use Rattle.std.specs.List.{starts_with, position, list_all, slice_split, join_with_byte, AllByRecursion}
 
 infixl 10 ◌>>=◌
 abbrev pub ◌>>=◌ : {A B : Type 0} → Option A → (A → Option B) → Option B
@@ -33,6 +33,10 @@ pair_at separator read_x read_y text = do
   y ← read_y field.1
   Some (field.0, y)
 
+-- nothing more
+unfoldable pub end_at : List ℕ → Option (Unit {0})
+end_at text = if length text == 0 then Some tt else None
+
 -- by the first word: one reading after this word, and another where the text begins otherwise
 abbrev pub by_word : {X : Type 0} → Option (List ℕ) → (List ℕ → Option X) → Option X → Option X
 by_word (Some rest) read other = read rest
@@ -41,21 +45,25 @@ by_word None read other = other
 abbrev pub choice_at : {X : Type 0} → List ℕ → (List ℕ → Option X) → (List ℕ → Option X) → List ℕ → Option X
 choice_at word read other text = by_word (strip_word word text) read (other text)
 
+-- words, and what is read after each
+abbrev pub Choices : Type 0 → Type 0
+Choices X = List (List ℕ × (List ℕ → Option X))
+
+abbrev pub choose_at : {X : Type 0} → Choices X → List ℕ → Option X
+choose_at [] text = None
+choose_at (choice ∷ choices) text = by_word (strip_word choice.0 text) choice.1 (choose_at choices text)
+
 -- the words differ at some place, so that neither begins the other
 abbrev pub differ : List ℕ → List ℕ → Bool
 differ [] other = false
 differ (a ∷ as') [] = false
 differ (a ∷ as') (b ∷ bs) = if a == b then differ as' bs else true
 
-abbrev pub WordsApart : List ℕ → List ℕ → Type 0
-WordsApart word other = IsTrue (differ word other)
-
--- the values of X made by `make` and told by `part` are spelled by the word and then their own text
-pub record IsPart {A X : Type 0} (word : List ℕ) (make : A → X) (part : X → Option A) (text_a : A → List ℕ) (FitsA : A → Type 0) (text_of : X → List ℕ) (Fits : X → Type 0) : Type 0 where
-  pub told : (x : X) (a : A) → part x ≡ Some a → x ≡ make a
-  pub spelled : (a : A) → text_of (make a) ≡ word ++ text_a a
-  pub to : (a : A) → FitsA a → Fits (make a)
-  pub from : (a : A) → Fits (make a) → FitsA a
+-- each two words of the choices differ
+abbrev pub all_differ : {X : Type 0} → Choices X → Bool
+all_differ [] = true
+all_differ (choice ∷ choices) =
+    list_all (λ other. differ choice.0 other.0) choices && all_differ choices
 
 -- only what passes the test
 abbrev pub guarded : {X : Type 0} → (X → Bool) → Option X → Option X

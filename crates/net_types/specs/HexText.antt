@@ -10,8 +10,7 @@ byte_hex b = digit_char (b / 16) ∷ digit_char (b % 16) ∷ []
 
 -- bytes, with `-` for none
 unfoldable pub hex_text : List ℕ → List ℕ
-hex_text [] = codes "-"
-hex_text (b ∷ bs) = flat_map byte_hex (b ∷ bs)
+hex_text bytes = if length bytes == 0 then codes "-" else flat_map byte_hex bytes
 
 unfoldable pub hex_digit_at : ℕ → Option ℕ
 hex_digit_at c =

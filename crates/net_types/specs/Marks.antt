@@ -1,5 +1,5 @@
 -- What bytes a text is made of, where lines and words are cut.
-use Rattle.std.specs.Prelude.{◌≡◌, ℕ, ◌<◌, Bool, not, ◌&&◌, List, ◌==◌, nat_le, IsTrue, slice_index}
+use Rattle.std.specs.Prelude.{ℕ, ◌<◌, Bool, not, ◌&&◌, List, ◌==◌, nat_le, IsTrue, slice_index}
 use Rattle.std.specs.List.{list_all}
 
 -- every byte of the text passes the test

@@ -1,5 +1,5 @@
 -- Names of interfaces: 1 to 15 letters, digits, `.`, `_` and `-`, the first a letter or a digit.
-use Rattle.std.specs.Prelude.{◌≡◌, ℕ, ◌-◌, ◌≤◌, Bool, false, ◌&&◌, ◌||◌, List, [], ◌∷◌, ◌++◌, length, take, drop, replicate, Option, Some, None, ◌==◌, nat_lt, slice_index, IsTrue, if◌then◌else◌}
+use Rattle.std.specs.Prelude.{◌≡◌, ℕ, ◌-◌, ◌≤◌, Bool, false, ◌&&◌, ◌||◌, List, ◌++◌, length, take, drop, replicate, Option, Some, None, ◌==◌, nat_lt, slice_index, IsTrue, if◌then◌else◌}
 use Rattle.std.specs.Char.{is_ascii_alphanumeric}
 use Rattle.std.specs.List.{list_all}
 use Rattle.net_types.specs.declared.interface.Name.{Name}

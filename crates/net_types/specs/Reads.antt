@@ -1,5 +1,5 @@
 -- A reader of whole texts is right by its printer.
-use Rattle.std.specs.Prelude.{◌≡◌, ℕ, List, Option, Some, Result, IfOk, IfErr, ◌≢◌}
+use Rattle.std.specs.Prelude.{◌≡◌, ℕ, List, Option, Some}
 
 -- what is read is spelled so, and what is spelled so is read
 pub record Reads {X : Type 0} (text_of : X → List ℕ) (Fits : X → Type 0) (found : List ℕ → Option X) : Type 0 where

@@ -1,7 +1,7 @@
 //! The parts of a text: a word in front, what stands round a separator, a list of parts.
 ghost use Rattle.std.specs.Prelude.{◌≡◌, ℕ, List, Option, option_map, option_copied, IfOk, IfSome, ◌==◌, ◌<◌, length};
 ghost use Rattle.std.specs.List.{position};
-ghost use Rattle.net_types.specs.Cutting.{strip_word, split_at_byte, list_at};
+ghost use Rattle.net_types.specs.Cutting.{strip_word, split_at_byte, end_at, list_at};
 
 use crate::fault::NoMemory;
 use std::alloc::Global;
@@ -34,6 +34,14 @@ pub fn split_at_byte(bytes: &[u8], separator: u8) -> Option<(&[u8], &[u8])>
         Some(place) => Some((&bytes[..place], &bytes[place + 1..])),
         None => None,
     }
+}
+
+/// Nothing more.
+#[tactic(auto, unfolding(crate::specs::Cutting::end_at))]
+pub fn end_of(bytes: &[u8]) -> Option<()>
+    ensures { result ≡ end_at bytes.now }
+{
+    if bytes.is_empty() { Some(()) } else { None }
 }
 
 /// A type that is read from a whole text.

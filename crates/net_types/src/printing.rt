@@ -1,10 +1,10 @@
 //! The printed forms of addresses, nets and names.
-ghost use Rattle.std.specs.Prelude.{◌≡◌, ◌++◌, ◌^◌, ◌/◌, ◌%◌, ◌<◌, IfSome, OnErr, OnOk, Some};
+ghost use Rattle.std.specs.Prelude.{◌≡◌, ◌++◌, ◌^◌, ◌/◌, ◌%◌, ◌<◌, flat_map, IfSome, OnErr, OnOk, Some};
 ghost use Rattle.std.specs.Char.{digit_char};
 ghost use Rattle.std.specs.Net.Addr.{ipv6_segments};
 ghost use Rattle.std.specs.String.{string_bytes};
 ghost use Rattle.net_types.specs.AddressText.{group_of, groups_of, ip4_text, ip6_text, mac_text, net4_text, net6_text, net_text};
-ghost use Rattle.net_types.specs.HexText.{byte_hex};
+ghost use Rattle.net_types.specs.HexText.{byte_hex, hex_text};
 ghost use Rattle.net_types.specs.NameText.{name_text};
 
 use crate::address::{Ip4, Ip6, Mac, Net, Net4, Net6};
@@ -113,6 +113,38 @@ impl Display for HexByte {
     fn fmt<W: fmt::Write>(&self, f: &mut fmt::Formatter<W>) -> fmt::Result {
         let digits = [hex_digit(self.0 / 16), hex_digit(self.0 % 16)];
         f.write_str(str::from_utf8(&digits).map_err(|_| fmt::Error)?)
+    }
+}
+
+/// Bytes as pairs up to the end.
+#[derive(Clone, Copy)]
+struct Pairs<'a>(&'a [u8]);
+
+impl Display for Pairs<'_> {
+    ghost output = { λ pairs. Some (flat_map byte_hex pairs.0.now) };
+
+    fn fmt<W: fmt::Write>(&self, f: &mut fmt::Formatter<W>) -> fmt::Result {
+        for byte in self.0 {
+            f.write(HexByte(*byte))?;
+        }
+        Ok(())
+    }
+}
+
+/// Bytes, printed as lower-case pairs, with `-` for none.
+#[derive(Clone, Copy)]
+pub struct Hex<'a>(pub &'a [u8]);
+
+#[tactic(auto, unfolding(crate::specs::HexText::hex_text))]
+impl Display for Hex<'_> {
+    ghost output = { λ hex. Some (hex_text hex.0.now) };
+
+    fn fmt<W: fmt::Write>(&self, f: &mut fmt::Formatter<W>) -> fmt::Result {
+        if self.0.is_empty() {
+            f.write_str("-")
+        } else {
+            f.write(Pairs(self.0))
+        }
     }
 }
 

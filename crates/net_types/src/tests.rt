@@ -153,6 +153,8 @@ fn reads_hex(rt: HostRuntime) -> Result<(), Fail> {
     let alloc = rt.alloc();
     let bytes = hex_of(alloc, b"00ff1a")?.ok_or("pairs")?;
     assert_eq!(rt; bytes.as_slice(), [0, 0xff, 0x1a].as_slice());
+    assert_prints(&rt, alloc, Hex(bytes.as_slice()), "00ff1a")?;
+    assert_prints(&rt, alloc, Hex(&[]), "-")?;
     let none = hex_of(alloc, b"-")?.ok_or("none")?;
     assert!(rt; none.is_empty());
     for bad in [

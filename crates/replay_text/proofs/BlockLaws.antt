@@ -7,8 +7,10 @@ use Rattle.std.proofs.lemmas.List.Elements.{All-weaker}
 use Rattle.std.proofs.lemmas.List.Sums.{AllPass-from_list_all}
 use Rattle.std.proofs.lemmas.List.Splits.{slice_split_at, length-slice_split, join_with_byte-slice_split}
 use Rattle.net_types.specs.Marks.{Lacks}
-use Rattle.net_types.specs.Cutting.{◌>>=◌, strip_word, split_at_byte, WordsApart}
-use Rattle.net_types.proofs.ReadsLaws.{passed, some_same, split_whole, split_sound, split_smaller, strip_whole, strip_sound, words_apart}
+use Rattle.net_types.specs.Cutting.{◌>>=◌, strip_word, split_at_byte, differ}
+use Rattle.net_types.proofs.ReadsLaws.{passed, some_same, split_whole, split_sound, strip_whole, strip_sound}
+use Rattle.net_types.proofs.ListLaws.{split_smaller}
+use Rattle.net_types.proofs.ChoiceLaws.{words_apart}
 use Rattle.net_types.specs.Reads.{Reads}
 use Rattle.client_model.specs.Scripts.{ended}
 use Rattle.replay_text.specs.Blocks.{parts_of, line_after, words_at, Block, block_with, block_at, line_at, are_done}
@@ -223,6 +225,10 @@ block_whole word [] [] law fits stops = absurd stops
 block_whole word [] (line ∷ parts) law fits stops = rw stops refl
 block_whole {text_of = text_of} word (x ∷ xs) rest law fits stops =
     rw (words_before word (text_of x) (map (λ y. word ++ text_of y) xs ++ rest) (stops_some word (map (λ y. word ++ text_of y) xs) rest stops), law.whole x fits.0, block_whole word xs rest law fits.1 stops) refl
+
+-- neither word begins the other
+abbrev pub WordsApart : List ℕ → List ℕ → Type 0
+WordsApart word other = differ word other ≡ true
 
 pub stops_line : (word other text : List ℕ) (parts : List (List ℕ)) → WordsApart word other → Stops word ((other ++ text) ∷ parts)
 stops_line word other text [] apart = refl

@@ -11,7 +11,8 @@ use Rattle.net_types.specs.Reads.{Reads}
 use Rattle.net_types.specs.Marks.{Lacks}
 use Rattle.net_types.specs.Cutting.{◌>>=◌, pair_at, after_word, field_at, list_at, list_text, FitsList}
 use Rattle.net_types.specs.Numbers.{number_at, is_numeral}
-use Rattle.net_types.proofs.ReadsLaws.{some_same, passed, mapped, steps_assoc, same_reader, word_reads, pair_reads, map_reads, list_reads}
+use Rattle.net_types.proofs.ReadsLaws.{some_same, passed, mapped, steps_assoc, same_reader, word_reads, pair_reads, map_reads}
+use Rattle.net_types.proofs.ListLaws.{list_reads}
 use Rattle.net_types.proofs.MarkLaws.{decimal_lacks, lacks-append}
 use Rattle.world.specs.declared.wakes.Begin.{Begin}
 use Rattle.client_model.specs.Interfaces.{is_up}
@@ -274,7 +275,7 @@ ups_fit (suc n) first u some few =
     ]
 
 up_sound : (count : ℕ) (text : List ℕ) (up : ℕ) → count ≤ 64 → up_at count text ≡ Some up → (text ≡ up_text up) × (up < 2 ^ count)
-unfolding up_at
+unfolding up_at up_text
 up_sound count text up few e =
     let listed = passed (list_of_listed_at text) (bits_at 1 count) up e in
     let s = listed_sound text listed.value listed.was in
@@ -282,7 +283,7 @@ up_sound count text up few e =
     (s.0 ∙ ap lines.list_text (b.0 ∙ sym (up_list_is up count few b.1)), b.1)
 
 up_whole : (count up : ℕ) → count ≤ 64 → up < 2 ^ count → up_at count (up_text up) ≡ Some up
-unfolding up_at listed_ups
+unfolding up_at listed_ups up_text
 up_whole count up few small =
     let ls = listed_ups 1 count up in
     let numbers : listed_numbers ls ≡ ups 1 count up = same_numbers (ups 1 count up) in
@@ -338,7 +339,7 @@ list_line [] fits = refl
 list_line (l ∷ ls) fits = join_line (l ∷ ls) fits
 
 up_line : (count up : ℕ) → count ≤ 64 → up < 2 ^ count → Lacks 10 (up_text up)
-unfolding listed_ups
+unfolding listed_ups up_text
 up_line count up few small =
     let numbers : listed_numbers (listed_ups 1 count up) ≡ ups 1 count up = same_numbers (ups 1 count up) in
     let spelled : lines.list_text (listed_numbers (listed_ups 1 count up)) ≡ up_text up = ap lines.list_text (numbers ∙ sym (up_list_is up count few small)) in

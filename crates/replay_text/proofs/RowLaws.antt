@@ -13,7 +13,8 @@ use Rattle.net_types.specs.Marks.{Lacks}
 use Rattle.net_types.specs.AddressText.{ip4_text, ip4_at, net4_text, net4_at, net_text, FitsIp4, FitsNet4}
 use Rattle.net_types.specs.Cutting.{strip_word, after_word, by_word, pair_at, guarded, ◌>>=◌}
 use Rattle.net_types.specs.Numbers.{number_at}
-use Rattle.net_types.proofs.ReadsLaws.{some_same, passed, step, mapped, strip_whole, strip_sound, words_apart, word_reads, pair_reads, map_reads, guard_reads}
+use Rattle.net_types.proofs.ReadsLaws.{some_same, passed, step, mapped, strip_whole, strip_sound, word_reads, pair_reads, map_reads, guard_reads}
+use Rattle.net_types.proofs.ChoiceLaws.{words_apart}
 use Rattle.net_types.proofs.NumberLaws.{number_reads}
 use Rattle.net_types.proofs.MarkLaws.{decimal_lacks, lacks-append, ip4_lacks, net4_lacks}
 use Rattle.net_types.proofs.AddressLaws.{ip4_reads, net4_reads}

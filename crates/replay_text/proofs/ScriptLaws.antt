@@ -8,7 +8,7 @@ use Rattle.std.proofs.lemmas.Option.{cond_some}
 use Rattle.net_types.specs.declared.interface.IfSpec.{IfSpec}
 use Rattle.net_types.specs.Reads.{Reads}
 use Rattle.net_types.specs.Marks.{Lacks}
-use Rattle.net_types.specs.Cutting.{◌>>=◌, strip_word, WordsApart}
+use Rattle.net_types.specs.Cutting.{◌>>=◌, strip_word}
 use Rattle.net_types.proofs.ReadsLaws.{some_same, passed, mapped, strip_whole, strip_sound}
 use Rattle.net_types.proofs.MarkLaws.{lacks-append}
 use Rattle.world.specs.declared.rows.HostRow.{HostRow}
@@ -28,7 +28,7 @@ use Rattle.replay_text.specs.ScriptReading.{only_if, conf_at, ifaces_at, rows_at
 use Rattle.replay_text.proofs.RowLaws.{row_reads, row_line}
 use Rattle.replay_text.proofs.LineLaws.{spec_text, FitsSpec, spec_reads, spec_spelled, spec_line, turn_words, turn_reads, turn_spelled, turn_line}
 use Rattle.replay_text.proofs.CarrierLaws.{begin_words, FitsBegin, begin_reads, begin_spelled, begin_line}
-use Rattle.replay_text.proofs.BlockLaws.{parts_line, parts_joined, parts_lack, AreParts, block_sound, block_whole, Stops, stops_line, stops_block, line_sound, line_whole, parts_block}
+use Rattle.replay_text.proofs.BlockLaws.{WordsApart, parts_line, parts_joined, parts_lack, AreParts, block_sound, block_whole, Stops, stops_line, stops_block, line_sound, line_whole, parts_block}
 use Rattle.replay_text.proofs.TestLaws.{by_recursion, AreInterfaces, interfaces_few, interfaces_sound, interfaces_whole, AreTurns, turns_sound, turns_whole}
 
 -- ---- the configuration

@@ -10,7 +10,7 @@ mod rows;
 mod script;
 
 pub use reading::read_script;
-pub use rows::{read_row, row_of};
+pub use rows::{print_row, read_row, row_of};
 pub use script::{LifeLines, Script, ScriptAnswer, ScriptCause, ScriptFault, TurnLine};
 
 #[cfg(test)]

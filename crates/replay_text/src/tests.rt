@@ -40,7 +40,8 @@ fn static_lines(rt: HostRuntime) -> Result<(), Fail> {
     let script = read_script(rt.alloc(), STATIC_HOST)
         .ok()
         .ok_or("it is a script")?;
-    let conf = b"script /dev/null\ninterface eth0\nstatic ip_address=192.168.7.2/24\nstatic routers=192.168.7.1\n";
+    let conf =
+        b"script /dev/null\ninterface eth0\nstatic ip_address=192.168.7.2/24\nstatic routers=192.168.7.1\n";
     assert_eq!(rt; script.conf.as_slice(), conf.as_slice());
     for spec in &script.ifaces {
         assert_eq!(rt; spec.index.number, 1);
@@ -51,13 +52,19 @@ fn static_lines(rt: HostRuntime) -> Result<(), Fail> {
     assert_eq!(rt; script.life.begin.at, 1000);
     assert_eq!(rt; script.life.begin.up, 1);
     for turn in &script.life.turns {
-        assert_eq!(rt; turn.wake.event, Event::Carrier { iface: 1, up: false });
+        assert_eq!(rt;
+            turn.wake.event,
+            Event::Carrier {
+                iface: 1,
+                up: false
+            }
+        );
     }
     Ok(())
 }
 
 #[test]
-fn a_route(rt: HostRuntime) {
+fn a_route(rt: HostRuntime) -> Result<(), Fail> {
     let row = HostRow::Route {
         iface: IfIndex { number: 1 },
         dest: Net::V4(Net4 {
@@ -72,6 +79,10 @@ fn a_route(rt: HostRuntime) {
     assert!(rt; read_row("route 1 0.0.0.0/0 via 10.0.0.1 metric 5") == Ok(row));
     // a bit past the length
     assert!(rt; read_row("route 1 10.0.0.1/24 metric 5").is_err());
+    let mut text = String::new(rt.alloc());
+    print_row(&row, &mut text).ok().ok_or("memory is ample")?;
+    assert_eq!(rt; text.as_str(), "route 1 0.0.0.0/0 via 10.0.0.1 metric 5");
+    Ok(())
 }
 
 #[test]
@@ -89,14 +100,26 @@ fn refusals(rt: HostRuntime) {
         // a leading zero
         (b"dhcpcd-script 1\nstart 0 0 up -\nturn 05 0 quiet\n", 3),
         // an interface out of order
-        (b"dhcpcd-script 1\nif 2 eth0 02:00:00:00:00:01\nstart 0 0 up -\n", 2),
+        (
+            b"dhcpcd-script 1\nif 2 eth0 02:00:00:00:00:01\nstart 0 0 up -\n",
+            2,
+        ),
         // a repeated name
-        (b"dhcpcd-script 1\nif 1 eth0 02:00:00:00:00:01\nif 2 eth0 02:00:00:00:00:02\nstart 0 0 up -\n", 2),
+        (
+            b"dhcpcd-script 1\nif 1 eth0 02:00:00:00:00:01\nif 2 eth0 02:00:00:00:00:02\nstart 0 0 up -\n",
+            2,
+        ),
         // a repeated row
-        (b"dhcpcd-script 1\nrow addr 1 10.9.9.9/8\nrow addr 1 10.9.9.9/8\nstart 0 0 up -\n", 2),
+        (
+            b"dhcpcd-script 1\nrow addr 1 10.9.9.9/8\nrow addr 1 10.9.9.9/8\nstart 0 0 up -\n",
+            2,
+        ),
         // carriers of interfaces that aren't listed
         (b"dhcpcd-script 1\nstart 0 0 up 1\n", 2),
-        (b"dhcpcd-script 1\nstart 0 0 up -\nturn 5 0 carrier 1 up\n", 3),
+        (
+            b"dhcpcd-script 1\nstart 0 0 up -\nturn 5 0 carrier 1 up\n",
+            3,
+        ),
         // no life
         (b"dhcpcd-script 1\nc:noarp\n", 3),
     ];

@@ -6,6 +6,7 @@ mod hooking;
 mod hosts;
 mod links;
 mod reasons;
+mod row_text;
 mod rows;
 mod stores;
 mod streams;

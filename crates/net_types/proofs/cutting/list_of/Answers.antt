@@ -1,5 +1,5 @@
-use Rattle.std.proofs.Common.{◌≡◌, sym, ap, ◌∙◌, Some}
-use Rattle.net_types.proofs.ReadsLaws.{list_bad, list_more, list_last, list_last_bad, split_smaller}
+use Rattle.std.proofs.Common.{sym, ap, ◌∙◌, Some}
+use Rattle.net_types.proofs.ListLaws.{list_bad, list_more, list_last, list_last_bad, split_smaller}
 use Rattle.net_types.proofs.cutting.list_of.Goals as goal
 
 pub returns-in_default-from_text : goal.returns-in_default-from_text

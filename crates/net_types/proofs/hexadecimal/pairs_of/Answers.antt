@@ -1,4 +1,4 @@
-use Rattle.std.proofs.Common.{◌≡◌, ◌∙◌, ◌<◌, ℕ, Some, sym, ap, arith, rules, length, take, drop}
+use Rattle.std.proofs.Common.{◌≡◌, ◌<◌, Some, rules, length, take}
 use Rattle.net_types.specs.HexText.{hex_byte_at}
 use Rattle.net_types.proofs.HexLaws.{pairs_more}
 use Rattle.net_types.proofs.hexadecimal.pairs_of.Goals as goal

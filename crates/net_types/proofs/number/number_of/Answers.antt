@@ -1,4 +1,4 @@
-use Rattle.std.proofs.Common.{◌≡◌, ℕ, true, sym, ap, ◌∙◌, arith, rules}
+use Rattle.std.proofs.Common.{sym, ◌∙◌, arith}
 use Rattle.net_types.proofs.NumberLaws.{number_none, number_limited, number_too_large}
 use Rattle.net_types.proofs.number.number_of.Goals as goal
 

@@ -1,4 +1,4 @@
-use Rattle.std.proofs.Common.{◌≡◌, ℕ, true, false, sym, ap, ◌∙◌, subst, rules}
+use Rattle.std.proofs.Common.{◌≡◌, true, false, sym, ◌∙◌, subst, rules}
 use Rattle.std.specs.Str.Parse.{ParsesUnsigned}
 use Rattle.net_types.specs.Numbers.{is_numeral}
 use Rattle.net_types.proofs.NumberLaws.{no_numeral, number_parsed, numeral_text}

@@ -1,0 +1,4 @@
+mod CarrierSteps
+mod HexSteps
+mod Holding
+mod Named

@@ -1,0 +1,3 @@
+pub mod Carriers
+pub mod Pieces
+pub mod Printed

@@ -1,0 +1,14 @@
+//! The lines of a transcript, and their texts: what the daemon was asked and answered, one line each.
+#![tactic(auto)]
+
+mod appending;
+mod carriers;
+mod lines;
+mod pieces;
+mod printing;
+
+pub use lines::{ReadLine, TranscriptLine};
+pub use printing::print_line;
+
+#[cfg(test)]
+mod tests;

@@ -1,0 +1,69 @@
+//! What a transcript is made of.
+use net_types::{IfIndex, IfSpec, Net};
+use world::{Begin, Event, HostRow};
+
+/// What reading a file of the store gave.
+#[derive(Clone, Copy, Debug)]
+pub enum ReadLine<'a> {
+    Bytes(&'a [u8]),
+    /// There is no such file.
+    Missing,
+    Failed,
+}
+
+/// One line of a transcript. `ok` tells whether what the line names was done.
+#[derive(Clone, Copy, Debug)]
+pub enum TranscriptLine<'a> {
+    /// The first line.
+    Head,
+    /// A line of the configuration, without its line feed.
+    ConfLine(&'a [u8]),
+    IfLine(IfSpec),
+    /// A life begins, counted from 1.
+    Life(u64),
+    Start(Begin),
+    /// The names of asides that the store listed.
+    Listed(&'a [String]),
+    ListFailed,
+    FileRemove {
+        name: &'a str,
+        ok: bool,
+    },
+    Settled {
+        ok: bool,
+    },
+    FileRead {
+        name: &'a str,
+        got: ReadLine<'a>,
+    },
+    /// A wake at its raised moment, in milliseconds since 1970; the bytes are those of a frame.
+    Turn {
+        at: u64,
+        salt: u64,
+        event: Event,
+        bytes: &'a [u8],
+    },
+    /// How many rows the host listed.
+    HostListed {
+        count: u64,
+    },
+    Row(&'a HostRow),
+    HostListFailed,
+    HostDel {
+        row: &'a HostRow,
+        ok: bool,
+    },
+    HostAdd {
+        row: &'a HostRow,
+        ok: bool,
+    },
+    /// Until when the next wait may last, in milliseconds since 1970.
+    Until(Option<u64>),
+    /// An address that the life leaves on an interface.
+    Hold {
+        iface: IfIndex,
+        net: Net,
+    },
+    /// The last line of a life.
+    End,
+}

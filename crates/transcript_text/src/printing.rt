@@ -1,0 +1,260 @@
+//! The texts of lines.
+ghost use Rattle.std.specs.Prelude.{◌≡◌, ◌∷◌, [], ◌++◌, codes, decimal, flat_map, map, OnOk, OnErr};
+ghost use Rattle.std.specs.String.{string_bytes};
+ghost use Rattle.world.specs.RowText.{row_text};
+ghost use Rattle.client_model.specs.Lines as Lines;
+ghost use Rattle.client_model.specs.Lines.{line_text, event_text, outcome_text};
+ghost use Rattle.transcript_text.specs.Pieces.{piece_text};
+ghost use Rattle.transcript_text.specs.Printed.{line_of, reading_of};
+
+use crate::appending::append_bytes;
+use crate::lines::{ReadLine, TranscriptLine};
+use crate::pieces::{Piece, append_pieces};
+use net_types::{IfIndex, IfSpec, Net, NoMemory};
+use world::{Begin, Event, HostRow};
+
+const BLANK: Piece<'static> = Piece::Word(b" ");
+
+const LINE_END: Piece<'static> = Piece::Word(b"\n");
+
+/// The end of a line that tells whether a call was done.
+fn outcome(ok: bool) -> Piece<'static>
+    ensures { piece_text result ≡ codes " " ++ outcome_text ok ++ codes "\n" }
+{
+    if ok {
+        Piece::Word(b" ok\n")
+    } else {
+        Piece::Word(b" failed\n")
+    }
+}
+
+#[tactic(auto, unfolding(client_model::specs::Lines::line_words), using(std::proofs::Common::append_assoc))]
+fn print_interface(spec: IfSpec, into: &mut Vec<u8>) -> Result<(), NoMemory>
+    ensures ok { OnOk result (into.new.items ≡ into.old.items ++ line_text (Lines.Interface spec)) }
+    ensures err { OnErr result (into.new.items ≡ into.old.items) }
+{
+    append_pieces(
+        &[
+            Piece::Word(b"if "),
+            Piece::Number(u64::from(spec.index.number)),
+            BLANK,
+            Piece::Name(spec.name),
+            BLANK,
+            Piece::Mac(spec.mac),
+            LINE_END,
+        ],
+        into,
+    )
+}
+
+#[tactic(auto, unfolding(client_model::specs::Lines::line_words), using(std::proofs::Common::append_assoc))]
+fn print_start(begin: Begin, into: &mut Vec<u8>) -> Result<(), NoMemory>
+    ensures ok { OnOk result (into.new.items ≡ into.old.items ++ line_text (Lines.Start begin)) }
+    ensures err { OnErr result (into.new.items ≡ into.old.items) }
+{
+    append_pieces(
+        &[
+            Piece::Word(b"start "),
+            Piece::Number(begin.at),
+            BLANK,
+            Piece::Number(begin.salt),
+            Piece::Word(b" up "),
+            Piece::Carriers(begin.up),
+            LINE_END,
+        ],
+        into,
+    )
+}
+
+#[tactic(auto, unfolding(client_model::specs::Lines::line_words), using(std::proofs::Common::append_assoc))]
+fn print_read<'a>(name: &'a str, got: ReadLine<'a>, into: &mut Vec<u8>) -> Result<(), NoMemory>
+    ensures ok { OnOk result (into.new.items ≡ into.old.items ++ line_text (Lines.Read name.now (reading_of got.entry))) }
+    ensures err { OnErr result (into.new.items ≡ into.old.items) }
+{
+    let bytes = match got {
+        ReadLine::Bytes(bytes) => Piece::Hex(bytes),
+        ReadLine::Missing => Piece::Word(b"none"),
+        ReadLine::Failed => Piece::Word(b"failed"),
+    };
+    append_pieces(
+        &[
+            Piece::Word(b"store read "),
+            Piece::Word(name.as_bytes()),
+            BLANK,
+            bytes,
+            LINE_END,
+        ],
+        into,
+    )
+}
+
+/// Appends an event to the front of its line, and ends the line.
+#[tactic(auto, using(std::proofs::Common::append_assoc))]
+fn print_event(event: Event, bytes: &[u8], into: &mut Vec<u8>) -> Result<(), NoMemory>
+    ensures ok { OnOk result (into.new.items ≡ into.old.items ++ (event_text event bytes.now ++ 10 ∷ [])) }
+    ensures err { OnErr result (into.new.items ≡ into.old.items) }
+{
+    match event {
+        Event::Frame { iface, .. } => append_pieces(
+            &[
+                Piece::Word(b"frame "),
+                Piece::Number(u64::from(iface)),
+                BLANK,
+                Piece::Hex(bytes),
+                LINE_END,
+            ],
+            into,
+        ),
+        Event::Carrier { iface, up } => {
+            let change = if up {
+                b" up\n".as_slice()
+            } else {
+                b" down\n".as_slice()
+            };
+            append_pieces(
+                &[
+                    Piece::Word(b"carrier "),
+                    Piece::Number(u64::from(iface)),
+                    Piece::Word(change),
+                ],
+                into,
+            )
+        }
+        Event::Duplicate { iface, addr } => append_pieces(
+            &[
+                Piece::Word(b"dup "),
+                Piece::Number(u64::from(iface)),
+                BLANK,
+                Piece::Address(addr),
+                LINE_END,
+            ],
+            into,
+        ),
+        Event::Release { iface } => print_number(b"release ", u64::from(iface), into),
+        Event::Rebind { iface } => print_number(b"rebind ", u64::from(iface), into),
+        Event::Stop => append_bytes(b"stop\n", into),
+        Event::Quiet => append_bytes(b"quiet\n", into),
+        Event::End => append_bytes(b"end\n", into),
+    }
+}
+
+#[tactic(auto, unfolding(client_model::specs::Lines::line_words), using(std::proofs::Common::append_assoc))]
+fn print_turn(
+    at: u64,
+    salt: u64,
+    event: Event,
+    bytes: &[u8],
+    into: &mut Vec<u8>,
+) -> Result<(), NoMemory>
+    ensures ok { OnOk result (into.new.items ≡ into.old.items ++ line_text (Lines.Turn at salt event bytes.now)) }
+    ensures err { OnErr result (into.new.items ≡ into.old.items) }
+{
+    let len = into.len();
+    append_pieces(
+        &[
+            Piece::Word(b"turn "),
+            Piece::Number(at),
+            BLANK,
+            Piece::Number(salt),
+            BLANK,
+        ],
+        into,
+    )?;
+    if let Err(error) = print_event(event, bytes, into) {
+        into.truncate(len);
+        return Err(error);
+    }
+    Ok(())
+}
+
+/// A word and a number.
+#[tactic(auto, using(std::proofs::Common::append_assoc))]
+fn print_number(word: &[u8], number: u64, into: &mut Vec<u8>) -> Result<(), NoMemory>
+    ensures ok { OnOk result (into.new.items ≡ into.old.items ++ ((word.now ++ decimal number) ++ 10 ∷ [])) }
+    ensures err { OnErr result (into.new.items ≡ into.old.items) }
+{
+    append_pieces(&[Piece::Word(word), Piece::Number(number), LINE_END], into)
+}
+
+/// A word, what a call was about and whether it was done.
+#[tactic(auto, using(std::proofs::Common::append_assoc))]
+fn print_done<'a>(
+    word: &'a [u8],
+    about: Piece<'a>,
+    ok: bool,
+    into: &mut Vec<u8>,
+) -> Result<(), NoMemory>
+    ensures ok { OnOk result (into.new.items ≡ into.old.items ++ ((word.now ++ piece_text about.entry ++ codes " " ++ outcome_text ok) ++ 10 ∷ [])) }
+    ensures err { OnErr result (into.new.items ≡ into.old.items) }
+{
+    append_pieces(&[Piece::Word(word), about, outcome(ok)], into)
+}
+
+fn print_listed(names: &[String], into: &mut Vec<u8>) -> Result<(), NoMemory>
+    ensures ok { OnOk result (into.new.items ≡ into.old.items ++ ((codes "store list ok" ++ flat_map (λ name. codes " " ++ name) (map string_bytes names.now)) ++ 10 ∷ [])) }
+    ensures err { OnErr result (into.new.items ≡ into.old.items) }
+{
+    append_pieces(
+        &[Piece::Word(b"store list ok"), Piece::Names(names), LINE_END],
+        into,
+    )
+}
+
+#[tactic(auto, unfolding(client_model::specs::Lines::line_words), using(std::proofs::Common::append_assoc))]
+fn print_hold(iface: IfIndex, net: Net, into: &mut Vec<u8>) -> Result<(), NoMemory>
+    ensures ok { OnOk result (into.new.items ≡ into.old.items ++ line_text (Lines.Hold iface net)) }
+    ensures err { OnErr result (into.new.items ≡ into.old.items) }
+{
+    append_pieces(
+        &[
+            Piece::Word(b"hold addr "),
+            Piece::Number(u64::from(iface.number)),
+            BLANK,
+            Piece::Net(net),
+            LINE_END,
+        ],
+        into,
+    )
+}
+
+/// Appends the text of a line; where memory runs out the bytes are as before.
+#[tactic(auto, unfolding(client_model::specs::Lines::line_words), using(std::proofs::Common::append_assoc))]
+pub fn print_line(line: &TranscriptLine<'_>, into: &mut Vec<u8>) -> Result<(), NoMemory>
+    ensures ok { OnOk result (into.new.items ≡ into.old.items ++ line_text (line_of line.now)) }
+    ensures err { OnErr result (into.new.items ≡ into.old.items) }
+{
+    use Piece::{Row, Word};
+    use TranscriptLine as Line;
+    match *line {
+        Line::Head => append_bytes(b"dhcpcd-transcript 1\n", into),
+        Line::ConfLine(text) => append_pieces(&[Word(b"c:"), Word(text), LINE_END], into),
+        Line::IfLine(spec) => print_interface(spec, into),
+        Line::Life(number) => print_number(b"life ", number, into),
+        Line::Start(begin) => print_start(begin, into),
+        Line::Listed(names) => print_listed(names, into),
+        Line::ListFailed => append_bytes(b"store list failed\n", into),
+        Line::FileRemove { name, ok } => print_done(
+            b"store remove ",
+            Word(name.as_bytes()),
+            ok,
+            into,
+        ),
+        Line::Settled { ok } => append_pieces(&[Word(b"store settle"), outcome(ok)], into),
+        Line::FileRead { name, got } => print_read(name, got, into),
+        Line::Turn {
+            at,
+            salt,
+            event,
+            bytes,
+        } => print_turn(at, salt, event, bytes, into),
+        Line::HostListed { count } => print_number(b"host list ok ", count, into),
+        Line::Row(row) => append_pieces(&[Word(b"row "), Row(row), LINE_END], into),
+        Line::HostListFailed => append_bytes(b"host list failed\n", into),
+        Line::HostDel { row, ok } => print_done(b"host del ", Row(row), ok, into),
+        Line::HostAdd { row, ok } => print_done(b"host add ", Row(row), ok, into),
+        Line::Until(Some(moment)) => print_number(b"until ", moment, into),
+        Line::Until(None) => append_bytes(b"until none\n", into),
+        Line::Hold { iface, net } => print_hold(iface, net, into),
+        Line::End => append_bytes(b"end\n", into),
+    }
+}
