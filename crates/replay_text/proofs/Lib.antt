@@ -1,1 +1,6 @@
 pub mod RowLaws
+pub mod BlockLaws
+pub mod TestLaws
+pub mod LineLaws
+pub mod CarrierLaws
+pub mod ScriptLaws

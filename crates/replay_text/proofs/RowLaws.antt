@@ -13,9 +13,10 @@ use Rattle.net_types.specs.Marks.{Lacks}
 use Rattle.net_types.specs.AddressText.{ip4_text, ip4_at, net4_text, net4_at, net_text, FitsIp4, FitsNet4}
 use Rattle.net_types.specs.Cutting.{strip_word, after_word, by_word, pair_at, guarded, ◌>>=◌}
 use Rattle.net_types.specs.Numbers.{number_at}
-use Rattle.net_types.proofs.ReadsLaws.{some_same, passed, step, mapped, strip_whole, strip_sound, words_apart, word_reads, pair_reads, map_reads, guard_reads}
+use Rattle.net_types.proofs.ReadsLaws.{some_same, passed, step, mapped, strip_whole, strip_sound, word_reads, pair_reads, map_reads, guard_reads}
+use Rattle.net_types.proofs.ChoiceLaws.{words_apart}
 use Rattle.net_types.proofs.NumberLaws.{number_reads}
-use Rattle.net_types.proofs.MarkLaws.{decimal_lacks, ip4_lacks, net4_lacks}
+use Rattle.net_types.proofs.MarkLaws.{decimal_lacks, lacks-append, ip4_lacks, net4_lacks}
 use Rattle.net_types.proofs.AddressLaws.{ip4_reads, net4_reads}
 use Rattle.world.specs.declared.rows.HostRow.{HostRow}
 use Rattle.world.specs.declared.rows.HostRow.TheVariants.{Addr, Route}
@@ -231,3 +232,46 @@ row_whole (Route iface (V6 net) way m) fits = absurd fits.is_ipv4
 
 pub row_reads : Reads row_text IsBuiltRow row_at
 row_reads = record { sound = row_sound; whole = row_whole }
+
+-- ---- no row has a line feed
+
+pub decimal_line : (n : ℕ) → n < 2 ^ 64 → Lacks 10 (decimal n)
+decimal_line n small = decimal_lacks n 10 small refl
+
+pub iface_line : (iface : IfIndex) → FitsIface iface → Lacks 10 (iface_text iface)
+iface_line iface fits = let within : iface.number ≤ 64 = fits.1 in decimal_line iface.number (omega arith)
+
+-- words with a blank between them
+pub joined_line : (front text : List ℕ) → Lacks 10 front → Lacks 10 text → Lacks 10 (front ++ 32 ∷ text)
+joined_line front text one other = lacks-append 10 front (32 ∷ text) one (lacks-append 10 (codes " ") text refl other)
+
+tail_line : (x : Tail) → FitsTail x → Lacks 10 (tail_text x)
+unfolding tail_text
+tail_line (OnLink, m) fits = lacks-append 10 (codes "metric ") (decimal m) refl (decimal_line m (omega arith))
+tail_line (Reject, m) fits = lacks-append 10 (codes "reject metric ") (decimal m) refl (decimal_line m (omega arith))
+tail_line (Gate4 ip, m) fits =
+    let small : m < 2 ^ 32 = fits.1 in
+    lacks-append 10 (codes "via ") (ip4_text ip ++ 32 ∷ (codes "metric " ++ decimal m)) refl
+    (joined_line (ip4_text ip) (codes "metric " ++ decimal m) (ip4_lacks ip 10 fits.0 refl)
+    (lacks-append 10 (codes "metric ") (decimal m) refl (decimal_line m (omega arith))))
+tail_line (Gate6 ip, m) fits = absurd fits
+
+addr_line : (p : AddrParts) → FitsIface p.0 → FitsNet4 p.1 → Lacks 10 (row_text (Addr p.0 (V4 p.1)))
+addr_line p iface net =
+    subst (Lacks 10) (sym (addr_spelled p))
+    (lacks-append 10 (codes "addr ") (addr_text p) refl (joined_line (iface_text p.0) (net4_text p.1) (iface_line p.0 iface) (net4_lacks p.1 10 net refl)))
+
+route_line : (p : RouteParts) → FitsParts p → Lacks 10 (row_text (route_row p))
+route_line p fits =
+    subst (Lacks 10) (sym (route_spelled p fits.1.1))
+    (lacks-append 10 (codes "route ") (route_parts_text p) refl
+    (joined_line (iface_text p.0) (net4_text p.1.0 ++ 32 ∷ tail_text p.1.1) (iface_line p.0 fits.0)
+    (joined_line (net4_text p.1.0) (tail_text p.1.1) (net4_lacks p.1.0 10 fits.1.0 refl) (tail_line p.1.1 fits.1.1))))
+
+pub row_line : (row : HostRow) → IsBuiltRow row → Lacks 10 (row_text row)
+row_line (Addr iface (V4 net)) fits = addr_line (iface, net) fits.is_row.0 (record { address = fits.is_row.1.0; prefix = fits.is_row.1.1 })
+row_line (Addr iface (V6 net)) fits = absurd fits.is_ipv4
+row_line (Route iface (V4 net) way m) fits =
+    let r = fits.is_row in
+    route_line (iface, (net, (way, m))) (r.0, (record { address = r.1.0; prefix = r.1.1 }, led net way m r.3 r.4))
+row_line (Route iface (V6 net) way m) fits = absurd fits.is_ipv4

@@ -1,6 +1,17 @@
 //! The texts of `replay`: rows of the host's tables, and scripts.
 #![tactic(auto)]
 
+mod blocks;
+mod carriers;
+mod lines;
+mod reading;
+mod refusal;
 mod rows;
+mod script;
 
-pub use rows::{read_row, row_of};
+pub use reading::read_script;
+pub use rows::{print_row, read_row, row_of};
+pub use script::{LifeLines, Script, ScriptAnswer, ScriptCause, ScriptFault, TurnLine};
+
+#[cfg(test)]
+mod tests;

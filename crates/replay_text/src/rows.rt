@@ -1,5 +1,6 @@
-//! The texts of host rows, read.
-ghost use Rattle.std.specs.Prelude.{◌≡◌, ◌≢◌, ◌≤◌, option_map, IfOk, IfErr, IfSome};
+//! The texts of host rows.
+ghost use Rattle.std.specs.Prelude.{◌≡◌, ◌≢◌, ◌++◌, option_map, IfOk, IfErr, OnOk, OnErr};
+ghost use Rattle.std.specs.String.{string_bytes};
 ghost use Rattle.net_types.specs.AddressText.{ip4_at, net4_at};
 ghost use Rattle.net_types.specs.Cutting.{field_at};
 ghost use Rattle.world.specs.RowText.{row_text, IsBuiltRow};
@@ -7,7 +8,8 @@ ghost use Rattle.world.specs.declared.rows.HostRow.{HostRow};
 ghost use Rattle.replay_text.specs.RowReading.{iface_at, metric_at, on_link_at, reject_at, gate_at, tail_at, addr_at, is_network, route_parts_at, route_at, row_at};
 
 use net_types::{
-    BadText, IfIndex, Ip4, Net, Net4, ip4_of, net4_of, number_of, split_at_byte, strip_word,
+    BadText, IfIndex, Ip4, Net, Net4, NoMemory, append_text, ip4_of, net4_of, number_of,
+    split_at_byte, strip_word,
 };
 use world::{HostRow, Via};
 
@@ -171,4 +173,12 @@ pub fn read_row(text: &str) -> Result<HostRow, BadText>
         Some(row) => Ok(row),
         None => Err(BadText),
     }
+}
+
+/// Appends the text of a row. Where memory runs out what was there stays.
+pub fn print_row(row: &HostRow, into: &mut String) -> Result<(), NoMemory>
+    ensures ok { OnOk result (string_bytes into.new ≡ string_bytes into.old ++ row_text row.now) }
+    ensures err { OnErr result (string_bytes into.new ≡ string_bytes into.old) }
+{
+    append_text(*row, into)
 }

@@ -1,0 +1,166 @@
+-- What the tests of whole kinds of lines come to.
+use Rattle.std.proofs.Common.{◌≡◌, ℕ, zero, suc, ◌+◌, ◌*◌, ◌-◌, ◌^◌, ◌<◌, ◌≤◌, Bool, true, false, not, ◌&&◌, eqb, leb, List, [], ◌∷◌, length, drop, get_or, refl, sym, ap, ◌∙◌, subst, arith, drop-cons, add-one, bytes_eq}
+use Rattle.std.specs.List.{All, AllByRecursion, AllPairs, list_all}
+use Rattle.std.proofs.Math.Pow.{pow_mono}
+use Rattle.std.proofs.lemmas.Bool.{and_parts, and_from, not-true, eqb-true, eq-eqb, leb-true, le-leb}
+use Rattle.std.proofs.lemmas.List.Elements.{All-from_recursion}
+use Rattle.std.proofs.lemmas.List.Kept.{AllPairs-cons}
+use Rattle.std.proofs.lemmas.Slice.Eq.{bytes_eq-Decides}
+use Rattle.net_types.specs.declared.interface.IfSpec.{IfSpec}
+use Rattle.net_types.specs.declared.address.Mac.{Mac}
+use Rattle.net_types.specs.NameText.{name_text}
+use Rattle.net_types.proofs.ReadsLaws.{texts_apart}
+use Rattle.net_types.proofs.NameLaws.{name_reads}
+use Rattle.world.specs.declared.rows.HostRow.{HostRow}
+use Rattle.world.specs.declared.wakes.Event.{Event}
+use Rattle.world.specs.declared.wakes.Event.TheVariants.{Frame, Carrier, Duplicate, Release, Rebind, Stop, Quiet, End}
+use Rattle.world.specs.LinkCalls.{Given}
+use Rattle.world.specs.RowOrder.{put_in_order, with_row, in_row_order}
+use Rattle.client_model.specs.Scripts.{CountsFrom, Unlike, FitInterfaces, FitsEvent, FitsGiven}
+use Rattle.replay_text.specs.KindTests.{counts_from, is_unlike, all_unlike, interfaces_fit, is_listed, turns_fit}
+use Rattle.replay_text.proofs.LineLaws.{FitsSpec}
+
+-- a bit more
+pub doubled : (up count : ℕ) → 0 < count → up < 2 ^ (count - 1) → 2 * up + 1 < 2 ^ count
+doubled up zero some small = absurd (omega arith)
+doubled up (suc k) some small =
+    let less : suc k - 1 ≡ k = omega arith in
+    let small' : up < 2 ^ k = subst (λ n. up < 2 ^ n) less small in
+    omega arith
+
+pub doubled_fits : (up count : ℕ) → 0 < count → count ≤ 64 → up < 2 ^ (count - 1) → 2 * up + 1 < 18446744073709551616
+doubled_fits up count some few small = omega (arith, doubled up count some small, pow_mono {i = count} {j = 64} few)
+
+pub put_next : (sorted rows : List HostRow) (i : ℕ) (d : HostRow) (whole : List HostRow) → i < length rows → put_in_order sorted (drop i rows) ≡ whole → put_in_order (with_row (get_or rows i d) sorted) (drop (i + 1) rows) ≡ whole
+put_next sorted rows i d whole within e =
+    let here : drop i rows ≡ get_or rows i d ∷ drop (i + 1) rows = rw (add-one) (drop-cons rows i d within) in
+    sym (ap (put_in_order sorted) here) ∙ e
+
+-- ---- interfaces
+
+unlike_sound : (a b : IfSpec) → is_unlike a b ≡ true → Unlike a b
+unlike_sound a b e =
+    let parts = and_parts (not (bytes_eq (name_text a.name) (name_text b.name))) (not (bytes_eq a.mac.bytes b.mac.bytes)) e in
+    ((λ same. apart (name_text a.name) (name_text b.name) parts.0 (ap name_text same)), (λ same. apart a.mac.bytes b.mac.bytes parts.1 (ap (λ (m : Mac). m.bytes) same)))
+  where
+    apart : (xs ys : List ℕ) → not (bytes_eq xs ys) ≡ true → xs ≡ ys → ⊥
+    apart xs ys e same = let t : bytes_eq xs ys ≡ true = (bytes_eq-Decides xs ys).1 same in let f : bytes_eq xs ys ≡ false = not-true _ e in let never : true ≡ false = sym t ∙ f in cc
+
+differ_texts : (xs ys : List ℕ) → (xs ≡ ys → ⊥) → not (bytes_eq xs ys) ≡ true
+differ_texts xs ys other =
+    elim (bytes_eq xs ys) as (λ b. bytes_eq xs ys ≡ b → not b ≡ true) [
+      | true ↦ λ t. absurd (other ((bytes_eq-Decides xs ys).0 t))
+      | false ↦ λ t. refl
+    ] refl
+
+unlike_whole : (a b : IfSpec) → FitsSpec a → FitsSpec b → Unlike a b → is_unlike a b ≡ true
+unlike_whole a b fa fb other =
+    and_from _ _
+    (differ_texts (name_text a.name) (name_text b.name) (λ same. other.0 (texts_apart name_reads a.name b.name fa.name fb.name same)))
+    (differ_texts a.mac.bytes b.mac.bytes (λ same. other.1 (ap (λ m. record { bytes = m }) same)))
+
+all_others : (spec : IfSpec) (specs : List IfSpec) → list_all (is_unlike spec) specs ≡ true → AllByRecursion (Unlike spec) specs
+all_others spec [] e = tt
+all_others spec (other ∷ specs) e = let parts = and_parts (is_unlike spec other) _ e in (unlike_sound spec other parts.0, all_others spec specs parts.1)
+
+pub pairs_sound : (specs : List IfSpec) → all_unlike specs ≡ true → AllPairs Unlike specs
+pairs_sound [] e = λ i j d below within. absurd (omega arith)
+pairs_sound (spec ∷ specs) e =
+    let parts = and_parts (list_all (is_unlike spec) specs) _ e in
+    AllPairs-cons Unlike spec specs (All-from_recursion (Unlike spec) specs (all_others spec specs parts.0)) (pairs_sound specs parts.1)
+
+others_whole : (spec : IfSpec) (specs : List IfSpec) → FitsSpec spec → AllByRecursion FitsSpec specs → AllByRecursion (Unlike spec) specs → list_all (is_unlike spec) specs ≡ true
+others_whole spec [] fit fits unlike = refl
+others_whole spec (other ∷ specs) fit fits unlike = and_from _ _ (unlike_whole spec other fit fits.0 unlike.0) (others_whole spec specs fit fits.1 unlike.1)
+
+-- what holds of each element, by its place, holds of each by recursion
+pub by_recursion : {X : Type 0} (P : X → Type 0) (xs : List X) → All P xs → AllByRecursion P xs
+by_recursion P [] all = tt
+by_recursion P (x ∷ xs) all = (all 0 x (omega arith), by_recursion P xs (λ k d within. all (suc k) d (omega arith)))
+
+pub pairs_whole : (specs : List IfSpec) → AllByRecursion FitsSpec specs → AllPairs Unlike specs → all_unlike specs ≡ true
+pairs_whole [] fits pairs = refl
+pairs_whole (spec ∷ specs) fits pairs =
+    let first : AllByRecursion (Unlike spec) specs = by_recursion (Unlike spec) specs (λ k d within. pairs 0 (suc k) d (omega arith) (omega arith)) in
+    and_from _ _ (others_whole spec specs fits.0 fits.1 first)
+    (pairs_whole specs fits.1 (λ i j d below within. pairs (suc i) (suc j) d (omega arith) (omega arith)))
+
+counted_sound : (index : ℕ) (specs : List IfSpec) → AllByRecursion FitsSpec specs → counts_from index specs ≡ true → CountsFrom index specs
+counted_sound index [] fits e = tt
+counted_sound index (spec ∷ specs) fits e =
+    let parts = and_parts (eqb spec.index.number index) _ e in
+    (eqb-true _ _ parts.0, fits.0.name, fits.0.mac, counted_sound (index + 1) specs fits.1 parts.1)
+
+counted_whole : (index : ℕ) (specs : List IfSpec) → 1 ≤ index → index + length specs ≤ 65 → CountsFrom index specs → AllByRecursion FitsSpec specs × (counts_from index specs ≡ true)
+counted_whole index [] some few counts = (tt, refl)
+counted_whole index (spec ∷ specs) some few counts =
+    let others = counted_whole (index + 1) specs (omega arith) (omega arith) counts.3 in
+    let is : spec.index.number ≡ index = counts.0 in
+    let low : 1 ≤ spec.index.number = omega arith in
+    let high : spec.index.number ≤ 64 = omega arith in
+    ((record { index = (low, high); name = counts.1; mac = counts.2 }, others.0), and_from _ _ (eq-eqb _ _ is) others.1)
+
+pub record AreInterfaces (specs : List IfSpec) : Type 0 where
+  pub each : AllByRecursion FitsSpec specs
+  pub test : interfaces_fit specs ≡ true
+
+pub interfaces_few : (specs : List IfSpec) → interfaces_fit specs ≡ true → length specs ≤ 64
+unfolding interfaces_fit
+interfaces_few specs e = leb-true _ _ (and_parts (leb (length specs) 64) _ e).0
+
+pub interfaces_sound : (specs : List IfSpec) → AreInterfaces specs → FitInterfaces specs
+unfolding interfaces_fit
+interfaces_sound specs are =
+    let outer = and_parts (leb (length specs) 64) _ are.test in
+    let inner = and_parts (counts_from 1 specs) _ outer.1 in
+    record { few = leb-true _ _ outer.0; counted = counted_sound 1 specs are.each inner.0; unlike = pairs_sound specs inner.1 }
+
+pub interfaces_whole : (specs : List IfSpec) → FitInterfaces specs → AreInterfaces specs
+unfolding interfaces_fit
+interfaces_whole specs fit =
+    let few = fit.few in
+    let counted = counted_whole 1 specs (omega arith) (omega arith) fit.counted in
+    record { each = counted.0; test = and_from _ _ (le-leb _ _ few) (and_from _ _ counted.1 (pairs_whole specs counted.0 fit.unlike)) }
+
+-- ---- turns
+
+listed_sound : (count : ℕ) (event : Event) → FitsEvent 64 event → is_listed count event ≡ true → FitsEvent count event
+listed_sound count (Frame iface len) fits e = absurd fits
+listed_sound count (Carrier iface up) fits e = (fits.0, leb-true _ _ e)
+listed_sound count (Duplicate iface addr) fits e = absurd fits
+listed_sound count (Release iface) fits e = absurd fits
+listed_sound count (Rebind iface) fits e = absurd fits
+listed_sound count Stop fits e = absurd fits
+listed_sound count Quiet fits e = tt
+listed_sound count End fits e = absurd fits
+
+listed_whole : (count : ℕ) (event : Event) → count ≤ 64 → FitsEvent count event → FitsEvent 64 event × (is_listed count event ≡ true)
+listed_whole count (Frame iface len) few fits = absurd fits
+listed_whole count (Carrier iface up) few fits = let within : iface ≤ count = fits.1 in ((fits.0, omega arith), le-leb _ _ within)
+listed_whole count (Duplicate iface addr) few fits = absurd fits
+listed_whole count (Release iface) few fits = absurd fits
+listed_whole count (Rebind iface) few fits = absurd fits
+listed_whole count Stop few fits = absurd fits
+listed_whole count Quiet few fits = (tt, refl)
+listed_whole count End few fits = absurd fits
+
+pub record AreTurns (count : ℕ) (turns : List Given) : Type 0 where
+  pub each : AllByRecursion (FitsGiven 64) turns
+  pub test : turns_fit count turns ≡ true
+
+pub turns_sound : (count : ℕ) (turns : List Given) → AreTurns count turns → AllByRecursion (FitsGiven count) turns
+unfolding turns_fit
+turns_sound count [] are = tt
+turns_sound count (given ∷ turns) are =
+    let parts = and_parts (is_listed count given.wake.event) _ are.test in
+    let first = are.each.0 in
+    (record { at = first.at; salt = first.salt; event = listed_sound count given.wake.event first.event parts.0; bytes = first.bytes }, turns_sound count turns (record { each = are.each.1; test = parts.1 }))
+
+pub turns_whole : (count : ℕ) (turns : List Given) → count ≤ 64 → AllByRecursion (FitsGiven count) turns → AreTurns count turns
+unfolding turns_fit
+turns_whole count [] few fits = record { each = tt; test = refl }
+turns_whole count (given ∷ turns) few fits =
+    let first = fits.0 in
+    let listed = listed_whole count given.wake.event few first.event in
+    let others = turns_whole count turns few fits.1 in
+    record { each = (record { at = first.at; salt = first.salt; event = listed.0; bytes = first.bytes }, others.each); test = and_from _ _ listed.1 others.test }

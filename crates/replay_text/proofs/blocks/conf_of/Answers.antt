@@ -1,0 +1,15 @@
+use Rattle.std.proofs.Common.{◌≡◌, ◌++◌, ◌∷◌, [], sym, ap, ◌∙◌}
+use Rattle.std.proofs.lemmas.List.{append_assoc}
+use Rattle.replay_text.proofs.BlockLaws.{conf_ends, conf_more, line_smaller}
+use Rattle.replay_text.proofs.blocks.conf_of.Goals as goal
+
+pub returns-in_default : goal.returns-in_default
+returns-in_default c = conf_ends _ c.lines.conf.items c.lines.rest.now (sym c.in_default.ensures) c.lines.invariant
+
+pub lines-smaller : goal.lines-smaller
+lines-smaller c = line_smaller _ c.lines.rest.now c.in-Some.words.now c.in-Some.others.now (sym c.in-Some.ensures)
+
+pub lines-preserved : goal.lines-preserved
+lines-preserved c =
+    let pushed : c.push.new.self.items ≡ c.lines.conf.items ++ c.in-Some.words.now ++ 10 ∷ [] = c.in_ok-push.ensures.items ∙ ap (λ xs. xs ++ 10 ∷ []) c.in_ok-extend_from_slice.ensures.items in
+    rw pushed (conf_more _ c.lines.conf.items c.lines.rest.now c.in-Some.words.now c.in-Some.others.now (sym c.in-Some.ensures) c.lines.invariant)

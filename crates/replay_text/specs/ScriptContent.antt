@@ -1,0 +1,29 @@
+-- What a script is seen as.
+use Rattle.std.specs.Prelude.{ℕ, List, [], ◌∷◌, map}
+use Rattle.world.specs.LinkCalls.{Given}
+use Rattle.client_model.specs.Scripts.{ScriptLines, LifeScript}
+use Rattle.replay_text.specs.declared.script.Script.{Script}
+use Rattle.replay_text.specs.declared.script.LifeLines.{LifeLines}
+use Rattle.replay_text.specs.declared.script.TurnLine.{TurnLine}
+use Rattle.replay_text.specs.Blocks.{parts_of}
+
+-- the lines of a configuration; each ends with a line feed
+abbrev pub unless_last : List ℕ → List (List ℕ) → List (List ℕ) → List (List ℕ)
+unless_last part [] lines = []
+unless_last part (next ∷ parts) lines = part ∷ lines
+
+abbrev pub lines_within : List (List ℕ) → List (List ℕ)
+lines_within [] = []
+lines_within (part ∷ parts) = unless_last part parts (lines_within parts)
+
+unfoldable pub conf_lines : List ℕ → List (List ℕ)
+conf_lines conf = lines_within (parts_of conf)
+
+abbrev pub given_of : TurnLine → Given
+given_of turn = record { wake = turn.wake; bytes = turn.bytes.items }
+
+abbrev pub life_of : LifeLines → LifeScript
+life_of life = record { begin = life.begin; turns = map given_of life.turns.items }
+
+abbrev pub script_of : Script → ScriptLines
+script_of script = record { conf = conf_lines script.conf.items; ifaces = script.ifaces.items; rows = script.rows.items; life = life_of script.life }

@@ -1,0 +1,238 @@
+//! Scripts, read.
+ghost use Rattle.std.specs.Prelude.{◌≡◌, ◌≢◌, ◌+◌, ◌<◌, ◌≤◌, length, map, codes, IsTrue, IfOk, IfErr, ◌==◌};
+ghost use Rattle.std.specs.List.{list_all};
+ghost use Rattle.client_model.specs.Scripts.{ScriptLines, script_text, FitsScript};
+ghost use Rattle.replay_text.specs.Blocks.{parts_of, line_at, block_at, are_done};
+ghost use Rattle.replay_text.specs.Carriers.{begin_at};
+ghost use Rattle.replay_text.specs.ScriptContent.{script_of, life_of, given_of};
+ghost use Rattle.replay_text.specs.KindTests.{counts_from, is_unlike, all_unlike, interfaces_fit, are_once, is_listed, turns_fit};
+ghost use Rattle.replay_text.specs.ScriptReading.{ifaces_at, rows_at, life_at, body_at, script_at};
+ghost use Rattle.replay_text.specs.Answers.{Gives, IsBad};
+
+use crate::blocks::{block_of, conf_of, line_after};
+use crate::carriers::begin_of;
+use crate::refusal::Refusal;
+use crate::script::{LifeLines, Script, ScriptAnswer, ScriptCause, ScriptFault, TurnLine};
+use net_types::{IfSpec, NoMemory, strip_word};
+use std::alloc::Global;
+use std::collections::BTreeSet;
+use world::{Begin, Event, HostRow};
+
+/// The most interfaces.
+const MOST_INTERFACES: usize = 64;
+
+/// Whether interfaces are numbered from this one on.
+fn counts_from(index: u32, specs: &[IfSpec]) -> bool
+    requires { index + length specs.now < 1000 }
+    ensures { result ≡ counts_from index specs.now }
+{
+    match specs.split_first() {
+        None => true,
+        Some((spec, others)) => {
+            if spec.index.number == index {
+                counts_from(index + 1, others)
+            } else {
+                false
+            }
+        }
+    }
+}
+
+#[tactic(auto, unfolding(net_types::specs::NameText::name_text))]
+fn is_unlike(one: &IfSpec, other: &IfSpec) -> bool
+    ensures { result ≡ is_unlike one.now other.now }
+{
+    one.name.as_bytes() != other.name.as_bytes() && one.mac.bytes != other.mac.bytes
+}
+
+fn is_unlike_all(spec: &IfSpec, others: &[IfSpec]) -> bool
+    ensures { result ≡ list_all (is_unlike spec.now) others.now }
+{
+    others.iter().all(|other| is_unlike(spec, other))
+}
+
+/// Whether all names and all hardware addresses are unlike.
+fn all_unlike(specs: &[IfSpec]) -> bool
+    ensures { result ≡ all_unlike specs.now }
+{
+    match specs.split_first() {
+        None => true,
+        Some((spec, others)) => {
+            if is_unlike_all(spec, others) {
+                all_unlike(others)
+            } else {
+                false
+            }
+        }
+    }
+}
+
+#[tactic(auto, unfolding(crate::specs::KindTests::interfaces_fit))]
+fn interfaces_fit(specs: &[IfSpec]) -> bool
+    ensures value { result ≡ interfaces_fit specs.now }
+    ensures few { IsTrue result → length specs.now ≤ 64 }
+{
+    if specs.len() <= MOST_INTERFACES {
+        counts_from(1, specs) && all_unlike(specs)
+    } else {
+        false
+    }
+}
+
+/// Whether each row stands once.
+#[tactic(auto, unfolding(crate::specs::KindTests::are_once))]
+fn are_once(alloc: Global, rows: &[HostRow]) -> Result<bool, NoMemory>
+    ensures { IfOk result (λ once. once ≡ are_once rows.now) }
+{
+    let mut unlike = BTreeSet::new(alloc);
+    for row in rows {
+        unlike.insert(*row)?;
+    }
+    Ok(unlike.len() == rows.len())
+}
+
+fn is_listed(count: u32, event: Event) -> bool
+    ensures { result ≡ is_listed count event }
+{
+    match event {
+        Event::Carrier { iface, .. } => iface <= count,
+        Event::Frame { .. } => true,
+        Event::Duplicate { .. } => true,
+        Event::Release { .. } => true,
+        Event::Rebind { .. } => true,
+        Event::Stop => true,
+        Event::Quiet => true,
+        Event::End => true,
+    }
+}
+
+fn are_listed(count: u32, turns: &[TurnLine]) -> bool
+    ensures { result ≡ list_all (λ turn. is_listed count turn.wake.event) turns.now }
+{
+    turns.iter().all(|turn| is_listed(count, turn.wake.event))
+}
+
+/// Whether the turns name interfaces of the script alone.
+#[tactic(auto, unfolding(crate::specs::KindTests::turns_fit))]
+fn turns_fit(count: u32, turns: &[TurnLine]) -> bool
+    ensures { result ≡ turns_fit count (map given_of turns.now) }
+{
+    are_listed(count, turns)
+}
+
+#[tactic(auto, unfolding(crate::specs::ScriptReading::ifaces_at))]
+fn ifaces_of(alloc: Global, text: &[u8]) -> Result<(Vec<IfSpec>, &[u8]), Refusal>
+    ensures value { Gives (λ b. (b.0.items, parts_of b.1.now)) result (ifaces_at (parts_of text.now)) }
+    ensures few { IfOk result (λ b. length b.0.items ≤ 64) }
+{
+    let (ifaces, rest): (Vec<IfSpec>, &[u8]) = block_of(alloc, text, b"if ")?;
+    if interfaces_fit(&ifaces) {
+        Ok((ifaces, rest))
+    } else {
+        Err(Refusal::Bad { left: text.len() })
+    }
+}
+
+#[tactic(auto, unfolding(crate::specs::ScriptReading::rows_at))]
+fn rows_of(alloc: Global, text: &[u8]) -> Result<(Vec<HostRow>, &[u8]), Refusal>
+    ensures { Gives (λ b. (b.0.items, parts_of b.1.now)) result (rows_at (parts_of text.now)) }
+{
+    let (rows, rest): (Vec<HostRow>, &[u8]) = block_of(alloc, text, b"row ")?;
+    if are_once(alloc, &rows)? {
+        Ok((rows, rest))
+    } else {
+        Err(Refusal::Bad { left: text.len() })
+    }
+}
+
+/// Whether no line is left.
+fn is_done(text: &[u8]) -> bool
+    ensures { result ≡ are_done (parts_of text.now) }
+{
+    text.is_empty()
+}
+
+fn start_of(alloc: Global, count: u32, text: &[u8]) -> Result<(Begin, &[u8]), Refusal>
+    requires { count ≤ 64 }
+    ensures { Gives (λ b. (b.0, parts_of b.1.now)) result (line_at (codes "start ") (begin_at count) (parts_of text.now)) }
+{
+    let Some((words, rest)) = line_after(text, b"start ") else {
+        return Err(Refusal::Bad { left: text.len() });
+    };
+    let begin = begin_of(alloc, count, words)?;
+    match begin {
+        Some(begin) => Ok((begin, rest)),
+        None => Err(Refusal::Bad { left: text.len() }),
+    }
+}
+
+#[tactic(auto, unfolding(crate::specs::ScriptReading::life_at))]
+fn life_of(alloc: Global, count: u32, text: &[u8]) -> Result<LifeLines, Refusal>
+    requires { count ≤ 64 }
+    ensures { Gives life_of result (life_at count (parts_of text.now)) }
+{
+    let (begin, rest) = start_of(alloc, count, text)?;
+    let (turns, left): (Vec<TurnLine>, &[u8]) = block_of(alloc, rest, b"turn ")?;
+    if !is_done(left) {
+        return Err(Refusal::Bad { left: left.len() });
+    }
+    if turns_fit(count, &turns) {
+        Ok(LifeLines { begin, turns })
+    } else {
+        Err(Refusal::Bad { left: rest.len() })
+    }
+}
+
+#[tactic(auto, unfolding(crate::specs::ScriptReading::body_at))]
+fn body_of(alloc: Global, text: &[u8]) -> Result<Script, Refusal>
+    ensures { Gives script_of result (body_at (parts_of text.now)) }
+{
+    let (conf, rest) = conf_of(alloc, text)?;
+    let (ifaces, rest) = ifaces_of(alloc, rest)?;
+    let (rows, rest) = rows_of(alloc, rest)?;
+    let life = life_of(alloc, ifaces.len() as u32, rest)?;
+    Ok(Script {
+        conf,
+        ifaces,
+        rows,
+        life,
+    })
+}
+
+#[tactic(auto, unfolding(crate::specs::ScriptReading::script_at))]
+fn script_of(alloc: Global, text: &[u8]) -> Result<Script, Refusal>
+    ensures { Gives script_of result (script_at text.now) }
+{
+    match strip_word(text, b"dhcpcd-script 1\n") {
+        Some(rest) => body_of(alloc, rest),
+        None => Err(Refusal::Bad { left: text.len() }),
+    }
+}
+
+/// The number, from 1, of the line that begins so many bytes before the end.
+fn line_number(text: &[u8], left: usize) -> u64 {
+    let before = text.len().saturating_sub(left);
+    let ended = text
+        .iter()
+        .take(before)
+        .filter(|byte| **byte == b'\n')
+        .count();
+    (ended as u64).saturating_add(1)
+}
+
+/// Reads a script of one life. Each script that is built has one text.
+/// The cause of a bad line is `NotBuilt` throughout.
+pub fn read_script(alloc: Global, text: &[u8]) -> Result<Script, ScriptAnswer>
+    ensures found { IfOk result (λ script. (text.now ≡ script_text (script_of script)) × FitsScript (script_of script)) }
+    // Only want of memory may refuse a script.
+    ensures bad { IfErr result (λ answer. IsBad answer → (script : ScriptLines) → FitsScript script → text.now ≢ script_text script) }
+{
+    match script_of(alloc, text) {
+        Ok(script) => Ok(script),
+        Err(Refusal::Bad { left }) => Err(ScriptAnswer::Bad(ScriptFault {
+            line: line_number(text, left),
+            cause: ScriptCause::NotBuilt,
+        })),
+        Err(Refusal::NoMemory) => Err(ScriptAnswer::NoMemory),
+    }
+}

@@ -1,0 +1,58 @@
+//! A script, and why a text is none.
+use net_types::IfSpec;
+use world::{Begin, HostRow, Wake};
+
+/// A wake with the bytes of its frame.
+#[derive(Debug, Drop)]
+pub struct TurnLine {
+    pub wake: Wake,
+    pub bytes: Vec<u8>,
+}
+
+/// A life: how it begins, and what comes in its turns.
+#[derive(Debug, Drop)]
+pub struct LifeLines {
+    pub begin: Begin,
+    pub turns: Vec<TurnLine>,
+}
+
+/// What a script says.
+#[derive(Debug, Drop)]
+pub struct Script {
+    /// The lines of the configuration, each with its line feed.
+    pub conf: Vec<u8>,
+    /// The interfaces of the host, numbered from 1.
+    pub ifaces: Vec<IfSpec>,
+    /// The rows that the host holds at first.
+    pub rows: Vec<HostRow>,
+    pub life: LifeLines,
+}
+
+/// What is wrong with a line.
+#[derive(Clone, Copy, Debug, PartialEq, Eq)]
+pub enum ScriptCause {
+    /// A byte outside printable ASCII, or no line feed at the end.
+    NotText,
+    /// The first word is none that a line begins with.
+    Word,
+    /// The line may not stand there.
+    Order,
+    /// What follows the first word isn't of the line's form.
+    Form,
+    /// A line that isn't built yet.
+    NotBuilt,
+}
+
+/// The first bad line, from 1, and what is wrong with it.
+#[derive(Clone, Copy, Debug, PartialEq, Eq)]
+pub struct ScriptFault {
+    pub line: u64,
+    pub cause: ScriptCause,
+}
+
+/// Why there is no script.
+#[derive(Clone, Copy, Debug, PartialEq, Eq)]
+pub enum ScriptAnswer {
+    Bad(ScriptFault),
+    NoMemory,
+}
