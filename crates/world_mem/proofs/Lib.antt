@@ -1,2 +1,4 @@
 mod Fronts
 mod HostSteps
+mod FileMaps
+mod StoreSteps

@@ -1,1 +1,3 @@
 pub mod HostRecord
+pub mod LinkRecord
+pub mod StoreRecord

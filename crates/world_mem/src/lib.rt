@@ -2,7 +2,12 @@
 //! and keep a record of their calls.
 #![tactic(auto)]
 
+mod files;
 mod hosts;
+mod links;
 mod record;
+mod stores;
 
 pub use hosts::MemHost;
+pub use links::{MemLink, MemWake};
+pub use stores::{MemFile, MemStore};
