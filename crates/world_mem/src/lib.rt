@@ -3,11 +3,15 @@
 #![tactic(auto)]
 
 mod files;
+mod hooking;
 mod hosts;
 mod links;
 mod record;
 mod stores;
+mod streams;
 
+pub use hooking::{MemHooks, MemPoll};
 pub use hosts::MemHost;
 pub use links::{MemLink, MemWake};
 pub use stores::{MemFile, MemStore};
+pub use streams::{MemSink, MemSource};
