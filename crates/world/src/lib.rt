@@ -10,6 +10,8 @@ mod row_laws;
 mod rows;
 mod stores;
 mod streams;
+#[cfg(test)]
+mod tests;
 mod wakes;
 
 pub use faults::DeviceAnswer;
