@@ -15,10 +15,9 @@ use Rattle.world_mem.specs.StoreRecord.{entry_file}
 abbrev Entry : Type 0
 Entry = String Global × Vec ℕ
 
-
 put_at : (name : String Global) (bytes : Vec ℕ) (e : Entry) (es fs : List Entry) (r : Ordering) → name_cmp (string_bytes name) (string_bytes e.0) ≡ r → map entry_file fs ≡ put_file (record { name = string_bytes name; bytes = bytes.items }) (map entry_file es)
     → map entry_file (match_ordering r ((name, bytes) ∷ e ∷ es) ((e.0, bytes) ∷ es) (e ∷ fs))
-      ≡ match_ordering r ((record { name = string_bytes name; bytes = bytes.items }) ∷ entry_file e ∷ map entry_file es) ((record { name = string_bytes name; bytes = bytes.items }) ∷ map entry_file es) (entry_file e ∷ put_file (record { name = string_bytes name; bytes = bytes.items }) (map entry_file es))
+    ≡ match_ordering r ((record { name = string_bytes name; bytes = bytes.items }) ∷ entry_file e ∷ map entry_file es) ((record { name = string_bytes name; bytes = bytes.items }) ∷ map entry_file es) (entry_file e ∷ put_file (record { name = string_bytes name; bytes = bytes.items }) (map entry_file es))
 put_at name bytes e es fs Less is h = refl
 put_at name bytes e es fs Equal is h =
     let same : string_bytes e.0 ≡ string_bytes name = sym (exact_bytes (string_bytes name) (string_bytes e.0) is) in

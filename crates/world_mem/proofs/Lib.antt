@@ -2,3 +2,4 @@ mod Fronts
 mod HostSteps
 mod FileMaps
 mod StoreSteps
+mod FoundNumbers

@@ -31,7 +31,9 @@ start_failed (Started job done) = not done
 abbrev pub hooks_start : List MemPoll → List ℕ → HooksState
 hooks_start polls starts = record {
   told = record { polls = map poll_of polls; starts = 0; polled = 0; abandoned = 0; calls = [] };
-  running = false; failing = starts; failed_polls = 0
+  running = false;
+  failing = starts;
+  failed_polls = 0;
 }
 
 -- no more polls failed than were answered, and each child that ended late, was abandoned or runs was started

@@ -2,7 +2,7 @@ ghost use Rattle.std.specs.Prelude.{◌≡◌, map, IfOk, IfErr};
 ghost use Rattle.world.specs.HookCalls.{job_of, variable_of};
 ghost use Rattle.world_mem.specs.HookRecord.{hooks_start};
 
-use crate::record::{copy_text, enter, next_fails};
+use crate::record::{Numbers, copy_text, enter, next_fails};
 use net_types::Failed;
 use std::alloc::Global;
 use std::marker::Model;
@@ -21,7 +21,7 @@ pub enum MemPoll {
 
 /// A job that was to start, and whether it did.
 #[derive(Drop)]
-pub struct HookEntry {
+pub(crate) struct HookEntry {
     job: HookJob,
     done: bool,
 }
@@ -39,7 +39,7 @@ pub struct MemHooks {
     abandoned: u64,
     running: bool,
     starts: Vec<HookEntry>,
-    fails: Vec<u64>,
+    fails: Numbers,
 }
 
 impl Model for MemHooks {
@@ -48,7 +48,7 @@ impl Model for MemHooks {
 
     ghost Value = { HooksState };
 
-    ghost view = { λ hooks. record { told = record { polls = map poll_of (drop hooks.next hooks.polls.items); starts = length hooks.starts.items; polled = hooks.next + hooks.late; abandoned = hooks.abandoned; calls = map call_of hooks.starts.items }; running = hooks.running; failing = hooks.fails.items; failed_polls = hooks.failed } };
+    ghost view = { λ hooks. record { told = record { polls = map poll_of (drop hooks.next hooks.polls.items); starts = length hooks.starts.items; polled = hooks.next + hooks.late; abandoned = hooks.abandoned; calls = map call_of hooks.starts.items }; running = hooks.running; failing = hooks.fails; failed_polls = hooks.failed } };
 
     ghost invariant = { λ hooks. HoldsChildren hooks.next (length hooks.polls.items) hooks.failed hooks.late hooks.abandoned hooks.running (length hooks.starts.items) };
 }
@@ -67,7 +67,7 @@ impl MemHooks {
             abandoned: 0,
             running: false,
             starts: Vec::new(alloc),
-            fails: starts,
+            fails: Numbers::new(starts),
         }
     }
 }

@@ -9,6 +9,8 @@ mod links;
 mod record;
 mod stores;
 mod streams;
+#[cfg(test)]
+mod tests;
 
 pub use hooking::{MemHooks, MemPoll};
 pub use hosts::MemHost;

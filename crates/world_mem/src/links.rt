@@ -2,7 +2,7 @@ ghost use Rattle.std.specs.Prelude.{◌≡◌, [], length, take, map};
 ghost use Rattle.world.specs.LinkCalls.{frame_len, cut_wake};
 ghost use Rattle.world_mem.specs.LinkRecord.{given_of, link_start};
 
-use crate::record::{copy_bytes, enter, fill_front, make_room, next_number};
+use crate::record::{Numbers, copy_bytes, enter, fill_front, make_room, next_number};
 use net_types::{Failed, IfIndex};
 use std::alloc::Global;
 use std::marker::Model;
@@ -17,10 +17,15 @@ pub struct MemWake {
 
 /// A call that a link answered. What a wait gave follows from the wakes and the waits before it.
 #[derive(Drop)]
-pub enum LinkEntry {
+pub(crate) enum LinkEntry {
     /// A wait until a moment at the latest, with a buffer of so many bytes.
-    Wait { until: Option<u64>, room: usize },
-    FailedWait { until: Option<u64> },
+    Wait {
+        until: Option<u64>,
+        room: usize,
+    },
+    FailedWait {
+        until: Option<u64>,
+    },
     Send {
         iface: u32,
         frame: Vec<u8>,
@@ -41,8 +46,8 @@ pub struct MemLink {
     /// How many sends earlier lives made.
     earlier: u64,
     calls: Vec<LinkEntry>,
-    failing_sends: Vec<u64>,
-    failing_waits: Vec<u64>,
+    failing_sends: Numbers,
+    failing_waits: Numbers,
 }
 
 impl Model for MemLink {
@@ -50,7 +55,7 @@ impl Model for MemLink {
 
     ghost Value = { LinkState };
 
-    ghost view = { λ link. record { told = told_of (link_start link.begin link.wakes.items link.earlier) link.calls.items; failing_waits = link.failing_waits.items; failing_sends = link.failing_sends.items } };
+    ghost view = { λ link. record { told = told_of (link_start link.begin link.wakes.items link.earlier) link.calls.items; failing_waits = link.failing_waits; failing_sends = link.failing_sends } };
 
     ghost invariant = { λ link. HoldsWakes (told_of (link_start link.begin link.wakes.items link.earlier) link.calls.items) link.begin link.wakes.items link.next link.waits link.sends };
 }
@@ -58,7 +63,14 @@ impl Model for MemLink {
 impl MemLink {
     /// A link that begins so and gives these wakes in order, then `End`. Earlier lives made `sent` sends.
     /// It fails at the sends and the waits with these numbers: sends from 1 over all lives, waits from 1.
-    pub fn new(alloc: Global, begin: Begin, wakes: Vec<MemWake>, sent: u64, sends: Vec<u64>, waits: Vec<u64>) -> MemLink
+    pub fn new(
+        alloc: Global,
+        begin: Begin,
+        wakes: Vec<MemWake>,
+        sent: u64,
+        sends: Vec<u64>,
+        waits: Vec<u64>,
+    ) -> MemLink
         ensures { result ≡ record { told = link_start begin wakes.items sent; failing_waits = waits.items; failing_sends = sends.items } }
     {
         MemLink {
@@ -70,8 +82,8 @@ impl MemLink {
             sends: sent,
             earlier: sent,
             calls: Vec::new(alloc),
-            failing_sends: sends,
-            failing_waits: waits,
+            failing_sends: Numbers::new(sends),
+            failing_waits: Numbers::new(waits),
         }
     }
 
@@ -93,7 +105,13 @@ fn give(coming: &MemWake, buf: &mut [u8]) -> Wake
             iface,
             len: fill_front(buf, &coming.bytes),
         },
-        Event::Carrier { .. } | Event::Duplicate { .. } | Event::Release { .. } | Event::Rebind { .. } | Event::Stop | Event::Quiet | Event::End => coming.wake.event,
+        Event::Carrier { .. }
+        | Event::Duplicate { .. }
+        | Event::Release { .. }
+        | Event::Rebind { .. }
+        | Event::Stop
+        | Event::Quiet
+        | Event::End => coming.wake.event,
     };
     Wake {
         at: coming.wake.at,
@@ -123,7 +141,7 @@ impl Link for MemLink {
     fn wait(&mut self, until: Option<u64>, buf: &mut [u8]) -> Result<Wake, DeviceAnswer> {
         let number = next_number(self.waits)?;
         make_room(&mut self.calls)?;
-        if self.failing_waits.contains(&number) {
+        if self.failing_waits.has(number) {
             enter(&mut self.calls, LinkEntry::FailedWait { until });
             self.waits = number;
             return Err(DeviceAnswer::Failed);
@@ -148,7 +166,7 @@ impl Link for MemLink {
         let number = next_number(self.sends)?;
         make_room(&mut self.calls)?;
         let copy = copy_bytes(self.alloc, frame)?;
-        let fails = self.failing_sends.contains(&number);
+        let fails = self.failing_sends.has(number);
         enter(
             &mut self.calls,
             LinkEntry::Send {

@@ -4,6 +4,7 @@ ghost use Rattle.std.specs.Vec.{vec_capacity};
 ghost use Rattle.world.specs.Causes.{has_number};
 
 use std::alloc::Global;
+use std::marker::Model;
 use world::DeviceAnswer;
 
 /// Makes room for one more entry in a device's record.
@@ -18,8 +19,45 @@ pub(crate) fn make_room<E>(entries: &mut Vec<E>) -> Result<(), DeviceAnswer>
     }
 }
 
+/// The numbers of the calls that fail. One is found quickly where they stand in rising order.
+#[derive(Drop)]
+pub(crate) struct Numbers {
+    list: Vec<u64>,
+    rises: bool,
+}
+
+impl Model for Numbers {
+    ghost use Rattle.std.specs.Prelude.{◌≡◌, true, ℕ, List};
+    ghost use Rattle.std.specs.List.Sorted.{IsNonDecreasing};
+
+    ghost Value = { List ℕ };
+
+    ghost view = { λ numbers. numbers.list.items };
+
+    ghost invariant = { λ numbers. numbers.rises ≡ true → IsNonDecreasing numbers.list.items };
+}
+
+impl Numbers {
+    pub(crate) fn new(list: Vec<u64>) -> Numbers
+        ensures { result ≡ list.items }
+    {
+        let rises = list.is_sorted();
+        Numbers { list, rises }
+    }
+
+    pub(crate) fn has(&self, number: u64) -> bool
+        ensures { result ≡ has_number self.now number }
+    {
+        if self.rises {
+            self.list.binary_search(&number).is_ok()
+        } else {
+            self.list.contains(&number)
+        }
+    }
+}
+
 /// Makes room for one more entry, and says whether that call, by its number from 1, is one of those that fail.
-pub(crate) fn next_fails<E>(entries: &mut Vec<E>, fails: &[u64]) -> Result<bool, DeviceAnswer>
+pub(crate) fn next_fails<E>(entries: &mut Vec<E>, fails: &Numbers) -> Result<bool, DeviceAnswer>
     ensures items { entries.new.items ≡ entries.old.items }
     ensures room { OnOk result (vec_len entries.new < vec_capacity entries.new) }
     ensures fails { IfOk result (λ b. b ≡ has_number fails.now (length entries.old.items + 1)) }
@@ -27,7 +65,7 @@ pub(crate) fn next_fails<E>(entries: &mut Vec<E>, fails: &[u64]) -> Result<bool,
 {
     make_room(entries)?;
     let number = entries.len() as u64 + 1;
-    Ok(fails.contains(&number))
+    Ok(fails.has(number))
 }
 
 /// Enters a call for which there is room.

@@ -7,7 +7,7 @@ ghost use Rattle.world.specs.StoreCalls.{is_aside, file_at, put_file, rename_fil
 ghost use Rattle.world_mem.specs.StoreRecord.{store_start, entry_file, file_of};
 
 use crate::files::{Files, bytes_of, put, take_out};
-use crate::record::{copy_bytes, copy_text, enter, next_fails};
+use crate::record::{Numbers, copy_bytes, copy_text, enter, next_fails};
 use std::alloc::Global;
 use std::collections::BTreeMap;
 use std::marker::Model;
@@ -25,7 +25,7 @@ pub struct MemFile {
 
 /// A call that a store answered. What a listing or a reading gave follows from the files at first and the calls before it.
 #[derive(Drop)]
-pub enum StoreEntry {
+pub(crate) enum StoreEntry {
     List {
         done: bool,
     },
@@ -62,7 +62,7 @@ pub struct MemStore {
     first: Vec<MemFile>,
     files: Files,
     calls: Vec<StoreEntry>,
-    fails: Vec<u64>,
+    fails: Numbers,
 }
 
 impl Model for MemStore {
@@ -70,7 +70,7 @@ impl Model for MemStore {
 
     ghost Value = { StoreState };
 
-    ghost view = { λ store. record { told = told_after store.first.items store.calls.items; failing = store.fails.items } };
+    ghost view = { λ store. record { told = told_after store.first.items store.calls.items; failing = store.fails } };
 
     ghost invariant = { λ store. HoldsFiles (told_after store.first.items store.calls.items) store.files.entries store.calls.items };
 }
@@ -92,7 +92,7 @@ impl MemStore {
             first: files,
             files: held,
             calls: Vec::new(alloc),
-            fails,
+            fails: Numbers::new(fails),
         })
     }
 }
@@ -214,11 +214,23 @@ impl Store for MemStore {
         let fails = next_fails(&mut self.calls, &self.fails)?;
         let copy = copy_text(self.alloc, name)?;
         if fails {
-            enter(&mut self.calls, StoreEntry::Read { name: copy, done: false });
+            enter(
+                &mut self.calls,
+                StoreEntry::Read {
+                    name: copy,
+                    done: false,
+                },
+            );
             return Err(DeviceAnswer::Failed);
         }
         let found = append_file(&self.files, name, into)?;
-        enter(&mut self.calls, StoreEntry::Read { name: copy, done: true });
+        enter(
+            &mut self.calls,
+            StoreEntry::Read {
+                name: copy,
+                done: true,
+            },
+        );
         Ok(found)
     }
 
@@ -227,13 +239,27 @@ impl Store for MemStore {
         let copy = copy_text(self.alloc, name)?;
         let written = copy_bytes(self.alloc, bytes)?;
         if fails {
-            enter(&mut self.calls, StoreEntry::Write { name: copy, bytes: written, done: false });
+            enter(
+                &mut self.calls,
+                StoreEntry::Write {
+                    name: copy,
+                    bytes: written,
+                    done: false,
+                },
+            );
             return Err(DeviceAnswer::Failed);
         }
         let aside = aside_name(self.alloc, name)?;
         let content = copy_bytes(self.alloc, bytes)?;
         put(&mut self.files, aside, content)?;
-        enter(&mut self.calls, StoreEntry::Write { name: copy, bytes: written, done: true });
+        enter(
+            &mut self.calls,
+            StoreEntry::Write {
+                name: copy,
+                bytes: written,
+                done: true,
+            },
+        );
         Ok(())
     }
 
@@ -241,10 +267,22 @@ impl Store for MemStore {
         let fails = next_fails(&mut self.calls, &self.fails)?;
         let copy = copy_text(self.alloc, name)?;
         if fails {
-            enter(&mut self.calls, StoreEntry::Sync { name: copy, done: false });
+            enter(
+                &mut self.calls,
+                StoreEntry::Sync {
+                    name: copy,
+                    done: false,
+                },
+            );
             return Err(DeviceAnswer::Failed);
         }
-        enter(&mut self.calls, StoreEntry::Sync { name: copy, done: true });
+        enter(
+            &mut self.calls,
+            StoreEntry::Sync {
+                name: copy,
+                done: true,
+            },
+        );
         Ok(())
     }
 
@@ -252,15 +290,33 @@ impl Store for MemStore {
         let fails = next_fails(&mut self.calls, &self.fails)?;
         let copy = copy_text(self.alloc, name)?;
         if fails {
-            enter(&mut self.calls, StoreEntry::Rename { name: copy, done: false });
+            enter(
+                &mut self.calls,
+                StoreEntry::Rename {
+                    name: copy,
+                    done: false,
+                },
+            );
             return Err(DeviceAnswer::Failed);
         }
         let there = rename(self.alloc, &mut self.files, name)?;
         if !there {
-            enter(&mut self.calls, StoreEntry::Rename { name: copy, done: false });
+            enter(
+                &mut self.calls,
+                StoreEntry::Rename {
+                    name: copy,
+                    done: false,
+                },
+            );
             return Err(DeviceAnswer::Failed);
         }
-        enter(&mut self.calls, StoreEntry::Rename { name: copy, done: true });
+        enter(
+            &mut self.calls,
+            StoreEntry::Rename {
+                name: copy,
+                done: true,
+            },
+        );
         Ok(())
     }
 
@@ -268,11 +324,23 @@ impl Store for MemStore {
         let fails = next_fails(&mut self.calls, &self.fails)?;
         let copy = copy_text(self.alloc, name)?;
         if fails {
-            enter(&mut self.calls, StoreEntry::Remove { name: copy, done: false });
+            enter(
+                &mut self.calls,
+                StoreEntry::Remove {
+                    name: copy,
+                    done: false,
+                },
+            );
             return Err(DeviceAnswer::Failed);
         }
         take_out(&mut self.files, name);
-        enter(&mut self.calls, StoreEntry::Remove { name: copy, done: true });
+        enter(
+            &mut self.calls,
+            StoreEntry::Remove {
+                name: copy,
+                done: true,
+            },
+        );
         Ok(())
     }
 

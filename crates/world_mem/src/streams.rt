@@ -3,18 +3,18 @@ ghost use Rattle.world.specs.Causes.{HasCause, HasDeviceCause};
 ghost use Rattle.world.specs.Streams.{Reads, Writes};
 ghost use Rattle.world_mem.specs.StreamRecord.{SourceState, SinkState, call_fails, next_call, Counts, CountsWrite};
 
-use crate::record::fill_front;
+use crate::record::{Numbers, fill_front};
 use net_types::Failed;
 use std::alloc::Global;
 use std::marker::Model;
 use world::{DeviceAnswer, Sink, Source};
 
 /// Whether the next call, by its number from 1, is one of those that fail. Calls past the range of numbers have none.
-fn is_due(next: Option<u64>, fails: &[u64]) -> bool
+fn is_due(next: Option<u64>, fails: &Numbers) -> bool
     ensures { result ≡ call_fails next fails.now }
 {
     match next {
-        Some(number) => fails.contains(&number),
+        Some(number) => fails.has(number),
         None => false,
     }
 }
@@ -37,7 +37,7 @@ pub struct MemSource {
     at: usize,
     next: Option<u64>,
     failed: u64,
-    fails: Vec<u64>,
+    fails: Numbers,
 }
 
 impl Model for MemSource {
@@ -46,7 +46,7 @@ impl Model for MemSource {
 
     ghost Value = { SourceState };
 
-    ghost view = { λ source. record { left = drop source.at source.bytes.items; next = source.next; failed = source.failed; failing = source.fails.items } };
+    ghost view = { λ source. record { left = drop source.at source.bytes.items; next = source.next; failed = source.failed; failing = source.fails } };
 
     ghost invariant = { λ source. (source.at ≤ length source.bytes.items) × FewFailed source.failed source.next };
 }
@@ -61,7 +61,7 @@ impl MemSource {
             at: 0,
             next: Some(1),
             failed: 0,
-            fails,
+            fails: Numbers::new(fails),
         }
     }
 }
@@ -96,7 +96,7 @@ pub struct MemSink {
     written: Vec<u8>,
     next: Option<u64>,
     failed: u64,
-    fails: Vec<u64>,
+    fails: Numbers,
 }
 
 impl Model for MemSink {
@@ -104,7 +104,7 @@ impl Model for MemSink {
 
     ghost Value = { SinkState };
 
-    ghost view = { λ sink. record { written = sink.written.items; next = sink.next; failed = sink.failed; failing = sink.fails.items } };
+    ghost view = { λ sink. record { written = sink.written.items; next = sink.next; failed = sink.failed; failing = sink.fails } };
 
     ghost invariant = { λ sink. FewFailed sink.failed sink.next };
 }
@@ -118,7 +118,7 @@ impl MemSink {
             written: Vec::new(alloc),
             next: Some(1),
             failed: 0,
-            fails,
+            fails: Numbers::new(fails),
         }
     }
 
