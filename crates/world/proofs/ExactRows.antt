@@ -1,5 +1,5 @@
 -- Rows that compare as equal are equal.
-use Rattle.std.proofs.Common.{◌≡◌, ◌<◌, ℕ, refl, sym, ◌∙◌, arith}
+use Rattle.std.proofs.Common.{◌≡◌, ◌<◌, refl, arith}
 use Rattle.std.specs.declared.cmp.Ordering.{Ordering}
 use Rattle.std.specs.declared.cmp.Ordering.TheVariants.{Less, Equal, Greater}
 use Rattle.std.specs.Ordering.{ordering_then}
@@ -62,5 +62,5 @@ row_cmp_exact a b e =
     let p5 = both_equal _ _ p4.1 in
     let p6 = both_equal _ _ p5.1 in
     same_row a b (exact_unsigned _ _ p1.0) (exact_unsigned _ _ p3.0)
-      (same_net (row_net a) (row_net b) (exact_unsigned _ _ p2.0) (exact_unsigned _ _ p4.0) (exact_unsigned _ _ p5.0))
-      (exact_unsigned _ _ p6.0) (exact_unsigned _ _ p6.1)
+    (same_net (row_net a) (row_net b) (exact_unsigned _ _ p2.0) (exact_unsigned _ _ p4.0) (exact_unsigned _ _ p5.0))
+    (exact_unsigned _ _ p6.0) (exact_unsigned _ _ p6.1)

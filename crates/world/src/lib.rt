@@ -11,6 +11,8 @@ mod row_text;
 mod rows;
 mod stores;
 mod streams;
+#[cfg(test)]
+mod tests;
 mod wakes;
 
 pub use faults::DeviceAnswer;

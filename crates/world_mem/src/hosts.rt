@@ -3,7 +3,7 @@ ghost use Rattle.std.specs.BTreeSet.{IsOrdered};
 ghost use Rattle.world.specs.Rows.{IsRow};
 ghost use Rattle.world.specs.RowOrder.{in_row_order, row_cmp};
 
-use crate::record::{enter, next_fails};
+use crate::record::{Numbers, enter, next_fails};
 use std::alloc::Global;
 use std::collections::BTreeSet;
 use std::marker::Model;
@@ -11,7 +11,7 @@ use world::{DeviceAnswer, Host, HostRow, NoMemory};
 
 /// A call that a host answered. What a listing gave follows from the rows at the start and the calls before it.
 #[derive(Clone, Copy, Drop)]
-pub enum HostEntry {
+pub(crate) enum HostEntry {
     List { done: bool },
     Add { row: HostRow, done: bool },
     Remove { row: HostRow, done: bool },
@@ -23,7 +23,7 @@ pub struct MemHost {
     first: Vec<HostRow>,
     rows: BTreeSet<HostRow>,
     calls: Vec<HostEntry>,
-    fails: Vec<u64>,
+    fails: Numbers,
 }
 
 impl Model for MemHost {
@@ -31,7 +31,7 @@ impl Model for MemHost {
 
     ghost Value = { HostState };
 
-    ghost view = { λ host. record { told = told_from host.first.items host.calls.items; failing = host.fails.items } };
+    ghost view = { λ host. record { told = told_from host.first.items host.calls.items; failing = host.fails } };
 
     ghost invariant = { λ host. HoldsRows (told_from host.first.items host.calls.items) host.rows.keys host.calls.items };
 }
@@ -52,7 +52,7 @@ impl MemHost {
             first: rows,
             rows: held,
             calls: Vec::new(alloc),
-            fails,
+            fails: Numbers::new(fails),
         })
     }
 }
@@ -97,23 +97,47 @@ impl Host for MemHost {
 
     fn add(&mut self, row: &HostRow) -> Result<(), DeviceAnswer> {
         if next_fails(&mut self.calls, &self.fails)? {
-            enter(&mut self.calls, HostEntry::Add { row: *row, done: false });
+            enter(
+                &mut self.calls,
+                HostEntry::Add {
+                    row: *row,
+                    done: false,
+                },
+            );
             return Err(DeviceAnswer::Failed);
         }
         let Ok(_) = self.rows.insert(*row) else {
             return Err(DeviceAnswer::NoMemory);
         };
-        enter(&mut self.calls, HostEntry::Add { row: *row, done: true });
+        enter(
+            &mut self.calls,
+            HostEntry::Add {
+                row: *row,
+                done: true,
+            },
+        );
         Ok(())
     }
 
     fn remove(&mut self, row: &HostRow) -> Result<(), DeviceAnswer> {
         if next_fails(&mut self.calls, &self.fails)? {
-            enter(&mut self.calls, HostEntry::Remove { row: *row, done: false });
+            enter(
+                &mut self.calls,
+                HostEntry::Remove {
+                    row: *row,
+                    done: false,
+                },
+            );
             return Err(DeviceAnswer::Failed);
         }
         self.rows.remove(row);
-        enter(&mut self.calls, HostEntry::Remove { row: *row, done: true });
+        enter(
+            &mut self.calls,
+            HostEntry::Remove {
+                row: *row,
+                done: true,
+            },
+        );
         Ok(())
     }
 }

@@ -2,7 +2,18 @@
 //! and keep a record of their calls.
 #![tactic(auto)]
 
+mod files;
+mod hooking;
 mod hosts;
+mod links;
 mod record;
+mod stores;
+mod streams;
+#[cfg(test)]
+mod tests;
 
+pub use hooking::{MemHooks, MemPoll};
 pub use hosts::MemHost;
+pub use links::{MemLink, MemWake};
+pub use stores::{MemFile, MemStore};
+pub use streams::{MemSink, MemSource};
