@@ -1,5 +1,6 @@
 -- Laws of rows in row order.
-use Rattle.std.proofs.Common.{◌≡◌, Bool, true, false, ◌||◌, List, [], ◌∷◌, ◌++◌, refl, sym, ap, ◌∙◌, append_assoc, append-nil}
+use Rattle.std.proofs.Common.{◌≡◌, Bool, true, false, ◌||◌, List, [], ◌∷◌, ◌++◌, refl, sym, ap, ◌∙◌, append_assoc, append-nil, ◌+◌, ◌<◌, length, get_or, take}
+use Rattle.std.proofs.lemmas.List.{take_more}
 use Rattle.std.specs.List.{list_any, AllByRecursion}
 use Rattle.std.specs.List.Sorted.{IsStrictlySortedBy}
 use Rattle.std.specs.declared.cmp.Ordering.{Ordering}
@@ -79,3 +80,13 @@ in_order_has rows q = put_has q [] rows ∙ or_none (has_row rows q)
     or_none : (b : Bool) → (b || false) ≡ b
     or_none true = refl
     or_none false = refl
+
+-- ---- one row after another
+
+pub put_in_order_more : (sorted xs : List HostRow) (x : HostRow) → put_in_order sorted (xs ++ x ∷ []) ≡ with_row x (put_in_order sorted xs)
+put_in_order_more sorted [] x = refl
+put_in_order_more sorted (y ∷ xs) x = put_in_order_more (with_row y sorted) xs x
+
+-- the step of a loop that puts the rows of a list in order
+pub in_order_more : (rows : List HostRow) (i : ℕ) (d : HostRow) → i < length rows → in_row_order (take (i + 1) rows) ≡ with_row (get_or rows i d) (in_row_order (take i rows))
+in_order_more rows i d lt = rw (take_more rows i d lt) (put_in_order_more [] (take i rows) (get_or rows i d))
