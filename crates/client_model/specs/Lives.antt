@@ -8,7 +8,7 @@ use Rattle.client_model.specs.declared.interfaces.Managed.{Managed}
 use Rattle.client_model.specs.Interfaces.{stepped, rows_of}
 use Rattle.client_model.specs.HostTurn.{AnswersAll, host_calls}
 use Rattle.client_model.specs.Turns.{Life, Met, moment_of, turned, until, life_after}
-use Rattle.client_model.specs.Opening.{OpeningMet, file_names, opened_client, opened_life}
+use Rattle.client_model.specs.Opening.{Aside, OpeningMet, file_names, opened_client, opened_life}
 use Rattle.client_model.specs.Lines as lines
 use Rattle.client_model.specs.Lines.{Line}
 
@@ -39,18 +39,16 @@ AllAnswered managed life (met ∷ mets) =
     AnswersAll managed life.known (rows_of (stepped met.wake.event life.client)) met.host
     × AllAnswered managed (turned managed life met) mets
 
-abbrev pub removal_lines : List (List ℕ) → List Bool → List Line
-removal_lines [] removed = []
-removal_lines (name ∷ names) [] = []
-removal_lines (name ∷ names) (done ∷ removed) = lines.Removed name done ∷ removal_lines names removed
+abbrev pub removal_line : Aside → Line
+removal_line aside = lines.Removed aside.name aside.removed
 
 abbrev pub settle_lines : Option Bool → List Line
 settle_lines None = []
 settle_lines (Some done) = lines.Settled done ∷ []
 
-abbrev pub aside_lines : Option (List (List ℕ)) → List Bool → Option Bool → List Line
-aside_lines None removed settled = lines.AsidesFailed ∷ []
-aside_lines (Some names) removed settled = lines.Asides names ∷ (removal_lines names removed ++ settle_lines settled)
+abbrev pub aside_lines : Option (List Aside) → Option Bool → List Line
+aside_lines None settled = lines.AsidesFailed ∷ []
+aside_lines (Some asides) settled = lines.Asides (map (λ aside. aside.name) asides) ∷ (map removal_line asides ++ settle_lines settled)
 
 abbrev pub reading_lines : List (List ℕ) → List Reading → List Line
 reading_lines [] readings = []
@@ -59,7 +57,7 @@ reading_lines (name ∷ names) (reading ∷ readings) = lines.Read name reading 
 
 abbrev pub opening_lines : List Managed → OpeningMet → List Line
 opening_lines managed met =
-    lines.Start met.begin ∷ (aside_lines met.asides met.removed met.settled ++ (reading_lines file_names met.readings
+    lines.Start met.begin ∷ (aside_lines met.asides met.settled ++ (reading_lines file_names met.readings
     ++ (host_lines (host_calls managed None (rows_of (opened_client managed met)) met.host)
     ++ lines.Until (until (opened_life managed met)) ∷ [])))
 

@@ -7,13 +7,16 @@ use Rattle.client_model.specs.Interfaces.{Client, opening, rows_of}
 use Rattle.client_model.specs.HostTurn.{HostMet, AnswersAll, known_after}
 use Rattle.client_model.specs.Turns.{Life, capped}
 
+-- an aside that was listed, and whether it was removed
+pub record Aside : Type 0 where
+  pub name : List ℕ
+  pub removed : Bool
+
 -- what an opening met
 pub record OpeningMet : Type 0 where
   pub begin : Begin
-  -- the names of the asides, nothing where the listing failed
-  pub asides : Option (List (List ℕ))
-  -- for each aside, whether it was removed; and whether that was settled, where there was any
-  pub removed : List Bool
+  -- the asides, nothing where the listing failed; and whether the removals were settled, where there was any
+  pub asides : Option (List Aside)
   pub settled : Option Bool
   -- for each file, what reading it gave
   pub readings : List Reading
@@ -23,15 +26,12 @@ pub record OpeningMet : Type 0 where
 abbrev pub file_names : List (List ℕ)
 file_names = codes "resolv.conf" ∷ []
 
-abbrev pub listed : Option (List (List ℕ)) → List (List ℕ)
-listed None = []
-listed (Some names) = names
-
 -- Where there was an aside, the removals are settled.
-abbrev pub SettlesIfAny : List (List ℕ) → Option Bool → Type 0
-SettlesIfAny [] settled = settled ≡ None
-SettlesIfAny (name ∷ names) None = ⊥
-SettlesIfAny (name ∷ names) (Some done) = Unit {0}
+abbrev pub SettlesIfAny : Option (List Aside) → Option Bool → Type 0
+SettlesIfAny None settled = settled ≡ None
+SettlesIfAny (Some []) settled = settled ≡ None
+SettlesIfAny (Some (aside ∷ asides)) None = ⊥
+SettlesIfAny (Some (aside ∷ asides)) (Some done) = Unit {0}
 
 abbrev pub opened_client : List Managed → OpeningMet → Client
 opened_client managed met = opening managed met.begin.up
@@ -43,7 +43,6 @@ opened_life managed met =
 
 -- each call has its answer
 pub record Opens (managed : List Managed) (met : OpeningMet) : Type 0 where
-  pub removed : length met.removed ≡ length (listed met.asides)
-  pub settled : SettlesIfAny (listed met.asides) met.settled
+  pub settled : SettlesIfAny met.asides met.settled
   pub readings : length met.readings ≡ length file_names
   pub host : AnswersAll managed None (rows_of (opened_client managed met)) met.host

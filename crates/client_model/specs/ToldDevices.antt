@@ -1,5 +1,5 @@
 -- What devices that tell what they hold and which calls fail make of a life: it is determined.
-use Rattle.std.specs.Prelude.{ℕ, ◌≡◌, ◌+◌, Bool, true, false, not, if◌then◌else◌, List, [], ◌∷◌, ◌++◌, map, length, take, Option, Some, None}
+use Rattle.std.specs.Prelude.{ℕ, ◌≡◌, ◌+◌, Bool, true, false, not, ◌||◌, if◌then◌else◌, List, [], ◌∷◌, ◌++◌, map, length, take, Option, Some, None}
 use Rattle.world.specs.Causes.{has_number}
 use Rattle.world.specs.declared.rows.HostRow.{HostRow}
 use Rattle.world.specs.declared.wakes.Begin.{Begin}
@@ -10,7 +10,7 @@ use Rattle.world.specs.StoreCalls.{StoreTold, Reading, Missing}
 use Rattle.client_model.specs.declared.interfaces.Managed.{Managed}
 use Rattle.client_model.specs.Interfaces.{stepped, rows_of, opening}
 use Rattle.client_model.specs.HostTurn.{Change, Remove, Add, HostMet, change_call, applied, changes_from, learnt}
-use Rattle.client_model.specs.Turns.{Life, Met, turned, is_over}
+use Rattle.client_model.specs.Turns.{Life, Met, turned, is_over, is_end}
 use Rattle.client_model.specs.Opening.{OpeningMet, file_names, opened_life}
 
 -- whether the host's next call fails
@@ -77,14 +77,14 @@ abbrev pub told_turns : List Managed → List ℕ → Life → HostTold → List
 told_turns managed failing life told [] = []
 told_turns managed failing life told (given ∷ coming) =
     let turn = told_turn managed failing life told given in
-    if is_over life then [] else turn.answer ∷ told_turns managed failing (turned managed life turn.answer) turn.told coming
+    if is_over life || is_end given.wake.event then [] else turn.answer ∷ told_turns managed failing (turned managed life turn.answer) turn.told coming
 
 -- an opening over a store without files and without failures
 abbrev pub told_opening : List Managed → List ℕ → Begin → HostTold → HostStep OpeningMet
 told_opening managed failing begin told =
     let host = told_host managed failing None (rows_of (opening managed begin.up)) told in
     record {
-      answer = record { begin = begin; asides = Some []; removed = []; settled = None; readings = map (λ name. Missing) file_names; host = host.answer };
+      answer = record { begin = begin; asides = Some []; settled = None; readings = map (λ name. Missing) file_names; host = host.answer };
       told = host.told;
     }
 

@@ -1,7 +1,7 @@
 -- One turn of a life: a wake, the client's step, the host calls, and the moment that the next wait is asked for.
 use Rattle.std.specs.Prelude.{ℕ, ◌+◌, ◌-◌, ◌^◌, Bool, true, false, min, max, nat_le, if◌then◌else◌, List, [], ◌∷◌, Option, Some, None}
 use Rattle.world.specs.declared.wakes.Event.{Event}
-use Rattle.world.specs.declared.wakes.Event.TheVariants.{Stop}
+use Rattle.world.specs.declared.wakes.Event.TheVariants.{Stop, End}
 use Rattle.world.specs.declared.wakes.Wake.{Wake}
 use Rattle.world.specs.declared.rows.HostRow.{HostRow}
 use Rattle.client_model.specs.declared.interfaces.Managed.{Managed}
@@ -30,6 +30,11 @@ capped at = min at (10 ^ 15 - 1)
 
 abbrev pub moment_of : Life → Wake → ℕ
 moment_of life wake = max life.now (capped wake.at)
+
+-- nothing more comes
+abbrev pub is_end : Event → Bool
+is_end End = true
+is_end event = false
 
 -- the first stop counts
 abbrev pub stop_after : Option ℕ → Event → ℕ → Option ℕ

@@ -3,3 +3,4 @@ pub mod Makings
 pub mod Calls
 pub mod Printings
 pub mod Stretches
+pub mod OneTurn

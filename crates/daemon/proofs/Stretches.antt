@@ -9,7 +9,7 @@ use Rattle.client_model.specs.Turns.{Life, Met, life_after, turned, is_over}
 use Rattle.client_model.specs.Lives.{AllAnswered, turn_lines, turns_lines}
 use Rattle.client_model.specs.Lines.{Line, line_text, lines_text}
 use Rattle.client_model.specs.ToldDevices.{told_turns}
-use Rattle.daemon.specs.Serving.{WritesLines, IsRest, AreForetold, Goes}
+use Rattle.daemon.specs.Serving.{WritesLines, IsRest, AreForetold, AreWhole, Passes, Goes, Ends}
 
 life_after-append : (managed : List Managed) (from : Life) (a b : List Met) → life_after managed from (a ++ b) ≡ life_after managed (life_after managed from a) b
 life_after-append managed from [] b = refl
@@ -58,16 +58,43 @@ foretold_then managed (Some f) a b from mid to (Some h) host_mid host_to None li
 foretold_then managed (Some f) a b from mid to (Some h) host_mid host_to (Some l) link_mid link_to p q =
     rest_then managed f (told_turns managed f from h l.coming) (length l.coming) a b mid to host_mid host_to link_mid link_to p q
 
-pub goes_then : (managed : List Managed) (failing : Option (List ℕ)) (from mid to : Life) (host host_mid host_to : Option HostTold) (link link_mid link_to : Option LinkTold) (out out_mid out_to : Option (List ℕ)) (a b : List Met)
-    → Goes managed failing from host link out mid host_mid link_mid out_mid a → Goes managed failing mid host_mid link_mid out_mid to host_to link_to out_to b
-    → Goes managed failing from host link out to host_to link_to out_to (a ++ b)
-goes_then managed failing from mid to host host_mid host_to link link_mid link_to out out_mid out_to a b p q = record {
+pub passes_then : (managed : List Managed) (from mid to : Life) (out out_mid out_to : Option (List ℕ)) (a b : List Met)
+    → Passes managed from out mid out_mid a → Passes managed mid out_mid to out_to b → Passes managed from out to out_to (a ++ b)
+passes_then managed from mid to out out_mid out_to a b p q = record {
   after = q.after ∙ ap (λ (life : Life). life_after managed life b) p.after ∙ sym (life_after-append managed from a b);
   answers = answered-append managed from a b p.answers (subst (λ (life : Life). AllAnswered managed life b) p.after q.answers);
   written = subst (λ (ls : List Line). WritesLines out out_to ls) (sym (turns_lines-append managed from a b))
     (lines_then out out_mid out_to (turns_lines managed from a) (turns_lines managed (life_after managed from a) b) p.written
       (subst (λ (life : Life). WritesLines out_mid out_to (turns_lines managed life b)) p.after q.written));
+}
+
+pub goes_then : (managed : List Managed) (failing : Option (List ℕ)) (from mid to : Life) (host host_mid host_to : Option HostTold) (link link_mid link_to : Option LinkTold) (out out_mid out_to : Option (List ℕ)) (a b : List Met)
+    → Goes managed failing from host link out mid host_mid link_mid out_mid a → Goes managed failing mid host_mid link_mid out_mid to host_to link_to out_to b
+    → Goes managed failing from host link out to host_to link_to out_to (a ++ b)
+goes_then managed failing from mid to host host_mid host_to link link_mid link_to out out_mid out_to a b p q = record {
+  passes = passes_then managed from mid to out out_mid out_to a b p.passes q.passes;
   foretold = foretold_then managed failing a b from mid to host host_mid host_to link link_mid link_to p.foretold q.foretold;
+}
+
+whole_rest : (managed : List Managed) (failing : List ℕ) (foretold : List Met) (count : ℕ) (a b : List Met) (mid : Life) (host_mid : Option HostTold) (link_mid : Option LinkTold)
+    → IsRest managed failing foretold count a mid host_mid link_mid → AreWhole managed (Some failing) mid host_mid link_mid b → foretold ≡ a ++ b
+whole_rest managed failing foretold count a b mid None link_mid p q = absurd p
+whole_rest managed failing foretold count a b mid (Some h) None p q = absurd p
+whole_rest managed failing foretold count a b mid (Some h) (Some l) p q = p.0 ∙ ap (λ (ms : List Met). a ++ ms) q
+
+whole_then : (managed : List Managed) (failing : Option (List ℕ)) (a b : List Met) (from mid : Life) (host host_mid : Option HostTold) (link link_mid : Option LinkTold)
+    → AreForetold managed failing from host link a mid host_mid link_mid → AreWhole managed failing mid host_mid link_mid b → AreWhole managed failing from host link (a ++ b)
+whole_then managed None a b from mid host host_mid link link_mid p q = tt
+whole_then managed (Some f) a b from mid None host_mid link link_mid p q = tt
+whole_then managed (Some f) a b from mid (Some h) host_mid None link_mid p q = tt
+whole_then managed (Some f) a b from mid (Some h) host_mid (Some l) link_mid p q = whole_rest managed f (told_turns managed f from h l.coming) (length l.coming) a b mid host_mid link_mid p q
+
+pub ends_then : (managed : List Managed) (failing : Option (List ℕ)) (from mid to : Life) (host host_mid : Option HostTold) (link link_mid : Option LinkTold) (out out_mid out_to : Option (List ℕ)) (a b : List Met)
+    → Goes managed failing from host link out mid host_mid link_mid out_mid a → Ends managed failing mid host_mid link_mid out_mid to out_to b
+    → Ends managed failing from host link out to out_to (a ++ b)
+ends_then managed failing from mid to host host_mid link link_mid out out_mid out_to a b p q = record {
+  passes = passes_then managed from mid to out out_mid out_to a b p.passes q.passes;
+  whole = whole_then managed failing a b from mid host host_mid link link_mid p.foretold q.whole;
 }
 
 rest_here : (managed : List Managed) (failing : Option (List ℕ)) (life : Life) (host : Option HostTold) (link : Option LinkTold) → AreForetold managed failing life host link [] life host link
@@ -76,11 +103,9 @@ rest_here managed (Some f) life None link = tt
 rest_here managed (Some f) life (Some h) None = tt
 rest_here managed (Some f) life (Some h) (Some l) = (refl, omega arith)
 
+pub passes_none : (managed : List Managed) (life : Life) (out : Option (List ℕ)) → Passes managed life out life out []
+passes_none managed life out = record { after = refl; answers = tt; written = lines_none out }
+
 pub goes_nowhere : (managed : List Managed) (failing : Option (List ℕ)) (life : Life) (host : Option HostTold) (link : Option LinkTold) (out : Option (List ℕ))
     → Goes managed failing life host link out life host link out []
-goes_nowhere managed failing life host link out = record {
-  after = refl;
-  answers = tt;
-  written = lines_none out;
-  foretold = rest_here managed failing life host link;
-}
+goes_nowhere managed failing life host link out = record { passes = passes_none managed life out; foretold = rest_here managed failing life host link }

@@ -4,3 +4,4 @@ pub mod Lives
 pub mod TurnsMade
 pub mod Serving
 pub mod Waking
+pub mod Openings

@@ -29,18 +29,32 @@ AreForetold managed (Some failing) from (Some host) None mets to host_to link_to
 AreForetold managed (Some failing) from (Some host) (Some link) mets to host_to link_to =
     IsRest managed failing (told_turns managed failing from host link.coming) (length link.coming) mets to host_to link_to
 
-pub record Goes (managed : List Managed) (failing : Option (List ℕ))
-    (from : Life) (host_from : Option HostTold) (link_from : Option LinkTold) (out_from : Option (List ℕ))
-    (to : Life) (host_to : Option HostTold) (link_to : Option LinkTold) (out_to : Option (List ℕ)) (mets : List Met) : Type 0 where
+-- The turns met are all that the devices foretold.
+abbrev pub AreWhole : List Managed → Option (List ℕ) → Life → Option HostTold → Option LinkTold → List Met → Type 0
+AreWhole managed None from host link mets = Unit {0}
+AreWhole managed (Some failing) from None link mets = Unit {0}
+AreWhole managed (Some failing) from (Some host) None mets = Unit {0}
+AreWhole managed (Some failing) from (Some host) (Some link) mets = told_turns managed failing from host link.coming ≡ mets
+
+-- turns were handled, and their lines were written
+pub record Passes (managed : List Managed) (from : Life) (out_from : Option (List ℕ)) (to : Life) (out_to : Option (List ℕ)) (mets : List Met) : Type 0 where
   pub after : to ≡ life_after managed from mets
   pub answers : AllAnswered managed from mets
   pub written : WritesLines out_from out_to (turns_lines managed from mets)
+
+-- a life goes on after these turns
+pub record Goes (managed : List Managed) (failing : Option (List ℕ))
+    (from : Life) (host_from : Option HostTold) (link_from : Option LinkTold) (out_from : Option (List ℕ))
+    (to : Life) (host_to : Option HostTold) (link_to : Option LinkTold) (out_to : Option (List ℕ)) (mets : List Met) : Type 0 where
+  pub passes : Passes managed from out_from to out_to mets
   pub foretold : AreForetold managed failing from host_from link_from mets to host_to link_to
 
--- nothing more comes
-abbrev pub IsUsedUp : Option LinkTold → Type 0
-IsUsedUp None = Unit {0}
-IsUsedUp (Some link) = link.coming ≡ []
+-- a life is over after these turns
+pub record Ends (managed : List Managed) (failing : Option (List ℕ))
+    (from : Life) (host_from : Option HostTold) (link_from : Option LinkTold) (out_from : Option (List ℕ))
+    (to : Life) (out_to : Option (List ℕ)) (mets : List Met) : Type 0 where
+  pub passes : Passes managed from out_from to out_to mets
+  pub whole : AreWhole managed failing from host_from link_from mets
 
 -- why a life was cut off: only where the count of that device rose
 abbrev pub HasServeCause : ServeEnd → ℕ → ℕ → ℕ → ℕ → Type 0

@@ -6,6 +6,7 @@ mod host_changes;
 mod host_lines;
 mod host_turns;
 mod lives;
+mod openings;
 mod serving;
 mod turns;
 mod waking;

@@ -1,10 +1,10 @@
 ghost use Rattle.std.specs.Prelude.{◌≡◌, ◌≤◌, ◌<◌, [], ◌∷◌, Bool, true, false, Some, None, Ok, Err, ◌≢◌, IfOk, IfErr, length, take};
 ghost use Rattle.world.specs.LinkCalls.{frame_len, Waits};
 ghost use Rattle.client_model.specs.Lines as lines;
-ghost use Rattle.client_model.specs.Turns.{is_over};
+ghost use Rattle.client_model.specs.Turns.{is_over, is_end};
 ghost use Rattle.daemon.specs.Lives.{life_of, IsTimely};
-ghost use Rattle.daemon.specs.Serving.{WritesLines, Goes, IsUsedUp, HasServeCause};
-ghost use Rattle.daemon.specs.Waking.{is_end, WritesBytes, IsOneTurn};
+ghost use Rattle.daemon.specs.Serving.{HasServeCause};
+ghost use Rattle.daemon.specs.Waking.{WritesBytes, IsOneTurn};
 
 use crate::devices::Devices;
 use crate::lives::Life;
@@ -69,6 +69,15 @@ fn frame_size(event: Event) -> usize
     }
 }
 
+/// The first bytes of a buffer.
+fn front(buf: &[u8], len: usize) -> &[u8]
+    requires { len ≤ length buf.now }
+    ensures { result.now ≡ take len buf.now }
+{
+    let (front, _rest) = buf.split_at(len);
+    front
+}
+
 /// Where a life stands after a wake.
 #[derive(Drop)]
 pub enum Woken {
@@ -108,7 +117,7 @@ pub fn one_turn<O: Sink, L: Link, S: Store, H: Host, K: Hooks>(
         managed,
         life,
         wake,
-        &buf[..len],
+        front(buf, len),
         &mut live.host,
         text,
     )?;

@@ -62,12 +62,3 @@ abbrev pub cleared_calls : Clearing → List StoreCall
 cleared_calls clearing =
     listing_calls (map (λ cleared. string_bytes cleared.name) clearing.removed.items)
     ++ (removal_calls clearing.removed.items ++ settling_calls clearing.settled)
-
--- the files after a removal
-abbrev pub without_one : Bool → List ℕ → List StoreFile → List StoreFile
-without_one done name files = if done then drop_file name files else files
-
--- the files without those that were removed
-abbrev pub without : List Cleared → List StoreFile → List StoreFile
-without [] files = files
-without (cleared ∷ rest) files = without rest (without_one cleared.ok (string_bytes cleared.name) files)
