@@ -6,3 +6,6 @@ mod static_rows;
 mod wanting;
 
 pub use clients::{Core, core_open, rows, step};
+
+#[cfg(test)]
+mod tests;

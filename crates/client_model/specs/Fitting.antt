@@ -1,5 +1,5 @@
 -- Which interfaces the configuration can name.
-use Rattle.std.specs.Prelude.{ℕ, ◌^◌, ◌<◌, ◌≤◌, Option, Some, None, IfSome, List}
+use Rattle.std.specs.Prelude.{IfSome, List}
 use Rattle.std.specs.List.{AllByRecursion}
 use Rattle.net_types.specs.AddressText.{FitsIp4, FitsNet4}
 use Rattle.world.specs.Rows.{IsInterface}

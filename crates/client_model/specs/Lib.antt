@@ -1,6 +1,7 @@
 pub mod StaticRows
 pub mod Interfaces
 pub mod Fitting
+pub mod StaticBasis
 pub mod HostTurn
 pub mod Turns
 pub mod Opening

@@ -1,5 +1,5 @@
 -- The lines of a transcript, and their texts.
-use Rattle.std.specs.Prelude.{ℕ, zero, suc, Bool, true, false, if◌then◌else◌, List, [], ◌∷◌, ◌++◌, map, filter, flat_map, codes, decimal, Option, Some, None}
+use Rattle.std.specs.Prelude.{ℕ, zero, suc, Bool, true, false, List, [], ◌∷◌, ◌++◌, map, filter, flat_map, codes, decimal, Option, Some, None}
 use Rattle.std.specs.List.{join_with_byte}
 use Rattle.net_types.specs.declared.interface.IfIndex.{IfIndex}
 use Rattle.net_types.specs.declared.interface.IfSpec.{IfSpec}

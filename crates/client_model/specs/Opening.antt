@@ -1,5 +1,5 @@
 -- The opening of a life: asides are cleared, the files read, the client opened and the host's table brought about.
-use Rattle.std.specs.Prelude.{ℕ, ◌≡◌, Bool, List, [], ◌∷◌, length, map, codes, Option, Some, None}
+use Rattle.std.specs.Prelude.{ℕ, ◌≡◌, Bool, List, [], ◌∷◌, length, codes, Option, Some, None}
 use Rattle.world.specs.declared.wakes.Begin.{Begin}
 use Rattle.world.specs.StoreCalls.{Reading}
 use Rattle.client_model.specs.declared.interfaces.Managed.{Managed}

@@ -1,8 +1,8 @@
 -- Which text is a script, as far as scripts are built, and the transcript of its lives.
-use Rattle.std.specs.Prelude.{ℕ, ◌≡◌, ◌+◌, ◌^◌, ◌<◌, ◌≤◌, Bool, List, [], ◌∷◌, ◌++◌, map, flat_map, length, codes, decimal, All, AllPairs}
+use Rattle.std.specs.Prelude.{ℕ, ◌≡◌, ◌+◌, ◌^◌, ◌<◌, ◌≤◌, List, [], ◌∷◌, ◌++◌, flat_map, length, codes, All, AllPairs}
 use Rattle.net_types.specs.declared.interface.IfSpec.{IfSpec}
 use Rattle.net_types.specs.AddressText.{FitsMac}
-use Rattle.net_types.specs.NameText.{name_text, FitsName}
+use Rattle.net_types.specs.NameText.{FitsName}
 use Rattle.net_types.specs.Marks.{Lacks}
 use Rattle.world.specs.declared.wakes.Begin.{Begin}
 use Rattle.world.specs.declared.wakes.Event.{Event}

@@ -2,5 +2,7 @@
 #![tactic(auto)]
 
 mod interfaces;
+mod laws;
 
 pub use interfaces::{Iface, Managed, StaticLine};
+pub use laws::addresses_have_a_basis;
