@@ -1,7 +1,6 @@
 -- The list of interfaces with carrier, one number after another.
-use Rattle.std.proofs.Common.{◌≡◌, ℕ, zero, suc, ◌+◌, ◌-◌, ◌<◌, ◌≤◌, Bool, true, false, List, [], ◌∷◌, ◌++◌, length, take, filter, flat_map, decimal, refl, sym, ◌∙◌, ap, arith, add-one, append_assoc}
-use Rattle.std.specs.Prelude.{map, codes}
-use Rattle.std.specs.List.{join_with_byte}
+use Rattle.std.proofs.Common.{◌≡◌, ℕ, suc, ◌+◌, ◌-◌, ◌<◌, ◌≤◌, Bool, true, false, List, [], ◌∷◌, ◌++◌, length, take, filter, flat_map, decimal, refl, sym, ◌∙◌, ap, arith, add-one, append_assoc}
+use Rattle.std.specs.Prelude.{codes}
 use Rattle.std.proofs.lemmas.List.{append-nil, length-take, take-append-le}
 use Rattle.std.proofs.Math.Seq.{take-length}
 use Rattle.client_model.specs.Interfaces.{is_up}

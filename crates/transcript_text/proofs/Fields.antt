@@ -1,6 +1,6 @@
 -- The fields of a line, read from its text.
-use Rattle.std.proofs.Common.{◌≡◌, ℕ, zero, suc, ◌+◌, ◌-◌, ◌*◌, ◌^◌, ◌<◌, ◌≤◌, Bool, true, false, List, [], ◌∷◌, ◌++◌, length, take, filter, flat_map, decimal, refl, sym, ◌∙◌, ap, arith, Some, None, Option}
-use Rattle.std.specs.Prelude.{codes, bytes_eq, unwrap_or}
+use Rattle.std.proofs.Common.{◌≡◌, ℕ, ◌^◌, ◌<◌, List, [], ◌∷◌, ◌++◌, decimal, refl, arith, Some, None, Option}
+use Rattle.std.specs.Prelude.{unwrap_or}
 use Rattle.net_types.specs.declared.address.Ip4.{Ip4}
 use Rattle.net_types.specs.declared.address.Net4.{Net4}
 use Rattle.net_types.specs.declared.address.Mac.{Mac}

@@ -1,5 +1,5 @@
 -- A line, read from its text.
-use Rattle.std.proofs.Common.{◌≡◌, ℕ, suc, ◌+◌, ◌^◌, ◌<◌, ◌≤◌, Bool, true, false, not, eqb, List, [], ◌∷◌, ◌++◌, length, drop, cond, decimal, flat_map, refl, sym, ◌∙◌, ap, arith, append_assoc, Option, Some, None}
+use Rattle.std.proofs.Common.{◌≡◌, ℕ, ◌^◌, ◌<◌, Bool, true, false, not, eqb, List, [], ◌∷◌, ◌++◌, length, drop, decimal, flat_map, refl, sym, ◌∙◌, ap, arith, append_assoc, Option, Some, None}
 use Rattle.std.specs.Prelude.{codes, bytes_eq}
 use Rattle.std.proofs.lemmas.Bool.{and_parts, not-true}
 use Rattle.std.proofs.lemmas.List.{append_cancel_right, append-nil}
@@ -10,7 +10,7 @@ use Rattle.net_types.specs.declared.address.Net.{Net}
 use Rattle.net_types.specs.declared.address.Net.TheVariants.{V4, V6}
 use Rattle.net_types.specs.AddressText.{net4_text, net_text, mac_text}
 use Rattle.net_types.specs.NameText.{name_text}
-use Rattle.net_types.specs.HexText.{hex_text, hex_at, pairs_at, hex_byte_at, hex_digit_at}
+use Rattle.net_types.specs.HexText.{hex_text, hex_at, hex_byte_at, hex_digit_at}
 use Rattle.net_types.specs.Numbers.{number_at, is_numeral}
 use Rattle.net_types.specs.Cutting.{strip_word}
 use Rattle.net_types.specs.Marks.{Lacks, AreBytes}

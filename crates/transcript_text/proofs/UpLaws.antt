@@ -1,10 +1,10 @@
 -- The interfaces with carrier, read from their list.
-use Rattle.std.proofs.Common.{◌≡◌, ℕ, zero, suc, ◌+◌, ◌-◌, ◌*◌, ◌/◌, ◌%◌, ◌^◌, ◌<◌, ◌≤◌, Bool, true, false, eqb, List, [], ◌∷◌, filter, decimal, refl, sym, ◌∙◌, ap, subst, ◌≢◌, arith, lit<, eqb-true, Some, None, cond}
+use Rattle.std.proofs.Common.{◌≡◌, ℕ, zero, suc, ◌+◌, ◌-◌, ◌*◌, ◌/◌, ◌%◌, ◌^◌, ◌<◌, Bool, true, false, eqb, List, [], ◌∷◌, filter, refl, sym, ◌∙◌, ap, subst, ◌≢◌, arith, lit<, eqb-true, cond}
 use Rattle.std.proofs.lemmas.Bool.{eqb-false}
 use Rattle.std.proofs.Math.Nat.{div-div-eq-div-mul}
 use Rattle.std.proofs.lemmas.Grind.{pow_more}
-use Rattle.std.specs.Prelude.{codes, unwrap_or, map}
-use Rattle.std.specs.List.{AllByRecursion, join_with_byte}
+use Rattle.std.specs.Prelude.{codes, unwrap_or}
+use Rattle.std.specs.List.{AllByRecursion}
 use Rattle.net_types.specs.Numbers.{number_at, is_numeral}
 use Rattle.net_types.specs.Cutting as Cutting
 use Rattle.net_types.specs.Cutting.{list_at, FitsList}
@@ -12,7 +12,7 @@ use Rattle.net_types.proofs.ListLaws.{list_reads}
 use Rattle.net_types.proofs.NumberLaws.{number_reads}
 use Rattle.net_types.proofs.MarkLaws.{decimal_lacks}
 use Rattle.client_model.specs.Interfaces.{is_up}
-use Rattle.client_model.specs.Lines.{numbers_from, list_text, up_list, up_text}
+use Rattle.client_model.specs.Lines.{numbers_from, list_text, up_text}
 
 -- the numbers of a list
 unfoldable pub numbers_in : List ℕ → List ℕ

@@ -9,7 +9,7 @@ use itoa::Buffer;
 use net_types::NoMemory;
 use std::fmt::{Display, Write};
 
-/// As many bytes as any row, address or name has.
+/// Room for any row, address or name; a longer text is made on the heap.
 const SHORT: usize = 128;
 
 pub fn append_bytes(bytes: &[u8], into: &mut Vec<u8>) -> Result<(), NoMemory>
