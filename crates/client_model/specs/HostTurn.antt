@@ -3,7 +3,7 @@
 use Rattle.std.specs.Prelude.{ℕ, ◌≡◌, Bool, true, false, ◌&&◌, if◌then◌else◌, List, [], ◌∷◌, ◌++◌, map, filter, reverse, length, Option, Some, None}
 use Rattle.std.specs.List.{list_all}
 use Rattle.world.specs.declared.rows.HostRow.{HostRow}
-use Rattle.world.specs.RowOrder.{rows_beyond}
+use Rattle.world.specs.RowOrder.{in_row_order, rows_beyond, with_row, without_row}
 use Rattle.world.specs.HostCalls.{HostCall, Listed, Added, Removed}
 use Rattle.client_model.specs.declared.interfaces.Managed.{Managed}
 use Rattle.client_model.specs.Interfaces.{is_managed}
@@ -25,7 +25,7 @@ changes known wanted = map Remove (reverse (rows_beyond wanted known)) ++ map Ad
 abbrev pub learnt : List Managed → Option (List HostRow) → Option (List HostRow) → Option (List HostRow)
 learnt managed (Some known) listing = Some known
 learnt managed None None = None
-learnt managed None (Some listing) = Some (filter (is_managed managed) listing)
+learnt managed None (Some listing) = Some (in_row_order (filter (is_managed managed) listing))
 
 abbrev pub changes_from : Option (List HostRow) → List HostRow → List Change
 changes_from None wanted = []
@@ -57,10 +57,20 @@ host_calls managed known wanted met =
 abbrev pub AnswersAll : List Managed → Option (List HostRow) → List HostRow → HostMet → Type 0
 AnswersAll managed known wanted met = length met.outcomes ≡ length (turn_changes managed known wanted met)
 
--- Any failure makes the table unknown; else it is what was wanted.
+abbrev pub applied : Change → List HostRow → List HostRow
+applied (Remove row) rows = without_row row rows
+applied (Add row) rows = with_row row rows
+
+-- rows after changes that were all done
+abbrev pub after_changes : List Change → List HostRow → List HostRow
+after_changes [] rows = rows
+after_changes (change ∷ rest) rows = after_changes rest (applied change rows)
+
+-- Any failure makes the table unknown.
 abbrev pub known_from : Option (List HostRow) → List HostRow → List Bool → Option (List HostRow)
 known_from None wanted outcomes = None
-known_from (Some known) wanted outcomes = if list_all (λ done. done) outcomes then Some wanted else None
+known_from (Some known) wanted outcomes =
+    if list_all (λ done. done) outcomes then Some (after_changes (changes known wanted) known) else None
 
 abbrev pub known_after : List Managed → Option (List HostRow) → List HostRow → HostMet → Option (List HostRow)
 known_after managed known wanted met = known_from (learnt managed known met.listing) wanted met.outcomes

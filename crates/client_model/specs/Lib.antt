@@ -1,5 +1,6 @@
 pub mod StaticRows
 pub mod Interfaces
+pub mod Fitting
 pub mod HostTurn
 pub mod Turns
 pub mod Opening

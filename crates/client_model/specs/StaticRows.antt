@@ -60,19 +60,25 @@ line_rows iface line =
 abbrev pub iface_rows : Iface → List HostRow
 iface_rows f = if f.up then line_rows f.managed.spec.index f.managed.line else []
 
+abbrev pub same_net : Net → Net → Bool
+same_net a b = (family a == family b) && ((net_number a == net_number b) && (net_len a == net_len b))
+
 -- whether two routes have one destination, length and metric
 abbrev pub same_target : HostRow → HostRow → Bool
-same_target (Route i a via_a m) (Route j b via_b n) =
-    (family a == family b) && (net_number a == net_number b) && (net_len a == net_len b) && (m == n)
-same_target a b = false
+same_target (Addr i a) b = false
+same_target (Route i a via_a m) (Addr j b) = false
+same_target (Route i a via_a m) (Route j b via_b n) = same_net a b && (m == n)
 
 -- of such routes the one of the lowest interface is kept, then the first in row order
 abbrev pub goes_before : HostRow → HostRow → Bool
 goes_before a b =
     nat_lt (row_iface a) (row_iface b) || ((row_iface a == row_iface b) && is_lt (row_cmp a b))
 
+unfoldable pub outranks : HostRow → HostRow → Bool
+outranks a b = same_target a b && goes_before a b
+
 abbrev pub is_kept : List HostRow → HostRow → Bool
-is_kept rows row = not (list_any (λ other. same_target other row && goes_before other row) rows)
+is_kept rows row = not (list_any (λ other. outranks other row) rows)
 
 -- the rows that are wanted, in row order
 abbrev pub wanted_rows : List Iface → List HostRow

@@ -4,23 +4,18 @@ use Rattle.world.specs.Causes.{has_number}
 use Rattle.world.specs.declared.rows.HostRow.{HostRow}
 use Rattle.world.specs.declared.wakes.Begin.{Begin}
 use Rattle.world.specs.declared.wakes.Wake.{Wake}
-use Rattle.world.specs.RowOrder.{with_row, without_row}
 use Rattle.world.specs.HostCalls.{HostTold, Listed, host_answered}
 use Rattle.world.specs.LinkCalls.{Given, LinkTold, cut_wake, frame_len}
 use Rattle.world.specs.StoreCalls.{StoreTold, Reading, Missing}
 use Rattle.client_model.specs.declared.interfaces.Managed.{Managed}
 use Rattle.client_model.specs.Interfaces.{stepped, rows_of, opening}
-use Rattle.client_model.specs.HostTurn.{Change, Remove, Add, HostMet, change_call, changes_from, learnt}
+use Rattle.client_model.specs.HostTurn.{Change, Remove, Add, HostMet, change_call, applied, changes_from, learnt}
 use Rattle.client_model.specs.Turns.{Life, Met, turned, is_over}
 use Rattle.client_model.specs.Opening.{OpeningMet, file_names, opened_life}
 
 -- whether the host's next call fails
 abbrev pub fails_next : List ℕ → HostTold → Bool
 fails_next failing told = has_number failing (length told.calls + 1)
-
-abbrev pub applied : Change → List HostRow → List HostRow
-applied (Remove row) rows = without_row row rows
-applied (Add row) rows = with_row row rows
 
 -- an answer, and what the host tells then
 pub record HostStep (A : Type 0) : Type 0 where
@@ -35,9 +30,15 @@ abbrev pub told_listing : List ℕ → Option (List HostRow) → HostTold → Ho
 told_listing failing (Some known) told = record { answer = None; told = told }
 told_listing failing None told = listing_from (fails_next failing told) told
 
+abbrev pub told_listing_for : Option (List HostRow) → List ℕ → HostTold → HostStep (Option (List HostRow))
+told_listing_for known failing told = told_listing failing known told
+
 abbrev pub change_from : Bool → Change → HostTold → HostTold
 change_from true change told = host_answered (change_call change false) told.rows told
 change_from false change told = host_answered (change_call change true) (applied change told.rows) told
+
+abbrev pub told_change : Change → List ℕ → HostTold → HostStep Bool
+told_change change failing told = record { answer = not (fails_next failing told); told = change_from (fails_next failing told) change told }
 
 abbrev pub told_changes : List ℕ → List Change → HostTold → HostStep (List Bool)
 told_changes failing [] told = record { answer = []; told = told }
@@ -45,12 +46,18 @@ told_changes failing (change ∷ rest) told =
     let more = told_changes failing rest (change_from (fails_next failing told) change told) in
     record { answer = not (fails_next failing told) ∷ more.answer; told = more.told }
 
+abbrev pub told_changes_for : List Change → List ℕ → HostTold → HostStep (List Bool)
+told_changes_for changes failing told = told_changes failing changes told
+
 -- the host calls of a turn
 abbrev pub told_host : List Managed → List ℕ → Option (List HostRow) → List HostRow → HostTold → HostStep HostMet
 told_host managed failing known wanted told =
     let listing = told_listing failing known told in
     let outcomes = told_changes failing (changes_from (learnt managed known listing.answer) wanted) listing.told in
     record { answer = record { listing = listing.answer; outcomes = outcomes.answer }; told = outcomes.told }
+
+abbrev pub told_host_for : List Managed → Option (List HostRow) → List HostRow → List ℕ → HostTold → HostStep HostMet
+told_host_for managed known wanted failing told = told_host managed failing known wanted told
 
 -- the room for a frame
 abbrev pub frame_room : ℕ
@@ -70,7 +77,7 @@ abbrev pub told_turns : List Managed → List ℕ → Life → HostTold → List
 told_turns managed failing life told [] = []
 told_turns managed failing life told (given ∷ coming) =
     let turn = told_turn managed failing life told given in
-    turn.answer ∷ (if is_over (turned managed life turn.answer) then [] else told_turns managed failing (turned managed life turn.answer) turn.told coming)
+    if is_over life then [] else turn.answer ∷ told_turns managed failing (turned managed life turn.answer) turn.told coming
 
 -- an opening over a store without files and without failures
 abbrev pub told_opening : List Managed → List ℕ → Begin → HostTold → HostStep OpeningMet
@@ -80,3 +87,10 @@ told_opening managed failing begin told =
       answer = record { begin = begin; asides = Some []; removed = []; settled = None; readings = map (λ name. Missing) file_names; host = host.answer };
       told = host.told;
     }
+
+-- Where the host tells what it holds and which calls fail, what it answers and what it tells then are determined.
+abbrev pub Determined : {A : Type 0} → (List ℕ → HostTold → HostStep A) → Option (List ℕ) → Option HostTold → A → Option HostTold → Type 0
+Determined step None None answer new = new ≡ None
+Determined step (Some failing) None answer new = new ≡ None
+Determined step None (Some told) answer new = Unit {0}
+Determined step (Some failing) (Some told) answer new = (answer ≡ (step failing told).answer) × (new ≡ Some (step failing told).told)

@@ -1,4 +1,8 @@
 mod CarrierSteps
-mod HexSteps
+mod Fields
 mod Holding
+mod LineReading
+pub mod LinesLaws
 mod Named
+mod RowReading
+mod UpLaws

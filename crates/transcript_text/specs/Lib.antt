@@ -1,3 +1,4 @@
 pub mod Carriers
+pub mod Fits
 pub mod Pieces
 pub mod Printed

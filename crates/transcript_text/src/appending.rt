@@ -84,7 +84,7 @@ fn append_pairs(bytes: &[u8], into: &mut Vec<u8>) -> Result<(), NoMemory>
 }
 
 /// Appends two digits a byte, or `-` for none.
-#[tactic(auto, using(crate::proofs::HexSteps::hex_steps))]
+#[tactic(auto, unfolding(net_types::specs::HexText::hex_text))]
 pub fn append_hex(bytes: &[u8], into: &mut Vec<u8>) -> Result<(), NoMemory>
     ensures ok { OnOk result (into.new.items ≡ into.old.items ++ hex_text bytes.now) }
     ensures err { OnErr result (into.new.items ≡ into.old.items) }

@@ -3,10 +3,12 @@
 
 mod appending;
 mod carriers;
+mod laws;
 mod lines;
 mod pieces;
 mod printing;
 
+pub use laws::lines_apart;
 pub use lines::{ReadLine, TranscriptLine};
 pub use printing::print_line;
 

@@ -3,14 +3,14 @@ ghost use Rattle.std.specs.Prelude.{◌≡◌, ◌∷◌, [], ◌++◌, codes, d
 ghost use Rattle.std.specs.String.{string_bytes};
 ghost use Rattle.world.specs.RowText.{row_text};
 ghost use Rattle.client_model.specs.Lines as Lines;
-ghost use Rattle.client_model.specs.Lines.{line_text, event_text, outcome_text};
+ghost use Rattle.client_model.specs.Lines.{line_text, carrier_text, event_text, outcome_text};
 ghost use Rattle.transcript_text.specs.Pieces.{piece_text};
 ghost use Rattle.transcript_text.specs.Printed.{line_of, reading_of};
 
 use crate::appending::append_bytes;
 use crate::lines::{ReadLine, TranscriptLine};
 use crate::pieces::{Piece, append_pieces};
-use net_types::{IfIndex, IfSpec, Net, NoMemory};
+use net_types::{IfSpec, NoMemory};
 use world::{Begin, Event, HostRow};
 
 const BLANK: Piece<'static> = Piece::Word(b" ");
@@ -88,48 +88,49 @@ fn print_read<'a>(name: &'a str, got: ReadLine<'a>, into: &mut Vec<u8>) -> Resul
     )
 }
 
-/// Appends an event to the front of its line, and ends the line.
+fn carrier_word(up: bool) -> Piece<'static>
+    ensures { piece_text result ≡ carrier_text up }
+{
+    if up {
+        Piece::Word(b"up")
+    } else {
+        Piece::Word(b"down")
+    }
+}
+
+/// Appends a word, the number of an interface and what is there, and ends the line.
+#[tactic(auto, using(std::proofs::Common::append_assoc))]
+fn print_on<'a>(
+    word: &'a [u8],
+    iface: u32,
+    about: Piece<'a>,
+    into: &mut Vec<u8>,
+) -> Result<(), NoMemory>
+    ensures ok { OnOk result (into.new.items ≡ into.old.items ++ ((word.now ++ decimal iface ++ codes " " ++ piece_text about.entry) ++ 10 ∷ [])) }
+    ensures err { OnErr result (into.new.items ≡ into.old.items) }
+{
+    append_pieces(
+        &[
+            Piece::Word(word),
+            Piece::Number(u64::from(iface)),
+            BLANK,
+            about,
+            LINE_END,
+        ],
+        into,
+    )
+}
+
+/// Appends an event, and ends its line.
 #[tactic(auto, using(std::proofs::Common::append_assoc))]
 fn print_event(event: Event, bytes: &[u8], into: &mut Vec<u8>) -> Result<(), NoMemory>
     ensures ok { OnOk result (into.new.items ≡ into.old.items ++ (event_text event bytes.now ++ 10 ∷ [])) }
     ensures err { OnErr result (into.new.items ≡ into.old.items) }
 {
     match event {
-        Event::Frame { iface, .. } => append_pieces(
-            &[
-                Piece::Word(b"frame "),
-                Piece::Number(u64::from(iface)),
-                BLANK,
-                Piece::Hex(bytes),
-                LINE_END,
-            ],
-            into,
-        ),
-        Event::Carrier { iface, up } => {
-            let change = if up {
-                b" up\n".as_slice()
-            } else {
-                b" down\n".as_slice()
-            };
-            append_pieces(
-                &[
-                    Piece::Word(b"carrier "),
-                    Piece::Number(u64::from(iface)),
-                    Piece::Word(change),
-                ],
-                into,
-            )
-        }
-        Event::Duplicate { iface, addr } => append_pieces(
-            &[
-                Piece::Word(b"dup "),
-                Piece::Number(u64::from(iface)),
-                BLANK,
-                Piece::Address(addr),
-                LINE_END,
-            ],
-            into,
-        ),
+        Event::Frame { iface, .. } => print_on(b"frame ", iface, Piece::Hex(bytes), into),
+        Event::Carrier { iface, up } => print_on(b"carrier ", iface, carrier_word(up), into),
+        Event::Duplicate { iface, addr } => print_on(b"dup ", iface, Piece::Address(addr), into),
         Event::Release { iface } => print_number(b"release ", u64::from(iface), into),
         Event::Rebind { iface } => print_number(b"rebind ", u64::from(iface), into),
         Event::Stop => append_bytes(b"stop\n", into),
@@ -167,7 +168,7 @@ fn print_turn(
     Ok(())
 }
 
-/// A word and a number.
+/// Appends a word and a number, and ends the line.
 #[tactic(auto, using(std::proofs::Common::append_assoc))]
 fn print_number(word: &[u8], number: u64, into: &mut Vec<u8>) -> Result<(), NoMemory>
     ensures ok { OnOk result (into.new.items ≡ into.old.items ++ ((word.now ++ decimal number) ++ 10 ∷ [])) }
@@ -176,7 +177,7 @@ fn print_number(word: &[u8], number: u64, into: &mut Vec<u8>) -> Result<(), NoMe
     append_pieces(&[Piece::Word(word), Piece::Number(number), LINE_END], into)
 }
 
-/// A word, what a call was about and whether it was done.
+/// Appends a word, what a call was about and whether it was done.
 #[tactic(auto, using(std::proofs::Common::append_assoc))]
 fn print_done<'a>(
     word: &'a [u8],
@@ -196,23 +197,6 @@ fn print_listed(names: &[String], into: &mut Vec<u8>) -> Result<(), NoMemory>
 {
     append_pieces(
         &[Piece::Word(b"store list ok"), Piece::Names(names), LINE_END],
-        into,
-    )
-}
-
-#[tactic(auto, unfolding(client_model::specs::Lines::line_words), using(std::proofs::Common::append_assoc))]
-fn print_hold(iface: IfIndex, net: Net, into: &mut Vec<u8>) -> Result<(), NoMemory>
-    ensures ok { OnOk result (into.new.items ≡ into.old.items ++ line_text (Lines.Hold iface net)) }
-    ensures err { OnErr result (into.new.items ≡ into.old.items) }
-{
-    append_pieces(
-        &[
-            Piece::Word(b"hold addr "),
-            Piece::Number(u64::from(iface.number)),
-            BLANK,
-            Piece::Net(net),
-            LINE_END,
-        ],
         into,
     )
 }
@@ -254,7 +238,7 @@ pub fn print_line(line: &TranscriptLine<'_>, into: &mut Vec<u8>) -> Result<(), N
         Line::HostAdd { row, ok } => print_done(b"host add ", Row(row), ok, into),
         Line::Until(Some(moment)) => print_number(b"until ", moment, into),
         Line::Until(None) => append_bytes(b"until none\n", into),
-        Line::Hold { iface, net } => print_hold(iface, net, into),
+        Line::Hold { iface, net } => print_on(b"hold addr ", iface.number, Piece::Net(net), into),
         Line::End => append_bytes(b"end\n", into),
     }
 }

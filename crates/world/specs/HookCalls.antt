@@ -35,7 +35,7 @@ pub data HookCall : Type 0 where
 pub record HooksTold : Type 0 where
   -- what polls will answer, in order; nothing where the poll fails
   pub polls : List (Option Poll)
-  -- how many jobs were to start, how often was polled and abandoned, earlier lives included
+  -- how many jobs were to start, how often was polled, and how many children were abandoned, earlier lives included
   pub starts : ℕ
   pub polled : ℕ
   pub abandoned : ℕ
@@ -82,6 +82,11 @@ abbrev pub AnswersPoll : Option HooksTold → Option HooksTold → Result Poll F
 AnswersPoll None new result = new ≡ None
 AnswersPoll (Some told) new result = AnswersNext told.polls told new result
 
-abbrev pub Abandons : Option HooksTold → Option HooksTold → Type 0
-Abandons None new = new ≡ None
-Abandons (Some told) new = new ≡ Some (record told { abandoned = told.abandoned + 1 })
+-- a child that runs is abandoned; where none runs nothing changes
+abbrev pub abandon : Bool → HooksTold → HooksTold
+abandon true told = record told { abandoned = told.abandoned + 1 }
+abandon false told = told
+
+abbrev pub Abandons : Bool → Option HooksTold → Option HooksTold → Type 0
+Abandons running None new = new ≡ None
+Abandons running (Some told) new = new ≡ Some (abandon running told)

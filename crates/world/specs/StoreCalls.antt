@@ -1,5 +1,5 @@
 -- What a store that tells what it holds makes of each call.
-use Rattle.std.specs.Prelude.{ℕ, Bool, true, false, not, ◌≡◌, ◌+◌, ◌-◌, ◌⊎◌, List, [], ◌∷◌, ◌++◌, length, map, filter, drop, All, codes, Option, Some, None, is_some, Result, Ok, Err, String, if◌then◌else◌}
+use Rattle.std.specs.Prelude.{ℕ, Bool, true, false, not, ◌||◌, ◌≡◌, ◌+◌, ◌-◌, ◌⊎◌, List, [], ◌∷◌, ◌++◌, length, map, filter, drop, All, codes, Option, Some, None, is_some, Result, Ok, Err, String, if◌then◌else◌}
 use Rattle.std.specs.Global.{Global}
 use Rattle.std.specs.String.{string_bytes}
 use Rattle.std.specs.declared.cmp.Ordering.{Ordering}
@@ -7,6 +7,7 @@ use Rattle.std.specs.Ordering.{nat_cmp, is_eq, match_ordering}
 use Rattle.std.specs.Cmp.Lexicographic.{slice_cmp}
 use Rattle.world.specs.declared.faults.DeviceAnswer.{DeviceAnswer}
 use Rattle.world.specs.declared.faults.DeviceAnswer.TheVariants as Answer
+use Rattle.world.specs.Causes.{has_number}
 use Rattle.world.specs.FileNames.{IsFileName, aside_of}
 
 pub record StoreFile : Type 0 where
@@ -51,8 +52,10 @@ abbrev pub put_file : StoreFile → List StoreFile → List StoreFile
 put_file file [] = file ∷ []
 put_file file (f ∷ files) = match_ordering (name_cmp file.name f.name) (file ∷ f ∷ files) (file ∷ files) (f ∷ put_file file files)
 
+-- the files without the one of a name
 abbrev pub drop_file : List ℕ → List StoreFile → List StoreFile
-drop_file name files = filter (λ file. not (is_name name file.name)) files
+drop_file name [] = []
+drop_file name (file ∷ files) = if is_name name file.name then files else file ∷ drop_file name files
 
 -- whether a name is that of an aside
 abbrev pub is_aside : List ℕ → Bool
@@ -61,10 +64,10 @@ is_aside name = is_name (drop (length name - 4) name) (codes ".new")
 abbrev pub asides : List StoreFile → List (List ℕ)
 asides files = filter is_aside (map (λ file. file.name) files)
 
--- the aside of a name is put in place of its file
+-- the aside of a name is put in place of its file, and is no more
 abbrev pub rename_file : List ℕ → Option (List ℕ) → List StoreFile → List StoreFile
 rename_file name None files = files
-rename_file name (Some bytes) files = put_file (record { name = name; bytes = bytes }) (drop_file (aside_of name) files)
+rename_file name (Some bytes) files = drop_file (aside_of name) (put_file (record { name = name; bytes = bytes }) files)
 
 abbrev pub store_answered : StoreCall → List StoreFile → StoreTold → StoreTold
 store_answered call files told = record { files = files; calls = told.calls ++ call ∷ [] }
@@ -114,6 +117,17 @@ abbrev pub FindsAside : {T : Type 0} → List ℕ → Option StoreTold → Resul
 FindsAside name None result = Unit {0}
 FindsAside name (Some told) (Ok x) = is_some (file_at (aside_of name) told.files) ≡ true
 FindsAside name (Some told) (Err answer) = Unit {0}
+
+-- where it is told which calls fail, renaming fails at these calls and where there is no aside, and nowhere else
+abbrev pub fails_rename : List ℕ → List ℕ → StoreTold → Bool
+fails_rename failing name told = has_number failing (length told.calls + 1) || not (is_some (file_at (aside_of name) told.files))
+
+abbrev pub RenameForetold : {T : Type 0} → Option (List ℕ) → List ℕ → Option StoreTold → Result T DeviceAnswer → Type 0
+RenameForetold None name told result = Unit {0}
+RenameForetold (Some failing) name None result = Unit {0}
+RenameForetold (Some failing) name (Some told) (Ok x) = fails_rename failing name told ≡ false
+RenameForetold (Some failing) name (Some told) (Err Answer.Failed) = fails_rename failing name told ≡ true
+RenameForetold (Some failing) name (Some told) (Err Answer.NoMemory) = Unit {0}
 
 abbrev pub WritesAside : {T : Type 0} → Option (List ℕ) → List ℕ → List ℕ → Option StoreTold → Option StoreTold → Result T DeviceAnswer → Type 0
 WritesAside failing name bytes = ChangesFiles failing (put_file (record { name = aside_of name; bytes = bytes })) (WroteAside name bytes)

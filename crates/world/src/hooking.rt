@@ -69,6 +69,6 @@ pub trait Hooks {
     fn abandon(&mut self)
         ensures cause { faults self.old ≤ faults self.new }
         ensures runs { running self.new ≡ false }
-        ensures told { Abandons (told self.old) (told self.new) }
+        ensures told { Abandons (running self.old) (told self.old) (told self.new) }
         ensures failing { failing self.new ≡ failing self.old };
 }

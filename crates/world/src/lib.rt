@@ -6,10 +6,13 @@ mod hooking;
 mod hosts;
 mod links;
 mod reasons;
+mod row_laws;
 mod row_text;
 mod rows;
 mod stores;
 mod streams;
+#[cfg(test)]
+mod tests;
 mod wakes;
 
 pub use faults::DeviceAnswer;
@@ -18,6 +21,7 @@ pub use hosts::Host;
 pub use links::Link;
 pub use net_types::{Failed, NoMemory};
 pub use reasons::{Reason, reason_text};
+pub use row_laws::row_order_laws;
 pub use rows::{HostRow, Via};
 pub use stores::Store;
 pub use streams::{Sink, Source};

@@ -2,7 +2,7 @@ ghost use Rattle.std.specs.Prelude.{◌≡◌, ℕ, Option, List, map, All, OnEr
 ghost use Rattle.std.specs.String.{string_bytes};
 ghost use Rattle.world.specs.Causes.{HasDeviceCause, Foretold};
 ghost use Rattle.world.specs.FileNames.{IsFileName};
-ghost use Rattle.world.specs.StoreCalls.{StoreTold, store_number, AppendsNames, ListsAsides, ReadsFile, FindsAside, WritesAside, SyncsAside, RenamesAside, RemovesFile, Settles};
+ghost use Rattle.world.specs.StoreCalls.{StoreTold, store_number, AppendsNames, ListsAsides, ReadsFile, FindsAside, RenameForetold, WritesAside, SyncsAside, RenamesAside, RemovesFile, Settles};
 
 use crate::faults::DeviceAnswer;
 
@@ -56,6 +56,7 @@ pub trait Store {
         ensures cause { HasDeviceCause (faults self.old) (faults self.new) result }
         ensures aside { FindsAside name.now (told self.old) result }
         ensures told { RenamesAside (failing self.old) name.now (told self.old) (told self.new) result }
+        ensures foretold { RenameForetold (failing self.old) name.now (told self.old) result }
         ensures failing { failing self.new ≡ failing self.old };
 
     /// Removes a file, where there is one.

@@ -1,0 +1,105 @@
+-- The rows that interfaces bring are rows that a host takes.
+use Rattle.std.proofs.Common.{ℕ, ◌+◌, ◌-◌, ◌*◌, ◌/◌, ◌%◌, ◌^◌, ◌<◌, Bool, true, false, cond, List, [], ◌∷◌, ◌++◌, ◌≡◌, Option, Some, None, refl, ap, ◌∙◌, arith}
+use Rattle.std.specs.Prelude.{IfSome, filter, flat_map, nat_lt}
+use Rattle.std.specs.List.{AllByRecursion}
+use Rattle.std.specs.declared.cmp.Ordering.{Ordering}
+use Rattle.std.specs.declared.cmp.Ordering.TheVariants.{Less, Equal, Greater}
+use Rattle.std.specs.Ordering.{match_ordering}
+use Rattle.std.proofs.lemmas.Nat.{pow_pos, div-add-mod', mod-mul-add}
+use Rattle.net_types.specs.declared.address.Ip4.{Ip4}
+use Rattle.net_types.specs.declared.address.Net4.{Net4}
+use Rattle.net_types.specs.declared.address.Net.TheVariants as Family
+use Rattle.net_types.specs.declared.interface.IfIndex.{IfIndex}
+use Rattle.net_types.specs.AddressText.{FitsIp4, FitsNet4}
+use Rattle.world.specs.declared.rows.HostRow.{HostRow}
+use Rattle.world.specs.declared.rows.HostRow.TheVariants.{Route}
+use Rattle.world.specs.declared.rows.Via.TheVariants.{OnLink}
+use Rattle.world.specs.Rows.{IsInterface, IsRow}
+use Rattle.world.specs.RowOrder.{row_cmp, with_row, put_in_order}
+use Rattle.client_model.specs.declared.interfaces.Iface.{Iface}
+use Rattle.client_model.specs.StaticRows.{network_of, is_within, metric_of, is_kept, network_routes, router_routes, line_rows, iface_rows, wanted_rows}
+use Rattle.client_model.specs.Interfaces.{Client, rows_of}
+use Rattle.client_model.specs.Fitting.{FitsManaged, AreIfaces}
+
+-- ---- one interface
+
+no_remainder : (n k : ℕ) → (n - n % 2 ^ k) % 2 ^ k ≡ 0
+no_remainder n k =
+    let whole : n / 2 ^ k * 2 ^ k + n % 2 ^ k ≡ n = div-add-mod' n (2 ^ k) in
+    let same : n - n % 2 ^ k ≡ n / 2 ^ k * 2 ^ k + 0 = omega arith in
+    ap (λ m. m % 2 ^ k) same ∙ mod-mul-add (n / 2 ^ k) (2 ^ k) 0 (pow_pos k)
+
+both_fit : (xs ys : List HostRow) → AllByRecursion IsRow xs → AllByRecursion IsRow ys → AllByRecursion IsRow (xs ++ ys)
+both_fit [] ys fit more = more
+both_fit (x ∷ xs) ys fit more = (fit.0, both_fit xs ys fit.1 more)
+
+network_is_row : (iface : IfIndex) (net : Net4) → IsInterface iface.number → FitsNet4 net → IsRow (Route iface (Family.V4 (network_of net)) OnLink (metric_of iface))
+network_is_row iface net index fits =
+    let address : net.ip.number < 2 ^ 32 = fits.address in
+    (index, (omega arith, fits.prefix), no_remainder net.ip.number (32 - net.len), tt, omega (arith, index))
+
+network_fits : (b : Bool) (iface : IfIndex) (net : Net4) → IsInterface iface.number → FitsNet4 net → AllByRecursion IsRow (cond b (Route iface (Family.V4 (network_of net)) OnLink (metric_of iface) ∷ []) [])
+network_fits true iface net index fits = (network_is_row iface net index fits, tt)
+network_fits false iface net index fits = tt
+
+gateway_fits : (b : Bool) (iface : IfIndex) (router : Ip4) → IsInterface iface.number → FitsIp4 router → AllByRecursion IsRow (cond b [] (Route iface (Family.V4 (record { ip = router; len = 32 })) OnLink (metric_of iface) ∷ []))
+gateway_fits true iface router index fits = tt
+gateway_fits false iface router index fits = ((index, (fits, omega arith), omega arith, tt, omega (arith, index)), tt)
+
+router_fits : (iface : IfIndex) (net : Net4) (router : Option Ip4) → IsInterface iface.number → IfSome router FitsIp4 → AllByRecursion IsRow (router_routes iface net router)
+router_fits iface net None index fits = tt
+router_fits iface net (Some router) index fits = ((index, (omega arith, omega arith), refl, fits, omega (arith, index)), gateway_fits (is_within router net) iface router index fits)
+
+line_fits : (f : Iface) → FitsManaged f.managed → AllByRecursion IsRow (line_rows f.managed.spec.index f.managed.line)
+line_fits f fits =
+    let index = fits.index in
+    let address = fits.address in (
+      (index, (address.address, address.prefix)),
+      both_fit (network_routes f.managed.spec.index f.managed.line.address) (router_routes f.managed.spec.index f.managed.line.address f.managed.line.router)
+          (network_fits (nat_lt f.managed.line.address.len 32) f.managed.spec.index f.managed.line.address index address)
+          (router_fits f.managed.spec.index f.managed.line.address f.managed.line.router index fits.router),
+    )
+
+iface_fits : (b : Bool) (f : Iface) → FitsManaged f.managed → AllByRecursion IsRow (cond b (line_rows f.managed.spec.index f.managed.line) [])
+iface_fits true f fits = line_fits f fits
+iface_fits false f fits = tt
+
+-- ---- all of them
+
+all_fit : (ifaces : List Iface) → AreIfaces ifaces → AllByRecursion IsRow (flat_map iface_rows ifaces)
+all_fit [] fits = tt
+all_fit (f ∷ ifaces) fits = both_fit (iface_rows f) (flat_map iface_rows ifaces) (iface_fits f.up f fits.0) (all_fit ifaces fits.1)
+
+kept_fit : (b : Bool) (row : HostRow) (rest : List HostRow) → IsRow row → AllByRecursion IsRow rest → AllByRecursion IsRow (cond b (row ∷ rest) rest)
+kept_fit true row rest fit more = (fit, more)
+kept_fit false row rest fit more = more
+
+filter_fit : (p : HostRow → Bool) (rows : List HostRow) → AllByRecursion IsRow rows → AllByRecursion IsRow (filter p rows)
+filter_fit p [] fit = tt
+filter_fit p (row ∷ rows) fit = kept_fit (p row) row (filter p rows) fit.0 (filter_fit p rows fit.1)
+
+placed_fit : (r : Ordering) (row x : HostRow) (xs more : List HostRow) → IsRow row → IsRow x → AllByRecursion IsRow xs → AllByRecursion IsRow more → AllByRecursion IsRow (match_ordering r (row ∷ x ∷ xs) (x ∷ xs) (x ∷ more))
+placed_fit Less row x xs more fit first rest longer = (fit, (first, rest))
+placed_fit Equal row x xs more fit first rest longer = (first, rest)
+placed_fit Greater row x xs more fit first rest longer = (first, longer)
+
+with_fit : (row : HostRow) (rows : List HostRow) → IsRow row → AllByRecursion IsRow rows → AllByRecursion IsRow (with_row row rows)
+with_fit row [] fit all = (fit, tt)
+with_fit row (x ∷ xs) fit all = placed_fit (row_cmp row x) row x xs (with_row row xs) fit all.0 all.1 (with_fit row xs fit all.1)
+
+put_fit : (sorted rows : List HostRow) → AllByRecursion IsRow sorted → AllByRecursion IsRow rows → AllByRecursion IsRow (put_in_order sorted rows)
+put_fit sorted [] placed fit = placed
+put_fit sorted (row ∷ rows) placed fit = put_fit (with_row row sorted) rows (with_fit row sorted fit.0 placed) fit.1
+
+wanted_fit : (ifaces : List Iface) → AreIfaces ifaces → AllByRecursion IsRow (wanted_rows ifaces)
+wanted_fit ifaces fits =
+    let rows = flat_map iface_rows ifaces in
+    put_fit [] (filter (is_kept rows) rows) tt (filter_fit (is_kept rows) rows (all_fit ifaces fits))
+
+rows_fit_if : (stopped : Bool) (ifaces : List Iface) → AreIfaces ifaces → AllByRecursion IsRow (cond stopped [] (wanted_rows ifaces))
+rows_fit_if true ifaces fits = tt
+rows_fit_if false ifaces fits = wanted_fit ifaces fits
+
+-- what a client wants are rows that the host takes
+pub rows_fit : (client : Client) → AreIfaces client.ifaces → AllByRecursion IsRow (rows_of client)
+rows_fit client fits = rows_fit_if client.stopped client.ifaces fits

@@ -1,0 +1,100 @@
+ghost use Rattle.std.specs.Prelude.{◌≡◌, ◌++◌, Bool, IfOk, OnOk, flat_map, length, filter, not};
+ghost use Rattle.std.specs.List.{list_any};
+ghost use Rattle.world.specs.RowOrder.{in_row_order};
+ghost use Rattle.client_model.specs.StaticRows.{same_net, same_target, goes_before, outranks, is_kept, iface_rows, wanted_rows};
+ghost use Rattle.client_model.specs.Fitting.{AreIfaces};
+
+use crate::static_rows::push_iface;
+use client_model::Iface;
+use net_types::Net;
+use std::alloc::{AllocError, Global};
+use std::collections::BTreeSet;
+use world::HostRow;
+
+fn is_same_net(a: Net, b: Net) -> bool
+    ensures { result ≡ same_net a b }
+{
+    match (a, b) {
+        (Net::V4(a), Net::V4(b)) => a.ip.number == b.ip.number && a.len == b.len,
+        (Net::V6(a), Net::V6(b)) => a.ip.number == b.ip.number && a.len == b.len,
+        (Net::V4(_), Net::V6(_)) => false,
+        (Net::V6(_), Net::V4(_)) => false,
+    }
+}
+
+/// Whether two routes have one destination, length and metric.
+fn has_same_target(a: HostRow, b: HostRow) -> bool
+    ensures { result ≡ same_target a b }
+{
+    match (a, b) {
+        (
+            HostRow::Route { dest, metric, .. },
+            HostRow::Route {
+                dest: other_dest,
+                metric: other_metric,
+                ..
+            },
+        ) => is_same_net(dest, other_dest) && metric == other_metric,
+        (HostRow::Route { .. }, HostRow::Addr { .. }) => false,
+        (HostRow::Addr { .. }, _) => false,
+    }
+}
+
+/// Of such routes the one of the lowest interface is kept, then the first in row order.
+fn is_before(a: HostRow, b: HostRow) -> bool
+    ensures { result ≡ goes_before a b }
+{
+    let (i, j) = (a.iface().number, b.iface().number);
+    i < j || (i == j && a.cmp(&b).is_lt())
+}
+
+#[tactic(auto, unfolding(client_model::specs::StaticRows::outranks))]
+fn is_outranked(row: HostRow, other: HostRow) -> bool
+    ensures { result ≡ outranks other row }
+{
+    has_same_target(other, row) && is_before(other, row)
+}
+
+fn has_outranking(rows: &[HostRow], row: HostRow) -> bool
+    ensures { result ≡ list_any (λ other. outranks other row) rows.now }
+{
+    rows.iter().any(|other| is_outranked(row, *other))
+}
+
+fn is_unique(rows: &[HostRow], row: HostRow) -> bool
+    ensures { result ≡ is_kept rows.now row }
+{
+    !has_outranking(rows, row)
+}
+
+fn all_rows(alloc: Global, ifaces: &[Iface]) -> Result<Vec<HostRow>, AllocError>
+    requires { AreIfaces ifaces.now }
+    ensures { IfOk result (λ rows. rows.items ≡ flat_map iface_rows ifaces.now) }
+{
+    let mut rows = Vec::new(alloc);
+    for f in ifaces {
+        push_iface(&mut rows, *f)?;
+    }
+    Ok(rows)
+}
+
+fn unique_rows(alloc: Global, rows: &[HostRow]) -> Result<BTreeSet<HostRow>, AllocError>
+    ensures { IfOk result (λ wanted. wanted.keys ≡ in_row_order (filter (is_kept rows.now) rows.now)) }
+{
+    let mut wanted = BTreeSet::new(alloc);
+    for row in rows {
+        if is_unique(rows, *row) {
+            wanted.insert(*row)?;
+        }
+    }
+    Ok(wanted)
+}
+
+/// The rows that the interfaces bring together, in row order.
+pub fn wanted(alloc: Global, ifaces: &[Iface]) -> Result<BTreeSet<HostRow>, AllocError>
+    requires { AreIfaces ifaces.now }
+    ensures { IfOk result (λ wanted. wanted.keys ≡ wanted_rows ifaces.now) }
+{
+    let rows = all_rows(alloc, ifaces)?;
+    unique_rows(alloc, &rows)
+}

@@ -1,0 +1,5 @@
+pub mod ConfLines
+pub mod LineAt
+pub mod Settings
+pub mod Saying
+pub mod Reading

@@ -1,0 +1,6 @@
+-- What the reader has of a configuration, without where it lies in memory.
+use Rattle.conf_text.specs.declared.saying.Saying.{Saying}
+use Rattle.conf_text.specs.ConfLines.{Said}
+
+abbrev pub said_of : Saying → Said
+said_of saying = record { no_script = saying.no_script; over = saying.over.items; current = saying.current }

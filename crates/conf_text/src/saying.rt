@@ -1,0 +1,150 @@
+//! What the lines of a configuration say, one after another.
+ghost use Rattle.std.specs.Prelude.{◌≡◌, ◌<◌, IfOk, option_map, []};
+ghost use Rattle.std.specs.List.{list_any};
+ghost use Rattle.conf_text.specs.ConfLines.{nothing, blocks_with, is_block_of, has_room, say, begin_block, say_globally, say_address, say_router};
+ghost use Rattle.conf_text.specs.Settings.{configuration, configured};
+ghost use Rattle.conf_text.specs.Saying.{said_of};
+
+use crate::conf::{Block, Conf, ConfLine};
+use net_types::{Ip4, Name, Net4, NoMemory};
+use std::alloc::Global;
+
+/// The most blocks of a configuration.
+const BLOCK_LIMIT: usize = 64;
+
+/// What was said so far.
+#[derive(Debug, Drop)]
+pub struct Saying {
+    no_script: bool,
+    /// The blocks that are over.
+    over: Vec<Block>,
+    /// The block that lines now go to.
+    current: Option<Block>,
+}
+
+fn with_block(mut over: Vec<Block>, current: Option<Block>) -> Result<Vec<Block>, NoMemory>
+    ensures { IfOk result (λ blocks. blocks.items ≡ blocks_with over.items current) }
+{
+    match current {
+        None => Ok(over),
+        Some(block) => {
+            over.push(block)?;
+            Ok(over)
+        }
+    }
+}
+
+/// Whether the block is that of the named interface.
+#[tactic(auto, unfolding(net_types::specs::NameText::name_text))]
+pub fn is_block_of(name: &Name, block: &Block) -> bool
+    ensures { result ≡ is_block_of name.now block.now }
+{
+    block.name.as_bytes() == name.as_bytes()
+}
+
+fn has_block(name: &Name, blocks: &[Block]) -> bool
+    ensures { result ≡ list_any (is_block_of name.now) blocks.now }
+{
+    blocks.iter().any(|block| is_block_of(name, block))
+}
+
+fn has_room(name: &Name, blocks: &[Block]) -> bool
+    ensures { result ≡ has_room name.now blocks.now }
+{
+    blocks.len() < BLOCK_LIMIT && !has_block(name, blocks)
+}
+
+impl Saying {
+    /// Nothing was said.
+    pub fn new(alloc: Global) -> Saying
+        ensures { said_of result ≡ nothing }
+    {
+        Saying {
+            no_script: false,
+            over: Vec::new(alloc),
+            current: None,
+        }
+    }
+
+    fn say_globally(self) -> Option<Saying>
+        ensures { option_map said_of result ≡ say_globally (said_of self) self.no_script self.current }
+    {
+        match (self.no_script, self.current) {
+            (false, None) => Some(Saying {
+                no_script: true,
+                ..self
+            }),
+            _ => None,
+        }
+    }
+
+    fn begin_block(self, name: Name) -> Result<Option<Saying>, NoMemory>
+        ensures { IfOk result (λ o. option_map said_of o ≡ begin_block name (said_of self)) }
+    {
+        let no_script = self.no_script;
+        let over = with_block(self.over, self.current)?;
+        if !has_room(&name, &over) {
+            return Ok(None);
+        }
+        let current = Some(Block {
+            name,
+            address: None,
+            router: None,
+        });
+        Ok(Some(Saying {
+            no_script,
+            over,
+            current,
+        }))
+    }
+
+    fn say_address(self, net: Net4) -> Option<Saying>
+        ensures { option_map said_of result ≡ say_address net (said_of self) self.current }
+    {
+        let block = self.current?;
+        if block.address.is_some() {
+            return None;
+        }
+        let current = Some(Block {
+            address: Some(net),
+            ..block
+        });
+        Some(Saying { current, ..self })
+    }
+
+    fn say_router(self, ip: Ip4) -> Option<Saying>
+        ensures { option_map said_of result ≡ say_router ip (said_of self) self.current }
+    {
+        let block = self.current?;
+        if block.router.is_some() {
+            return None;
+        }
+        let current = Some(Block {
+            router: Some(ip),
+            ..block
+        });
+        Some(Saying { current, ..self })
+    }
+
+    /// What was said with one line more, where it may stand there.
+    #[tactic(auto, unfolding(crate::specs::ConfLines::say))]
+    pub fn say(self, line: ConfLine) -> Result<Option<Saying>, NoMemory>
+        ensures { IfOk result (λ o. option_map said_of o ≡ say (said_of self) line) }
+    {
+        match line {
+            ConfLine::NoScript => Ok(self.say_globally()),
+            ConfLine::Interface(name) => self.begin_block(name),
+            ConfLine::Address(net) => Ok(self.say_address(net)),
+            ConfLine::Router(ip) => Ok(self.say_router(ip)),
+        }
+    }
+
+    /// The configuration that was said.
+    pub fn finish(self) -> Result<Conf, NoMemory>
+        ensures { IfOk result (λ conf. configuration conf ≡ configured (said_of self)) }
+    {
+        let no_script = self.no_script;
+        let blocks = with_block(self.over, self.current)?;
+        Ok(Conf { no_script, blocks })
+    }
+}

@@ -1,0 +1,5 @@
+pub mod ChangeLists
+pub mod Makings
+pub mod Calls
+pub mod Printings
+pub mod Stretches

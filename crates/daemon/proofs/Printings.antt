@@ -1,0 +1,43 @@
+-- Lines printed one after another.
+use Rattle.std.proofs.Common.{ℕ, ◌≡◌, ◌+◌, ◌<◌, List, [], ◌∷◌, ◌++◌, length, get_or, take, Option, Some, None, refl, sym, ap, subst, ◌∙◌, append_assoc, append-nil}
+use Rattle.std.specs.Prelude.{map, flat_map}
+use Rattle.std.proofs.lemmas.List.{take_more, map-append}
+use Rattle.std.proofs.lemmas.List.Concat.{flat_map-append}
+use Rattle.world.specs.declared.rows.HostRow.{HostRow}
+use Rattle.world.specs.HostCalls.{HostCall}
+use Rattle.client_model.specs.Lines.{Line, line_text, lines_text}
+use Rattle.client_model.specs.Lines as lines
+use Rattle.client_model.specs.Lives.{call_lines, host_lines}
+use Rattle.daemon.specs.declared.host_changes.Made.{Made}
+use Rattle.daemon.specs.HostTurns.{made_call}
+use Rattle.daemon.specs.Printing.{Prints}
+
+lines_text-append : (a b : List Line) → lines_text (a ++ b) ≡ lines_text a ++ lines_text b
+lines_text-append a b = flat_map-append line_text a b
+
+pub prints_none : (t : List ℕ) → Prints t t []
+prints_none t = record { appended = sym (append-nil t) }
+
+pub prints_line : (t u : List ℕ) (l : Line) → u ≡ t ++ line_text l → Prints t u (l ∷ [])
+prints_line t u l e = record { appended = e ∙ ap (λ (x : List ℕ). t ++ x) (sym (append-nil (line_text l))) }
+
+pub prints_then : {t u v : List ℕ} {a b : List Line} → Prints t u a → Prints u v b → Prints t v (a ++ b)
+prints_then {t} {u} {v} {a} {b} p q = record { appended = q.appended ∙ ap (λ (x : List ℕ). x ++ lines_text b) p.appended ∙ append_assoc t (lines_text a) (lines_text b) ∙ ap (λ (x : List ℕ). t ++ x) (sym (lines_text-append a b)) }
+
+pub prints_same : {t u : List ℕ} {a b : List Line} → Prints t u a → a ≡ b → Prints t u b
+prints_same {t} {u} {a} {b} p e = subst (λ (ls : List Line). Prints t u ls) e p
+
+-- a loop that prints a line for each row
+pub rows_more : (rows : List HostRow) (i : ℕ) (d : HostRow) (t u v : List ℕ) → i < length rows → Prints t u (map lines.Row (take i rows)) → Prints u v (lines.Row (get_or rows i d) ∷ []) → Prints t v (map lines.Row (take (i + 1) rows))
+rows_more rows i d t u v lt p q = prints_same (prints_then p q) (sym (map-append lines.Row (take i rows) (get_or rows i d ∷ [])) ∙ ap (λ (rs : List HostRow). map lines.Row rs) (sym (take_more rows i d lt)))
+
+-- a loop that prints what was made
+pub made_more_lines : (made : List Made) (i : ℕ) (d : Made) (t u v : List ℕ) → i < length made → Prints t u (host_lines (map made_call (take i made))) → Prints u v (call_lines (made_call (get_or made i d))) → Prints t v (host_lines (map made_call (take (i + 1) made)))
+made_more_lines made i d t u v lt p q =
+    prints_same (prints_then p q)
+      (ap (λ (ls : List Line). host_lines (map made_call (take i made)) ++ ls) (sym (append-nil (call_lines (made_call (get_or made i d)))))
+      ∙ sym (flat_map-append call_lines (map made_call (take i made)) (made_call (get_or made i d) ∷ []))
+      ∙ ap host_lines (sym (map-append made_call (take i made) (get_or made i d ∷ [])) ∙ ap (λ (ms : List Made). map made_call ms) (sym (take_more made i d lt))))
+
+pub host_lines-append : (a b : List HostCall) → host_lines (a ++ b) ≡ host_lines a ++ host_lines b
+host_lines-append a b = flat_map-append call_lines a b

@@ -1,0 +1,6 @@
+pub mod HostTurns
+pub mod Printing
+pub mod Lives
+pub mod TurnsMade
+pub mod Serving
+pub mod Waking

@@ -1,0 +1,21 @@
+-- A life as the code has it.
+use Rattle.std.specs.Prelude.{ℕ, ◌≡◌, ◌<◌, ◌^◌, ◌+◌, Bool, true, false, Option, Some, None}
+use Rattle.client_model.specs.Turns as model
+use Rattle.daemon.specs.declared.lives.Life.{Life}
+use Rattle.daemon.specs.HostTurns.{keys_of}
+
+abbrev pub life_of : Life → model.Life
+life_of life = record { client = life.core; known = keys_of life.known; now = life.moment; stop = life.stop }
+
+abbrev pub IsBelowEnd : Option ℕ → Type 0
+IsBelowEnd None = Unit {0}
+IsBelowEnd (Some at) = at < 10 ^ 15
+
+-- its moments are below the end of time
+pub record IsTimely (life : Life) : Type 0 where
+  pub moment : life.moment < 10 ^ 15
+  pub stop : IsBelowEnd life.stop
+
+abbrev pub retry_unless : Bool → ℕ → Option ℕ
+retry_unless true now = None
+retry_unless false now = Some (now + 1000)

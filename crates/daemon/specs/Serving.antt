@@ -1,0 +1,51 @@
+-- A stretch of turns, as the loop meets them.
+use Rattle.std.specs.Prelude.{ℕ, ◌≡◌, ◌<◌, ◌≤◌, ◌+◌, Bool, true, false, List, [], ◌∷◌, ◌++◌, length, Option, Some, None}
+use Rattle.world.specs.HostCalls.{HostTold}
+use Rattle.world.specs.LinkCalls.{LinkTold}
+use Rattle.client_model.specs.declared.interfaces.Managed.{Managed}
+use Rattle.client_model.specs.Turns.{Life, Met, life_after, is_over}
+use Rattle.client_model.specs.Lives.{AllAnswered, turns_lines}
+use Rattle.client_model.specs.Lines.{Line, lines_text}
+use Rattle.client_model.specs.ToldDevices.{told_turns}
+use Rattle.daemon.specs.declared.serving.ServeEnd.{ServeEnd}
+use Rattle.daemon.specs.declared.serving.ServeEnd.TheVariants as ends
+
+-- lines were written, where it is told what is written
+abbrev pub WritesLines : Option (List ℕ) → Option (List ℕ) → List Line → Type 0
+WritesLines None new lines = new ≡ None
+WritesLines (Some written) new lines = new ≡ Some (written ++ lines_text lines)
+
+-- The turns met are those that the devices foretold, and the rest is still to come.
+abbrev pub IsRest : List Managed → List ℕ → List Met → ℕ → List Met → Life → Option HostTold → Option LinkTold → Type 0
+IsRest managed failing foretold count mets to None link = ⊥
+IsRest managed failing foretold count mets to (Some host) None = ⊥
+IsRest managed failing foretold count mets to (Some host) (Some link) =
+    (foretold ≡ mets ++ told_turns managed failing to host link.coming) × (count ≡ length mets + length link.coming)
+
+abbrev pub AreForetold : List Managed → Option (List ℕ) → Life → Option HostTold → Option LinkTold → List Met → Life → Option HostTold → Option LinkTold → Type 0
+AreForetold managed None from host link mets to host_to link_to = Unit {0}
+AreForetold managed (Some failing) from None link mets to host_to link_to = Unit {0}
+AreForetold managed (Some failing) from (Some host) None mets to host_to link_to = Unit {0}
+AreForetold managed (Some failing) from (Some host) (Some link) mets to host_to link_to =
+    IsRest managed failing (told_turns managed failing from host link.coming) (length link.coming) mets to host_to link_to
+
+pub record Goes (managed : List Managed) (failing : Option (List ℕ))
+    (from : Life) (host_from : Option HostTold) (link_from : Option LinkTold) (out_from : Option (List ℕ))
+    (to : Life) (host_to : Option HostTold) (link_to : Option LinkTold) (out_to : Option (List ℕ)) (mets : List Met) : Type 0 where
+  pub after : to ≡ life_after managed from mets
+  pub answers : AllAnswered managed from mets
+  pub written : WritesLines out_from out_to (turns_lines managed from mets)
+  pub foretold : AreForetold managed failing from host_from link_from mets to host_to link_to
+
+-- nothing more comes
+abbrev pub IsUsedUp : Option LinkTold → Type 0
+IsUsedUp None = Unit {0}
+IsUsedUp (Some link) = link.coming ≡ []
+
+-- why a life was cut off: only where the count of that device rose
+abbrev pub HasServeCause : ServeEnd → ℕ → ℕ → ℕ → ℕ → Type 0
+HasServeCause ends.End out out' link link' = (out ≤ out') × (link ≤ link')
+HasServeCause ends.TurnsOver out out' link link' = (out ≤ out') × (link ≤ link')
+HasServeCause ends.LinkFault out out' link link' = (out ≤ out') × (link < link')
+HasServeCause ends.WriteFault out out' link link' = (out < out') × (link ≤ link')
+HasServeCause ends.NoMemory out out' link link' = (out ≤ out') × (link ≤ link')

@@ -1,0 +1,39 @@
+-- One wake of a life.
+use Rattle.std.specs.Prelude.{ℕ, ◌≡◌, ◌⊎◌, Bool, true, false, List, [], ◌∷◌, ◌++◌, length, Option, Some, None}
+use Rattle.world.specs.declared.wakes.Event.{Event}
+use Rattle.world.specs.declared.wakes.Event.TheVariants.{End}
+use Rattle.world.specs.HostCalls.{HostTold}
+use Rattle.world.specs.LinkCalls.{LinkTold}
+use Rattle.client_model.specs.declared.interfaces.Managed.{Managed}
+use Rattle.client_model.specs.Turns as model
+use Rattle.client_model.specs.Turns.{Met, is_over}
+use Rattle.daemon.specs.declared.waking.Woken.{Woken}
+use Rattle.daemon.specs.declared.waking.Woken.TheVariants.{On, Over}
+use Rattle.daemon.specs.Lives.{life_of, IsTimely}
+use Rattle.daemon.specs.Serving.{Goes, IsUsedUp}
+
+abbrev pub is_end : Event → Bool
+is_end End = true
+is_end event = false
+
+-- bytes were written, where it is told what is written
+abbrev pub WritesBytes : Option (List ℕ) → Option (List ℕ) → List ℕ → Type 0
+WritesBytes None new bytes = new ≡ None
+WritesBytes (Some written) new bytes = new ≡ Some (written ++ bytes)
+
+-- a life goes on after exactly one turn; it is over after none, since nothing more came, or after one
+pub record GoesOn (managed : List Managed) (failing : Option (List ℕ)) (from : model.Life) (host : Option HostTold) (link : Option LinkTold) (out : Option (List ℕ))
+    (to : model.Life) (host_to : Option HostTold) (link_to : Option LinkTold) (out_to : Option (List ℕ)) : Type 0 where
+  pub met : Met
+  pub goes : Goes managed failing from host link out to host_to link_to out_to (met ∷ [])
+  pub going : is_over to ≡ false
+
+pub record EndsThere (managed : List Managed) (failing : Option (List ℕ)) (from : model.Life) (host : Option HostTold) (link : Option LinkTold) (out : Option (List ℕ))
+    (to : model.Life) (host_to : Option HostTold) (link_to : Option LinkTold) (out_to : Option (List ℕ)) : Type 0 where
+  pub mets : List Met
+  pub goes : Goes managed failing from host link out to host_to link_to out_to mets
+  pub over : (is_over to ≡ true) ⊎ IsUsedUp link_to
+
+abbrev pub IsOneTurn : List Managed → Option (List ℕ) → model.Life → Option HostTold → Option LinkTold → Option (List ℕ) → Woken → Option HostTold → Option LinkTold → Option (List ℕ) → Type 0
+IsOneTurn managed failing from host link out (On life) host_to link_to out_to = IsTimely life × GoesOn managed failing from host link out (life_of life) host_to link_to out_to
+IsOneTurn managed failing from host link out (Over life) host_to link_to out_to = EndsThere managed failing from host link out (life_of life) host_to link_to out_to

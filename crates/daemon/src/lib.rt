@@ -1,0 +1,14 @@
+//! The loop of turns over the devices, and the top call.
+#![tactic(auto)]
+
+mod devices;
+mod host_changes;
+mod host_lines;
+mod host_turns;
+mod lives;
+mod serving;
+mod turns;
+mod waking;
+
+pub use devices::Devices;
+pub use serving::ServeEnd;

@@ -1,0 +1,113 @@
+ghost use Rattle.std.specs.Prelude.{◌≡◌, ◌<◌, ◌≤◌, ◌+◌, ◌^◌, max};
+ghost use Rattle.client_model.specs.Turns.{capped, stop_after, earlier, retry_at, end_at, is_past, until, is_over};
+ghost use Rattle.daemon.specs.Lives.{life_of, IsBelowEnd, IsTimely, retry_unless};
+
+use client_core::Core;
+use std::collections::BTreeSet;
+use world::{Event, HostRow};
+
+/// Moments are below this, in milliseconds since 1970.
+const END_OF_TIME: u64 = 1_000_000_000_000_000;
+
+/// After this time an unknown table is looked at again.
+const RETRY: u64 = 1000;
+
+/// A life goes on for this time after the stop.
+const GRACE: u64 = 5000;
+
+/// A life between two turns.
+#[derive(Drop)]
+pub struct Life {
+    pub core: Core,
+    /// The host's rows on managed interfaces, where they are known.
+    pub known: Option<BTreeSet<HostRow>>,
+    /// The moment of the last turn, in milliseconds since 1970.
+    pub moment: u64,
+    /// The moment of the stop, once it came.
+    pub stop: Option<u64>,
+}
+
+/// A moment as it counts: moments end, and don't go back.
+pub fn raised(now: u64, at: u64) -> u64
+    requires { now < 10 ^ 15 }
+    ensures value { result ≡ max now (capped at) }
+    ensures below { result < 10 ^ 15 }
+{
+    now.max(cut(at))
+}
+
+/// A moment of at most the end of time.
+pub fn cut(at: u64) -> u64
+    ensures value { result ≡ capped at }
+    ensures below { result < 10 ^ 15 }
+{
+    at.min(END_OF_TIME - 1)
+}
+
+/// The first stop counts.
+pub fn stop_moment(stop: Option<u64>, event: Event, now: u64) -> Option<u64>
+    ensures { result ≡ stop_after stop event now }
+{
+    match (stop, event) {
+        (Some(at), _) => Some(at),
+        (None, Event::Stop) => Some(now),
+        (None, Event::Frame { .. }) => None,
+        (None, Event::Carrier { .. }) => None,
+        (None, Event::Duplicate { .. }) => None,
+        (None, Event::Release { .. }) => None,
+        (None, Event::Rebind { .. }) => None,
+        (None, Event::Quiet) => None,
+        (None, Event::End) => None,
+    }
+}
+
+fn retry(is_known: bool, now: u64) -> Option<u64>
+    requires { now < 10 ^ 15 }
+    ensures { result ≡ retry_unless is_known now }
+{
+    if is_known { None } else { Some(now + RETRY) }
+}
+
+fn last_moment(stop: Option<u64>) -> Option<u64>
+    requires { IsBelowEnd stop }
+    ensures { result ≡ end_at stop }
+{
+    match stop {
+        None => None,
+        Some(at) => Some(at + GRACE),
+    }
+}
+
+fn earlier_of(a: Option<u64>, b: Option<u64>) -> Option<u64>
+    ensures { result ≡ earlier a b }
+{
+    match (a, b) {
+        (None, b) => b,
+        (Some(a), None) => Some(a),
+        (Some(a), Some(b)) => Some(a.min(b)),
+    }
+}
+
+impl Life {
+    /// The moment that the next wait is asked for.
+    pub fn until(&self) -> Option<u64>
+        requires { IsTimely self.now }
+        ensures { result ≡ until (life_of self.now) }
+    {
+        earlier_of(
+            retry(self.known.is_some(), self.moment),
+            last_moment(self.stop),
+        )
+    }
+
+    /// Whether the life is over.
+    pub fn is_over(&self) -> bool
+        requires { IsTimely self.now }
+        ensures { result ≡ is_over (life_of self.now) }
+    {
+        match last_moment(self.stop) {
+            None => false,
+            Some(at) => at <= self.moment,
+        }
+    }
+}

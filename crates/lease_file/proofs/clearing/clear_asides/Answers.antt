@@ -1,0 +1,9 @@
+use Rattle.lease_file.proofs.Removals.{names_told, calls_all}
+use Rattle.lease_file.proofs.clearing.clear_asides.Goals as goal
+
+pub returns-clause-names : goal.returns-clause-names
+returns-clause-names g c = names_told _ c.in_ok-removed.removed.items _ c.in_ok-removed.ensures.names c.in_ok-names.ensures.names
+
+pub returns-clause-calls : goal.returns-clause-calls
+returns-clause-calls g c =
+    calls_all c.in_ok-removed.removed.items _ c.in_ok-settled.settled _ _ _ _ c.in_ok-removed.ensures.names c.in_ok-names.ensures.calls c.in_ok-removed.ensures.calls c.in_ok-settled.ensures.calls

@@ -1,0 +1,21 @@
+use Rattle.std.proofs.Common.{◌≡◌, ◌∷◌, ◌∙◌, ap, length, arith}
+use Rattle.std.specs.Vec.Iter.{into_iter_items}
+use Rattle.lease_file.proofs.Removals.{cause_more, calls_more, files_more, names_more}
+use Rattle.lease_file.proofs.clearing.remove_asides.Goals as goal
+
+pub loop-name-preserved : goal.loop-name-preserved
+loop-name-preserved g c =
+    let at = c.loop-name in
+    let one = c.in_ok-ok.ensures in
+    let next : into_iter_items at.name-iterator ≡ c.in-Some.name ∷ into_iter_items c.next.new.self = c.in-Some.ensures.steps.0 in
+    let all = c.in_ok-push.ensures.items in
+    record {
+      later = omega arith;
+      failing = c.remove_aside.ensures.failing ∙ at.invariant.failing;
+      cause = cause_more at.removed.items _ _ _ _ _ all at.invariant.cause at.invariant.later one.later one.cause;
+      names = names_more at.removed.items _ _ _ _ _ all next at.invariant.names;
+      count = let was = at.invariant.count in let gone = c.in-Some.ensures.steps.1 in let short = ap length next in omega arith;
+      fit = (rw next at at.invariant.fit).1;
+      calls = calls_more at.removed.items _ _ _ _ _ all at.invariant.calls (rw c.deref.ensures at one.calls);
+      files = λ known. files_more at.removed.items _ _ _ _ _ all (at.invariant.files known) (rw c.deref.ensures at (one.files (rw at.invariant.failing known)));
+    }

@@ -1,0 +1,73 @@
+-- Clearing the asides of a store: a listing, a removal of each, and a settling where there was one.
+use Rattle.std.specs.Prelude.{ℕ, Bool, true, false, not, ◌||◌, ◌≡◌, ◌<◌, List, [], ◌∷◌, ◌++◌, map, Option, Some, None, Result, Ok, Err, if◌then◌else◌}
+use Rattle.std.specs.List.{list_any}
+use Rattle.std.specs.String.{string_bytes}
+use Rattle.world.specs.Causes.{has_number}
+use Rattle.world.specs.StoreCalls.{StoreCall, ListedAsides, RemovedFile, SettledFiles, StoreFile, drop_file}
+use Rattle.lease_file.specs.declared.clearing.Cleared.{Cleared}
+use Rattle.lease_file.specs.declared.clearing.Clearing.{Clearing}
+use Rattle.lease_file.specs.declared.faults.SaveStep.TheVariants as step
+use Rattle.lease_file.specs.declared.faults.SaveFault.{SaveFault}
+use Rattle.lease_file.specs.declared.faults.SaveFault.TheVariants.{Failed, NoMemory}
+
+-- Only a failed listing refuses, and only where the count of faults rose.
+abbrev pub HasListingCause : {T : Type 0} → ℕ → ℕ → Result T SaveFault → Type 0
+HasListingCause old new (Ok x) = Unit {0}
+HasListingCause old new (Err (Failed call)) = (call ≡ step.List) × (old < new)
+HasListingCause old new (Err NoMemory) = Unit {0}
+
+abbrev pub any_left : List Cleared → Bool
+any_left removed = list_any (λ cleared. not cleared.ok) removed
+
+abbrev pub is_unsettled : Option Bool → Bool
+is_unsettled None = false
+is_unsettled (Some done) = not done
+
+-- Nor does a removal or the settling fail where the count didn't rise.
+abbrev pub HasClearingCause : ℕ → ℕ → Result Clearing SaveFault → Type 0
+HasClearingCause old new (Ok clearing) = (any_left clearing.removed.items || is_unsettled clearing.settled) ≡ true → old < new
+HasClearingCause old new (Err fault) = HasListingCause {T = Clearing} old new (Err fault)
+
+-- Where it is told which calls fail, the listing refuses exactly where its number is told.
+abbrev pub IsListingForetold : {T : Type 0} → Option (List ℕ) → ℕ → Result T SaveFault → Type 0
+IsListingForetold None number result = Unit {0}
+IsListingForetold (Some failing) number (Ok x) = has_number failing number ≡ false
+IsListingForetold (Some failing) number (Err (Failed call)) = has_number failing number ≡ true
+IsListingForetold (Some failing) number (Err NoMemory) = Unit {0}
+
+-- no call of the store refused
+abbrev pub FailsNothing : {T : Type 0} → Result T SaveFault → Type 0
+FailsNothing (Ok x) = Unit {0}
+FailsNothing (Err (Failed call)) = ⊥
+FailsNothing (Err NoMemory) = Unit {0}
+
+-- Removals are settled, where there was one.
+abbrev pub SettlesIfAny : {T : Type 0} → List T → Option Bool → Type 0
+SettlesIfAny [] settled = settled ≡ None
+SettlesIfAny (x ∷ xs) None = ⊥
+SettlesIfAny (x ∷ xs) (Some done) = Unit {0}
+
+-- the calls with their answers
+abbrev pub listing_calls : List (List ℕ) → List StoreCall
+listing_calls names = ListedAsides (Some names) ∷ []
+
+abbrev pub removal_calls : List Cleared → List StoreCall
+removal_calls removed = map (λ cleared. RemovedFile (string_bytes cleared.name) cleared.ok) removed
+
+abbrev pub settling_calls : Option Bool → List StoreCall
+settling_calls None = []
+settling_calls (Some done) = SettledFiles done ∷ []
+
+abbrev pub cleared_calls : Clearing → List StoreCall
+cleared_calls clearing =
+    listing_calls (map (λ cleared. string_bytes cleared.name) clearing.removed.items)
+    ++ (removal_calls clearing.removed.items ++ settling_calls clearing.settled)
+
+-- the files after a removal
+abbrev pub without_one : Bool → List ℕ → List StoreFile → List StoreFile
+without_one done name files = if done then drop_file name files else files
+
+-- the files without those that were removed
+abbrev pub without : List Cleared → List StoreFile → List StoreFile
+without [] files = files
+without (cleared ∷ rest) files = without rest (without_one cleared.ok (string_bytes cleared.name) files)

@@ -1,0 +1,4 @@
+pub mod AsideCalls
+pub mod FileReads
+pub mod Quiet
+pub mod ToldStore

@@ -1,0 +1,68 @@
+-- The lines that a transcript can have so far: numbers of the daemon's types, names as they are allowed, rows of IPv4.
+use Rattle.std.specs.Prelude.{◌≡◌, ℕ, ◌<◌, ◌^◌, List, [], length, Option, Some, None}
+use Rattle.std.specs.List.{AllByRecursion}
+use Rattle.net_types.specs.declared.interface.IfSpec.{IfSpec}
+use Rattle.net_types.specs.declared.address.Net.{Net}
+use Rattle.net_types.specs.declared.address.Net.TheVariants.{V4, V6}
+use Rattle.net_types.specs.AddressText.{FitsMac, FitsNet4}
+use Rattle.net_types.specs.NameText.{FitsName}
+use Rattle.net_types.specs.Marks.{AreBytes}
+use Rattle.world.specs.declared.wakes.Event.{Event}
+use Rattle.world.specs.declared.wakes.Event.TheVariants.{Frame, Carrier, Duplicate, Release, Rebind, Stop, Quiet, End}
+use Rattle.world.specs.FileNames.{IsFileName}
+use Rattle.world.specs.StoreCalls.{Reading, Found, Missing, Unread}
+use Rattle.world.specs.RowText.{IsBuiltRow}
+use Rattle.client_model.specs.Lines.{Line}
+use Rattle.client_model.specs.Lines as Model
+
+abbrev pub IsWord : ℕ → Type 0
+IsWord number = number < 2 ^ 64
+
+-- a frame of its length in bytes, or another input without bytes
+abbrev pub FitsEvent : Event → List ℕ → Type 0
+FitsEvent (Frame iface len) bytes = (iface < 2 ^ 32) × (len ≡ length bytes) × AreBytes bytes
+FitsEvent (Carrier iface up) bytes = (iface < 2 ^ 32) × (bytes ≡ [])
+FitsEvent (Release iface) bytes = (iface < 2 ^ 32) × (bytes ≡ [])
+FitsEvent (Rebind iface) bytes = (iface < 2 ^ 32) × (bytes ≡ [])
+FitsEvent Stop bytes = bytes ≡ []
+FitsEvent Quiet bytes = bytes ≡ []
+FitsEvent (Duplicate iface addr) bytes = ⊥
+FitsEvent End bytes = ⊥
+
+abbrev pub FitsReading : Reading → Type 0
+FitsReading (Found bytes) = AreBytes bytes
+FitsReading Missing = Unit {0}
+FitsReading Unread = Unit {0}
+
+abbrev pub FitsMoment : Option ℕ → Type 0
+FitsMoment (Some at) = IsWord at
+FitsMoment None = Unit {0}
+
+abbrev pub FitsNet : Net → Type 0
+FitsNet (V4 net) = FitsNet4 net
+FitsNet (V6 net) = ⊥
+
+abbrev pub FitsLine : Line → Type 0
+FitsLine Model.Head = Unit {0}
+FitsLine (Model.Conf text) = Unit {0}
+FitsLine (Model.Interface spec) = (spec.index.number < 2 ^ 32) × FitsName spec.name × FitsMac spec.mac
+FitsLine (Model.Life number) = IsWord number
+FitsLine (Model.Start begin) = IsWord begin.at × IsWord begin.salt × IsWord begin.up
+FitsLine (Model.Asides names) = AllByRecursion IsFileName names
+FitsLine Model.AsidesFailed = Unit {0}
+FitsLine (Model.Removed name done) = IsFileName name
+FitsLine (Model.Settled done) = Unit {0}
+FitsLine (Model.Read name reading) = IsFileName name × FitsReading reading
+FitsLine (Model.Turn at salt event bytes) = IsWord at × IsWord salt × FitsEvent event bytes
+FitsLine (Model.HostListed count) = IsWord count
+FitsLine (Model.Row row) = IsBuiltRow row
+FitsLine Model.HostListFailed = Unit {0}
+FitsLine (Model.HostDel row done) = IsBuiltRow row
+FitsLine (Model.HostAdd row done) = IsBuiltRow row
+FitsLine (Model.Until moment) = FitsMoment moment
+FitsLine (Model.Hold iface net) = (iface.number < 2 ^ 32) × FitsNet net
+FitsLine Model.EndOfLife = Unit {0}
+
+-- Unlike lines have unlike texts.
+abbrev pub LinesApart : Type 0
+LinesApart = (a b : Line) → FitsLine a → FitsLine b → Model.line_text a ≡ Model.line_text b → a ≡ b

@@ -1,0 +1,5 @@
+mod Fronts
+mod HostSteps
+mod FileMaps
+mod StoreSteps
+mod FoundNumbers

@@ -1,0 +1,12 @@
+use Rattle.std.proofs.Common.{map}
+use Rattle.world.specs.FileNames.{IsFileName}
+use Rattle.world.specs.StoreCalls.{StoreFile}
+use Rattle.world_mem.specs.StoreRecord.{entry_file, file_of}
+use Rattle.world_mem.proofs.StoreSteps.{put_more, named_at, named_more}
+use Rattle.world_mem.proofs.stores.MemStore.new.Goals as goal
+
+pub loop-file-preserved : goal.loop-file-preserved
+loop-file-preserved c = (
+  put_more c.file-item.result c.deref-file-items.result.now _ _ c.loop-file.file-index c.file-item.is c.loop-file-test.true c.in-Ok.ensures c.loop-file.invariant.0,
+  named_more c.file-item.result _ _ c.in-Ok.ensures (named_at c.args.files.items c.deref-file-items.result.now c.file-item.result c.loop-file.file-index c.loop-file-test.true c.file-item.is c.deref-file-items.ensures.value c.requires) c.loop-file.invariant.1,
+)

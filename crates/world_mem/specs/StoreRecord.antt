@@ -1,0 +1,73 @@
+-- What a store in memory holds, and what its record of calls tells.
+use Rattle.std.specs.Prelude.{ℕ, Bool, true, false, not, ◌≡◌, List, [], ◌∷◌, length, map, fold, count_by, All, Option, Some, None, String}
+use Rattle.std.specs.Global.{Global, Vec}
+use Rattle.std.specs.String.{string_bytes}
+use Rattle.world.specs.FileNames.{IsFileName, aside_of}
+use Rattle.world.specs.StoreCalls.{StoreFile, Found, Missing, Unread, StoreCall, ListedAsides, ReadFile, WroteAside, SyncedAside, RenamedAside, RemovedFile, SettledFiles, StoreTold, store_answered, asides, reading_of, file_at, put_file, drop_file, rename_file}
+use Rattle.world_mem.specs.declared.stores.MemFile.{MemFile}
+use Rattle.world_mem.specs.declared.stores.StoreEntry.{StoreEntry}
+use Rattle.world_mem.specs.declared.stores.StoreEntry.TheVariants.{List as Lists, Read, Write, Sync, Rename, Remove, Settle}
+
+pub record StoreState : Type 0 where
+  -- the files and the calls so far
+  pub told : StoreTold
+  -- the numbers of the calls that fail, from 1
+  pub failing : List ℕ
+
+abbrev pub file_of : MemFile → StoreFile
+file_of file = record { name = string_bytes file.name; bytes = file.bytes.items }
+
+-- files in byte order of their names, put in one after another; of one name the last stays
+abbrev pub put_files : List StoreFile → List StoreFile → List StoreFile
+put_files sorted [] = sorted
+put_files sorted (file ∷ files) = put_files (put_file file sorted) files
+
+abbrev pub in_name_order : List StoreFile → List StoreFile
+in_name_order files = put_files [] files
+
+-- a call that changes the files where it was done
+abbrev pub changed : Bool → StoreCall → (List StoreFile → List StoreFile) → StoreTold → StoreTold
+changed true call change told = store_answered call (change told.files) told
+changed false call change told = store_answered call told.files told
+
+-- what is told after one more call
+abbrev pub store_step : StoreTold → StoreEntry → StoreTold
+store_step told (Lists true) = store_answered (ListedAsides (Some (asides told.files))) told.files told
+store_step told (Lists false) = store_answered (ListedAsides None) told.files told
+store_step told (Read name true) = store_answered (ReadFile (string_bytes name) (reading_of (file_at (string_bytes name) told.files))) told.files told
+store_step told (Read name false) = store_answered (ReadFile (string_bytes name) Unread) told.files told
+store_step told (Write name bytes done) = changed done (WroteAside (string_bytes name) bytes.items done) (put_file (record { name = aside_of (string_bytes name); bytes = bytes.items })) told
+store_step told (Sync name done) = changed done (SyncedAside (string_bytes name) done) (λ files. files) told
+store_step told (Rename name done) = changed done (RenamedAside (string_bytes name) done) (λ files. rename_file (string_bytes name) (file_at (aside_of (string_bytes name)) files) files) told
+store_step told (Remove name done) = changed done (RemovedFile (string_bytes name) done) (drop_file (string_bytes name)) told
+store_step told (Settle done) = changed done (SettledFiles done) (λ files. files) told
+
+-- what is told before the first call
+abbrev pub store_start : List MemFile → StoreTold
+store_start files = record { files = in_name_order (map file_of files); calls = [] }
+
+-- what is told of a store that held these files first after the calls of a record
+abbrev pub told_after : List MemFile → List StoreEntry → StoreTold
+told_after first entries = fold store_step (store_start first) entries
+
+abbrev pub store_failed : StoreCall → Bool
+store_failed (ListedAsides (Some names)) = false
+store_failed (ListedAsides None) = true
+store_failed (ReadFile name (Found bytes)) = false
+store_failed (ReadFile name Missing) = false
+store_failed (ReadFile name Unread) = true
+store_failed (WroteAside name bytes done) = not done
+store_failed (SyncedAside name done) = not done
+store_failed (RenamedAside name done) = not done
+store_failed (RemovedFile name done) = not done
+store_failed (SettledFiles done) = not done
+
+-- an entry of the map that holds the files
+abbrev pub entry_file : String Global × Vec ℕ → StoreFile
+entry_file entry = record { name = string_bytes entry.0; bytes = entry.1.items }
+
+-- what is held is what is told, under names of files, and each call has its entry
+pub record HoldsFiles (told : StoreTold) (held : List (String Global × Vec ℕ)) (entries : List StoreEntry) : Type 0 where
+  pub files : told.files ≡ map entry_file held
+  pub names : All (λ file. IsFileName file.name) told.files
+  pub counted : length told.calls ≡ length entries

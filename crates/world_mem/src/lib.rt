@@ -1,0 +1,19 @@
+//! The outside of the daemon in memory: devices that hold what they are made with, fail at the calls they are told,
+//! and keep a record of their calls.
+#![tactic(auto)]
+
+mod files;
+mod hooking;
+mod hosts;
+mod links;
+mod record;
+mod stores;
+mod streams;
+#[cfg(test)]
+mod tests;
+
+pub use hooking::{MemHooks, MemPoll};
+pub use hosts::MemHost;
+pub use links::{MemLink, MemWake};
+pub use stores::{MemFile, MemStore};
+pub use streams::{MemSink, MemSource};

@@ -1,0 +1,355 @@
+ghost use Rattle.std.specs.Prelude.{◌≡◌, [], ◌∷◌, ◌++◌, List, String, map, filter, All, IfOk, IfErr, OnOk, OnErr, is_some};
+ghost use Rattle.std.specs.Global.{Global as Heap};
+ghost use Rattle.std.specs.String.{string_bytes};
+ghost use Rattle.std.specs.BTreeMap.{keys};
+ghost use Rattle.world.specs.FileNames.{IsFileName, aside_of};
+ghost use Rattle.world.specs.StoreCalls.{is_aside, file_at, put_file, rename_file, Appended};
+ghost use Rattle.world_mem.specs.StoreRecord.{store_start, entry_file, file_of};
+
+use crate::files::{Files, bytes_of, put, take_out};
+use crate::record::{Numbers, copy_bytes, copy_text, enter, next_fails};
+use std::alloc::Global;
+use std::collections::BTreeMap;
+use std::marker::Model;
+use world::{DeviceAnswer, NoMemory, Store};
+
+/// What the name of an aside ends in.
+const ASIDE: &str = ".new";
+
+/// A file that a store holds at first.
+#[derive(Drop)]
+pub struct MemFile {
+    pub name: String,
+    pub bytes: Vec<u8>,
+}
+
+/// A call that a store answered. What a listing or a reading gave follows from the files at first and the calls before it.
+#[derive(Drop)]
+pub(crate) enum StoreEntry {
+    List {
+        done: bool,
+    },
+    Read {
+        name: String,
+        done: bool,
+    },
+    Write {
+        name: String,
+        bytes: Vec<u8>,
+        done: bool,
+    },
+    Sync {
+        name: String,
+        done: bool,
+    },
+    Rename {
+        name: String,
+        done: bool,
+    },
+    Remove {
+        name: String,
+        done: bool,
+    },
+    Settle {
+        done: bool,
+    },
+}
+
+/// The files in memory.
+#[derive(Drop)]
+pub struct MemStore {
+    alloc: Global,
+    first: Vec<MemFile>,
+    files: Files,
+    calls: Vec<StoreEntry>,
+    fails: Numbers,
+}
+
+impl Model for MemStore {
+    ghost use Rattle.world_mem.specs.StoreRecord.{StoreState, HoldsFiles, told_after};
+
+    ghost Value = { StoreState };
+
+    ghost view = { λ store. record { told = told_after store.first.items store.calls.items; failing = store.fails } };
+
+    ghost invariant = { λ store. HoldsFiles (told_after store.first.items store.calls.items) store.files.entries store.calls.items };
+}
+
+impl MemStore {
+    /// A store that holds the files at first, and fails at the calls with these numbers, from 1.
+    pub fn new(alloc: Global, files: Vec<MemFile>, fails: Vec<u64>) -> Result<MemStore, NoMemory>
+        requires { All (λ file. IsFileName (string_bytes file.name)) files.items }
+        ensures { IfOk result (λ store. store ≡ record { told = store_start files.items; failing = fails.items }) }
+    {
+        let mut held = BTreeMap::new(alloc);
+        for file in &files {
+            let Ok(()) = put_copy(alloc, &mut held, file) else {
+                return Err(NoMemory);
+            };
+        }
+        Ok(MemStore {
+            alloc,
+            first: files,
+            files: held,
+            calls: Vec::new(alloc),
+            fails: Numbers::new(fails),
+        })
+    }
+}
+
+/// Puts a copy of a file at its place.
+fn put_copy(alloc: Global, held: &mut Files, file: &MemFile) -> Result<(), DeviceAnswer>
+    ensures { OnOk result (map entry_file held.new.entries ≡ put_file (file_of file.now) (map entry_file held.old.entries)) }
+{
+    let name = copy_text(alloc, &file.name)?;
+    let bytes = copy_bytes(alloc, &file.bytes)?;
+    put(held, name, bytes)
+}
+
+/// The name of a file's aside.
+fn aside_name(alloc: Global, name: &str) -> Result<String, DeviceAnswer>
+    ensures ok { IfOk result (λ aside. string_bytes aside ≡ aside_of name.now) }
+    ensures err { IfErr result (λ e. e ≡ DeviceAnswer.NoMemory) }
+{
+    let mut aside = copy_text(alloc, name)?;
+    match aside.push_str(ASIDE) {
+        Ok(()) => Ok(aside),
+        Err(_) => Err(DeviceAnswer::NoMemory),
+    }
+}
+
+/// Whether a name is that of an aside.
+fn names_aside(name: &str) -> bool
+    ensures { result ≡ is_aside name.now }
+{
+    let bytes = name.as_bytes();
+    let end = &bytes[bytes.len().saturating_sub(ASIDE.len())..];
+    end.cmp(&ASIDE.as_bytes()).is_eq()
+}
+
+/// Appends a copy of a text, or nothing where memory runs out.
+fn push_copy(alloc: Global, names: &mut Vec<String>, name: &str) -> Result<(), DeviceAnswer>
+    ensures ok { OnOk result ((copy : String Heap) × (names.new.items ≡ names.old.items ++ copy ∷ []) × (string_bytes copy ≡ name.now)) }
+    ensures unchanged { OnErr result (names.new.items ≡ names.old.items) }
+    ensures err { IfErr result (λ e. e ≡ DeviceAnswer.NoMemory) }
+{
+    let copy = copy_text(alloc, name)?;
+    let Ok(()) = names.push(copy) else {
+        return Err(DeviceAnswer::NoMemory);
+    };
+    Ok(())
+}
+
+/// Appends the names of all asides, or nothing where memory runs out.
+fn append_asides(alloc: Global, files: &Files, names: &mut Vec<String>) -> Result<(), DeviceAnswer>
+    ensures ok { OnOk result ((more : List (String Heap)) × (names.new.items ≡ names.old.items ++ more) × (map string_bytes more ≡ filter is_aside (map string_bytes (keys files.now)))) }
+    ensures unchanged { OnErr result (names.new.items ≡ names.old.items) }
+    ensures err { IfErr result (λ e. e ≡ DeviceAnswer.NoMemory) }
+{
+    let before = names.len();
+    for name in files.keys() {
+        if names_aside(name) {
+            let Ok(()) = push_copy(alloc, names, name) else {
+                names.truncate(before);
+                return Err(DeviceAnswer::NoMemory);
+            };
+        }
+    }
+    Ok(())
+}
+
+/// Appends the bytes of a file and says whether there is one, or appends nothing where memory runs out.
+fn append_file(files: &Files, name: &str, into: &mut Vec<u8>) -> Result<bool, DeviceAnswer>
+    ensures ok { IfOk result (λ found. Appended (file_at name.now (map entry_file files.now.entries)) into.old.items into.new.items found) }
+    ensures unchanged { OnErr result (into.new.items ≡ into.old.items) }
+    ensures err { IfErr result (λ e. e ≡ DeviceAnswer.NoMemory) }
+{
+    match bytes_of(files, name) {
+        Some(bytes) => match into.extend_from_slice(bytes) {
+            Ok(()) => Ok(true),
+            Err(_) => Err(DeviceAnswer::NoMemory),
+        },
+        None => Ok(false),
+    }
+}
+
+/// Puts the aside of a file in its place and says whether there was one.
+fn rename(alloc: Global, files: &mut Files, name: &str) -> Result<bool, DeviceAnswer>
+    ensures ok { IfOk result (λ there. (there ≡ is_some (file_at (aside_of name.now) (map entry_file files.old.entries))) × (map entry_file files.new.entries ≡ rename_file name.now (file_at (aside_of name.now) (map entry_file files.old.entries)) (map entry_file files.old.entries))) }
+    ensures unchanged { OnErr result (files.new.entries ≡ files.old.entries) }
+    ensures err { IfErr result (λ e. e ≡ DeviceAnswer.NoMemory) }
+{
+    let aside = aside_name(alloc, name)?;
+    let content = match bytes_of(files, &aside) {
+        Some(bytes) => copy_bytes(alloc, bytes)?,
+        None => return Ok(false),
+    };
+    let place = copy_text(alloc, name)?;
+    put(files, place, content)?;
+    take_out(files, &aside);
+    Ok(true)
+}
+
+impl Store for MemStore {
+    ghost use Rattle.std.specs.Prelude.{Some, count_by};
+    ghost use Rattle.world_mem.specs.StoreRecord.{store_failed};
+
+    ghost faults = { λ store. count_by store_failed store.told.calls };
+
+    ghost told = { λ store. Some store.told };
+
+    ghost failing = { λ store. Some store.failing };
+
+    fn list_asides(&mut self, names: &mut Vec<String>) -> Result<(), DeviceAnswer> {
+        if next_fails(&mut self.calls, &self.fails)? {
+            enter(&mut self.calls, StoreEntry::List { done: false });
+            return Err(DeviceAnswer::Failed);
+        }
+        append_asides(self.alloc, &self.files, names)?;
+        enter(&mut self.calls, StoreEntry::List { done: true });
+        Ok(())
+    }
+
+    fn read_file(&mut self, name: &str, into: &mut Vec<u8>) -> Result<bool, DeviceAnswer> {
+        let fails = next_fails(&mut self.calls, &self.fails)?;
+        let copy = copy_text(self.alloc, name)?;
+        if fails {
+            enter(
+                &mut self.calls,
+                StoreEntry::Read {
+                    name: copy,
+                    done: false,
+                },
+            );
+            return Err(DeviceAnswer::Failed);
+        }
+        let found = append_file(&self.files, name, into)?;
+        enter(
+            &mut self.calls,
+            StoreEntry::Read {
+                name: copy,
+                done: true,
+            },
+        );
+        Ok(found)
+    }
+
+    fn write_aside(&mut self, name: &str, bytes: &[u8]) -> Result<(), DeviceAnswer> {
+        let fails = next_fails(&mut self.calls, &self.fails)?;
+        let copy = copy_text(self.alloc, name)?;
+        let written = copy_bytes(self.alloc, bytes)?;
+        if fails {
+            enter(
+                &mut self.calls,
+                StoreEntry::Write {
+                    name: copy,
+                    bytes: written,
+                    done: false,
+                },
+            );
+            return Err(DeviceAnswer::Failed);
+        }
+        let aside = aside_name(self.alloc, name)?;
+        let content = copy_bytes(self.alloc, bytes)?;
+        put(&mut self.files, aside, content)?;
+        enter(
+            &mut self.calls,
+            StoreEntry::Write {
+                name: copy,
+                bytes: written,
+                done: true,
+            },
+        );
+        Ok(())
+    }
+
+    fn sync_aside(&mut self, name: &str) -> Result<(), DeviceAnswer> {
+        let fails = next_fails(&mut self.calls, &self.fails)?;
+        let copy = copy_text(self.alloc, name)?;
+        if fails {
+            enter(
+                &mut self.calls,
+                StoreEntry::Sync {
+                    name: copy,
+                    done: false,
+                },
+            );
+            return Err(DeviceAnswer::Failed);
+        }
+        enter(
+            &mut self.calls,
+            StoreEntry::Sync {
+                name: copy,
+                done: true,
+            },
+        );
+        Ok(())
+    }
+
+    fn rename_aside(&mut self, name: &str) -> Result<(), DeviceAnswer> {
+        let fails = next_fails(&mut self.calls, &self.fails)?;
+        let copy = copy_text(self.alloc, name)?;
+        if fails {
+            enter(
+                &mut self.calls,
+                StoreEntry::Rename {
+                    name: copy,
+                    done: false,
+                },
+            );
+            return Err(DeviceAnswer::Failed);
+        }
+        let there = rename(self.alloc, &mut self.files, name)?;
+        if !there {
+            enter(
+                &mut self.calls,
+                StoreEntry::Rename {
+                    name: copy,
+                    done: false,
+                },
+            );
+            return Err(DeviceAnswer::Failed);
+        }
+        enter(
+            &mut self.calls,
+            StoreEntry::Rename {
+                name: copy,
+                done: true,
+            },
+        );
+        Ok(())
+    }
+
+    fn remove(&mut self, name: &str) -> Result<(), DeviceAnswer> {
+        let fails = next_fails(&mut self.calls, &self.fails)?;
+        let copy = copy_text(self.alloc, name)?;
+        if fails {
+            enter(
+                &mut self.calls,
+                StoreEntry::Remove {
+                    name: copy,
+                    done: false,
+                },
+            );
+            return Err(DeviceAnswer::Failed);
+        }
+        take_out(&mut self.files, name);
+        enter(
+            &mut self.calls,
+            StoreEntry::Remove {
+                name: copy,
+                done: true,
+            },
+        );
+        Ok(())
+    }
+
+    fn settle(&mut self) -> Result<(), DeviceAnswer> {
+        if next_fails(&mut self.calls, &self.fails)? {
+            enter(&mut self.calls, StoreEntry::Settle { done: false });
+            return Err(DeviceAnswer::Failed);
+        }
+        enter(&mut self.calls, StoreEntry::Settle { done: true });
+        Ok(())
+    }
+}
