@@ -1,13 +1,13 @@
 -- Lines, and the steps of a loop over lines of one kind.
-use Rattle.std.proofs.Common.{◌≡◌, ℕ, suc, ◌+◌, ◌<◌, ◌≤◌, Bool, true, false, not, cond, List, [], ◌∷◌, ◌++◌, map, length, Option, Some, None, option_map, option_and_then, refl, sym, ap, ◌∙◌, subst, arith, eqb, flat_map, codes}
-use Rattle.std.specs.List.{All, AllByRecursion, slice_split, onto_first, join_with_byte}
-use Rattle.std.proofs.lemmas.Bool.{and_from, not_from_false, not-true, eq-eqb, ne_eqb}
-use Rattle.std.proofs.lemmas.List.{append_assoc, append-nil, length-append}
+use Rattle.std.proofs.Common.{◌≡◌, ℕ, ◌<◌, Bool, true, false, not, cond, List, [], ◌∷◌, ◌++◌, map, length, Option, Some, None, option_map, option_and_then, refl, sym, ap, ◌∙◌, subst, arith, eqb, flat_map, codes}
+use Rattle.std.specs.List.{All, AllByRecursion, onto_first, join_with_byte}
+use Rattle.std.proofs.lemmas.Bool.{and_from, not_from_false, not-true, ne_eqb}
+use Rattle.std.proofs.lemmas.List.{append_assoc, append-nil}
 use Rattle.std.proofs.lemmas.List.Elements.{All-weaker}
 use Rattle.std.proofs.lemmas.List.Sums.{AllPass-from_list_all}
 use Rattle.std.proofs.lemmas.List.Splits.{slice_split_at, length-slice_split, join_with_byte-slice_split}
 use Rattle.net_types.specs.Marks.{Lacks}
-use Rattle.net_types.specs.Cutting.{◌>>=◌, strip_word, split_at_byte, differ}
+use Rattle.net_types.specs.Cutting.{strip_word, split_at_byte, differ}
 use Rattle.net_types.proofs.ReadsLaws.{passed, some_same, split_whole, split_sound, strip_whole, strip_sound}
 use Rattle.net_types.proofs.ListLaws.{split_smaller}
 use Rattle.net_types.proofs.ChoiceLaws.{words_apart}

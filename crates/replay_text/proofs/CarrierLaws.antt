@@ -1,5 +1,5 @@
 -- The line `start`: what is read is spelled so, and what is spelled so is read.
-use Rattle.std.proofs.Common.{◌≡◌, ◌≢◌, ℕ, zero, suc, ◌+◌, ◌-◌, ◌*◌, ◌/◌, ◌%◌, ◌^◌, ◌<◌, ◌≤◌, Bool, true, false, cond, eqb, List, [], ◌∷◌, ◌++◌, map, filter, length, Option, Some, None, option_map, option_and_then, refl, sym, ap, ◌∙◌, subst, arith, codes, bytes_eq, inl, inr, ◌⊎◌, add-one}
+use Rattle.std.proofs.Common.{◌≡◌, ◌≢◌, ℕ, zero, suc, ◌+◌, ◌-◌, ◌*◌, ◌/◌, ◌%◌, ◌^◌, ◌<◌, ◌≤◌, true, false, cond, eqb, List, [], ◌∷◌, ◌++◌, map, filter, Some, None, option_map, option_and_then, refl, sym, ap, ◌∙◌, subst, arith, codes, bytes_eq, add-one}
 use Rattle.std.specs.Fmt.{decimal}
 use Rattle.std.specs.List.{AllByRecursion, join_with_byte}
 use Rattle.std.proofs.lemmas.Bool.{eqb-true, eqb-false, eq-eqb, ne_eqb}
@@ -9,7 +9,7 @@ use Rattle.std.proofs.Math.Nat.{div-div-eq-div-mul, pow-suc}
 use Rattle.net_types.specs.declared.interface.IfIndex.{IfIndex}
 use Rattle.net_types.specs.Reads.{Reads}
 use Rattle.net_types.specs.Marks.{Lacks}
-use Rattle.net_types.specs.Cutting.{◌>>=◌, pair_at, after_word, field_at, list_at, list_text, FitsList}
+use Rattle.net_types.specs.Cutting.{pair_at, after_word, list_at, list_text, FitsList}
 use Rattle.net_types.specs.Numbers.{number_at, is_numeral}
 use Rattle.net_types.proofs.ReadsLaws.{some_same, passed, mapped, steps_assoc, same_reader, word_reads, pair_reads, map_reads}
 use Rattle.net_types.proofs.ListLaws.{list_reads}
@@ -22,7 +22,7 @@ use Rattle.replay_text.specs.declared.carriers.Listed.{Listed}
 use Rattle.replay_text.specs.RowReading.{iface_at}
 use Rattle.replay_text.specs.LineReading.{moment_at, salt_at}
 use Rattle.replay_text.specs.Carriers.{listed_at, list_of_listed_at, bits_at, up_at, begin_at}
-use Rattle.replay_text.proofs.RowLaws.{FitsIface, iface_text, iface_reads, decimal_line, joined_line}
+use Rattle.replay_text.proofs.RowLaws.{FitsIface, iface_reads, decimal_line, joined_line}
 use Rattle.replay_text.proofs.LineLaws.{moment_reads, moment_lacks, salt_reads, salt_lacks}
 
 -- ---- bits

@@ -1,5 +1,5 @@
 -- The lines `if` and `turn`: what is read is spelled so, and what is spelled so is read.
-use Rattle.std.proofs.Common.{◌≡◌, ℕ, ◌+◌, ◌^◌, ◌<◌, ◌≤◌, Bool, true, false, cond, List, [], ◌∷◌, ◌++◌, Option, Some, None, option_map, option_and_then, refl, sym, ap, ◌∙◌, subst, arith, codes, bytes_eq}
+use Rattle.std.proofs.Common.{◌≡◌, ℕ, ◌^◌, ◌<◌, Bool, true, false, cond, List, [], ◌∷◌, ◌++◌, Some, None, option_and_then, refl, sym, ap, ◌∙◌, subst, arith, codes, bytes_eq}
 use Rattle.std.specs.Fmt.{decimal}
 use Rattle.std.proofs.lemmas.List.{append_assoc}
 use Rattle.std.proofs.lemmas.Slice.Eq.{bytes_eq-Decides}
@@ -9,10 +9,10 @@ use Rattle.net_types.specs.declared.interface.Name.{Name}
 use Rattle.net_types.specs.declared.address.Mac.{Mac}
 use Rattle.net_types.specs.Reads.{Reads}
 use Rattle.net_types.specs.Marks.{Lacks}
-use Rattle.net_types.specs.AddressText.{mac_text, mac_at, FitsMac}
-use Rattle.net_types.specs.NameText.{name_text, name_at, FitsName}
+use Rattle.net_types.specs.AddressText.{mac_text, FitsMac}
+use Rattle.net_types.specs.NameText.{name_text, FitsName}
 use Rattle.net_types.specs.Cutting.{strip_word, pair_at}
-use Rattle.net_types.proofs.ReadsLaws.{some_same, passed, mapped, strip_whole, strip_sound, pair_reads, map_reads, same_range}
+use Rattle.net_types.proofs.ReadsLaws.{some_same, passed, mapped, strip_whole, strip_sound, pair_reads, map_reads}
 use Rattle.net_types.proofs.NumberLaws.{number_reads}
 use Rattle.net_types.proofs.NameLaws.{name_reads, name_lacks}
 use Rattle.net_types.proofs.AddressLaws.{mac_reads}

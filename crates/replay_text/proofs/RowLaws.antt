@@ -1,19 +1,17 @@
 -- Rows: what is read is spelled so, and what is spelled so is read.
-use Rattle.std.proofs.Common.{◌≡◌, ℕ, ◌+◌, ◌-◌, ◌%◌, ◌^◌, ◌<◌, ◌≤◌, Bool, true, List, [], ◌∷◌, ◌++◌, Option, Some, None, option_map, option_and_then, refl, sym, ap, ◌∙◌, subst, arith, rules, codes, leb, eqb, IsTrue}
+use Rattle.std.proofs.Common.{◌≡◌, ℕ, ◌-◌, ◌%◌, ◌^◌, ◌<◌, ◌≤◌, Bool, List, [], ◌∷◌, ◌++◌, Option, Some, None, refl, sym, ap, ◌∙◌, subst, arith, codes, leb, IsTrue}
 use Rattle.std.specs.Fmt.{decimal}
 use Rattle.std.proofs.lemmas.Bool.{eqb-true, eq-eqb, leb-true, le-leb}
 use Rattle.std.proofs.lemmas.List.{append_assoc}
 use Rattle.net_types.specs.declared.address.Ip4.{Ip4}
 use Rattle.net_types.specs.declared.address.Net4.{Net4}
-use Rattle.net_types.specs.declared.address.Net.{Net}
 use Rattle.net_types.specs.declared.address.Net.TheVariants.{V4, V6}
 use Rattle.net_types.specs.declared.interface.IfIndex.{IfIndex}
 use Rattle.net_types.specs.Reads.{Reads}
 use Rattle.net_types.specs.Marks.{Lacks}
 use Rattle.net_types.specs.AddressText.{ip4_text, ip4_at, net4_text, net4_at, net_text, FitsIp4, FitsNet4}
-use Rattle.net_types.specs.Cutting.{strip_word, after_word, by_word, pair_at, guarded, ◌>>=◌}
-use Rattle.net_types.specs.Numbers.{number_at}
-use Rattle.net_types.proofs.ReadsLaws.{some_same, passed, step, mapped, strip_whole, strip_sound, word_reads, pair_reads, map_reads, guard_reads}
+use Rattle.net_types.specs.Cutting.{strip_word, after_word, by_word, pair_at, guarded}
+use Rattle.net_types.proofs.ReadsLaws.{passed, mapped, strip_whole, strip_sound, word_reads, pair_reads, map_reads, guard_reads}
 use Rattle.net_types.proofs.ChoiceLaws.{words_apart}
 use Rattle.net_types.proofs.NumberLaws.{number_reads}
 use Rattle.net_types.proofs.MarkLaws.{decimal_lacks, lacks-append, ip4_lacks, net4_lacks}
@@ -22,8 +20,8 @@ use Rattle.world.specs.declared.rows.HostRow.{HostRow}
 use Rattle.world.specs.declared.rows.HostRow.TheVariants.{Addr, Route}
 use Rattle.world.specs.declared.rows.Via.{Via}
 use Rattle.world.specs.declared.rows.Via.TheVariants.{OnLink, Reject, Gate4, Gate6}
-use Rattle.world.specs.Rows.{IsInterface, IsRow, IsNet, IsNetwork, LeadsTo}
-use Rattle.world.specs.RowText.{row_text, way_text, IsBuiltRow}
+use Rattle.world.specs.Rows.{IsInterface, LeadsTo}
+use Rattle.world.specs.RowText.{row_text, IsBuiltRow}
 use Rattle.replay_text.specs.RowReading.{iface_at, metric_at, Tail, on_link_at, reject_at, gate_at, tail_at, addr_at, is_network, RouteParts, route_parts_at, route_at, row_at}
 
 -- by the first word: what was read after it, or otherwise

@@ -1,34 +1,32 @@
 -- Scripts: what is read is spelled so, and what is spelled so is read.
-use Rattle.std.proofs.Common.{◌≡◌, ℕ, ◌+◌, ◌<◌, ◌≤◌, Bool, true, false, cond, ◌&&◌, eqb, List, [], ◌∷◌, ◌++◌, map, flat_map, length, Option, Some, None, option_map, option_and_then, refl, sym, ap, ◌∙◌, subst, arith, codes}
-use Rattle.std.specs.List.{All, AllByRecursion, join_with_byte}
-use Rattle.std.proofs.lemmas.Bool.{and_parts, and_from, eqb-true, eq-eqb}
+use Rattle.std.proofs.Common.{◌≡◌, ℕ, ◌≤◌, true, ◌&&◌, List, [], ◌∷◌, ◌++◌, map, flat_map, length, Some, refl, sym, ap, ◌∙◌, subst, codes}
+use Rattle.std.specs.List.{AllByRecursion, join_with_byte}
+use Rattle.std.proofs.lemmas.Bool.{and_parts, eqb-true, eq-eqb}
 use Rattle.std.proofs.lemmas.List.{append_assoc, append-nil}
 use Rattle.std.proofs.lemmas.List.Elements.{All-from_recursion}
 use Rattle.std.proofs.lemmas.Option.{cond_some}
 use Rattle.net_types.specs.declared.interface.IfSpec.{IfSpec}
 use Rattle.net_types.specs.Reads.{Reads}
 use Rattle.net_types.specs.Marks.{Lacks}
-use Rattle.net_types.specs.Cutting.{◌>>=◌, strip_word}
+use Rattle.net_types.specs.Cutting.{strip_word}
 use Rattle.net_types.proofs.ReadsLaws.{some_same, passed, mapped, strip_whole, strip_sound}
 use Rattle.net_types.proofs.MarkLaws.{lacks-append}
 use Rattle.world.specs.declared.rows.HostRow.{HostRow}
-use Rattle.world.specs.declared.wakes.Begin.{Begin}
 use Rattle.world.specs.LinkCalls.{Given}
-use Rattle.world.specs.RowOrder.{in_row_order}
 use Rattle.world.specs.RowText.{row_text, IsBuiltRow}
 use Rattle.client_model.specs.Lines.{interface_text, start_text}
-use Rattle.client_model.specs.Scripts.{ScriptLines, LifeScript, ended, given_text, life_text, script_text, FitInterfaces, FitsGiven, FitsLife, FitsScript}
+use Rattle.client_model.specs.Scripts.{ScriptLines, LifeScript, ended, given_text, life_text, script_text, FitsGiven, FitsScript}
 use Rattle.replay_text.specs.RowReading.{row_at}
 use Rattle.replay_text.specs.LineReading.{spec_at, turn_at}
 use Rattle.replay_text.specs.Carriers.{begin_at}
 use Rattle.replay_text.specs.Blocks.{parts_of, Block, block_at, line_at, are_done}
 use Rattle.replay_text.specs.ScriptContent.{unless_last, lines_within, conf_lines}
 use Rattle.replay_text.specs.KindTests.{interfaces_fit, are_once, turns_fit}
-use Rattle.replay_text.specs.ScriptReading.{only_if, conf_at, ifaces_at, rows_at, life_at, body_at, head, script_at}
+use Rattle.replay_text.specs.ScriptReading.{conf_at, ifaces_at, rows_at, life_at, body_at, head, script_at}
 use Rattle.replay_text.proofs.RowLaws.{row_reads, row_line}
 use Rattle.replay_text.proofs.LineLaws.{spec_text, FitsSpec, spec_reads, spec_spelled, spec_line, turn_words, turn_reads, turn_spelled, turn_line}
 use Rattle.replay_text.proofs.CarrierLaws.{begin_words, FitsBegin, begin_reads, begin_spelled, begin_line}
-use Rattle.replay_text.proofs.BlockLaws.{WordsApart, parts_line, parts_joined, parts_lack, AreParts, block_sound, block_whole, Stops, stops_line, stops_block, line_sound, line_whole, parts_block}
+use Rattle.replay_text.proofs.BlockLaws.{WordsApart, parts_line, parts_joined, parts_lack, block_sound, block_whole, Stops, stops_line, stops_block, line_sound, line_whole, parts_block}
 use Rattle.replay_text.proofs.TestLaws.{by_recursion, AreInterfaces, interfaces_few, interfaces_sound, interfaces_whole, AreTurns, turns_sound, turns_whole}
 
 -- ---- the configuration

@@ -1,5 +1,5 @@
 -- Lines, and lines of one kind after one another.
-use Rattle.std.specs.Prelude.{ℕ, ◌==◌, Bool, true, false, List, [], ◌∷◌, length, Option, Some, None}
+use Rattle.std.specs.Prelude.{ℕ, ◌==◌, Bool, true, false, List, [], ◌∷◌, Option, Some, None}
 use Rattle.std.specs.List.{slice_split}
 use Rattle.net_types.specs.Cutting.{◌>>=◌, strip_word, split_at_byte}
 

@@ -1,5 +1,5 @@
 -- How the line `start` is read: the moment, a random word and the interfaces with carrier.
-use Rattle.std.specs.Prelude.{ℕ, zero, suc, ◌+◌, ◌*◌, ◌==◌, List, [], ◌∷◌, Option, Some, None, codes, bytes_eq, option_map, option_and_then, if◌then◌else◌}
+use Rattle.std.specs.Prelude.{ℕ, zero, suc, ◌+◌, ◌*◌, ◌==◌, List, [], ◌∷◌, Option, Some, None, codes, bytes_eq, option_map, if◌then◌else◌}
 use Rattle.net_types.specs.Cutting.{◌>>=◌, after_word, field_at, list_at}
 use Rattle.world.specs.declared.wakes.Begin.{Begin}
 use Rattle.replay_text.specs.declared.carriers.Listed.{Listed}

@@ -1,12 +1,10 @@
 -- How the text of a row is read: by its words from left to right.
-use Rattle.std.specs.Prelude.{ℕ, ◌-◌, ◌%◌, ◌^◌, Bool, true, ◌==◌, nat_le, List, Option, Some, None, codes, option_map}
-use Rattle.net_types.specs.declared.address.Ip4.{Ip4}
+use Rattle.std.specs.Prelude.{ℕ, ◌-◌, ◌%◌, ◌^◌, Bool, ◌==◌, nat_le, List, Option, codes, option_map}
 use Rattle.net_types.specs.declared.address.Net4.{Net4}
-use Rattle.net_types.specs.declared.address.Net.{Net}
 use Rattle.net_types.specs.declared.address.Net.TheVariants.{V4}
 use Rattle.net_types.specs.declared.interface.IfIndex.{IfIndex}
 use Rattle.net_types.specs.AddressText.{ip4_at, net4_at}
-use Rattle.net_types.specs.Cutting.{strip_word, after_word, pair_at, choice_at, guarded}
+use Rattle.net_types.specs.Cutting.{after_word, pair_at, choice_at, guarded}
 use Rattle.net_types.specs.Numbers.{number_at}
 use Rattle.world.specs.declared.rows.HostRow.{HostRow}
 use Rattle.world.specs.declared.rows.HostRow.TheVariants.{Addr, Route}

@@ -1,7 +1,6 @@
 use Rattle.std.proofs.Common.{◌≡◌, ◌++◌, ◌∷◌, [], sym, ap, ◌∙◌, map}
 use Rattle.std.proofs.lemmas.List.{map_push}
-use Rattle.replay_text.proofs.BlockLaws.{block_ends, block_bad, block_more, line_smaller, with_front}
-use Rattle.replay_text.specs.Blocks.{block_at, parts_of}
+use Rattle.replay_text.proofs.BlockLaws.{block_ends, block_bad, block_more, line_smaller}
 use Rattle.replay_text.proofs.blocks.block_of.Goals as goal
 
 pub returns-in_default : goal.returns-in_default

@@ -1,5 +1,4 @@
 use Rattle.std.proofs.Common.{◌≡◌, ◌++◌, ◌∷◌, [], sym, ap, ◌∙◌}
-use Rattle.std.proofs.lemmas.List.{append_assoc}
 use Rattle.replay_text.proofs.BlockLaws.{conf_ends, conf_more, line_smaller}
 use Rattle.replay_text.proofs.blocks.conf_of.Goals as goal
 

@@ -1,4 +1,3 @@
-use Rattle.std.proofs.Common.{sym, ap, ◌∙◌}
 use Rattle.net_types.proofs.ReadsLaws.{spells_none}
 use Rattle.replay_text.specs.ScriptContent.{script_of}
 use Rattle.replay_text.proofs.ScriptLaws.{script_reads}
