@@ -1,1 +1,3 @@
+pub mod CallLists
+pub mod Readings
 pub mod Removals

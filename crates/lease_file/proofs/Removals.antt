@@ -8,6 +8,7 @@ use Rattle.std.proofs.lemmas.List.Folds.{list_any-append}
 use Rattle.world.specs.StoreCalls.{StoreTold, StoreCall, StoreFile, RemovedFile, SettledFiles, asides}
 use Rattle.lease_file.specs.declared.clearing.Cleared.{Cleared}
 use Rattle.lease_file.specs.ToldStore.{with_calls}
+use Rattle.lease_file.proofs.CallLists.{with_calls-append}
 use Rattle.lease_file.specs.AsideCalls.{any_left, listing_calls, removal_calls, without, without_one}
 
 cause_cases : (left ok : Bool) (old mid new : ℕ) → (left ≡ true → old < mid) → old ≤ mid → mid ≤ new → (ok ≡ false → mid < new)
@@ -70,10 +71,6 @@ pub names_told : (told : Option StoreTold) (removed : List Cleared) (names : Lis
     → IfSome told (λ t. map string_bytes names ≡ asides t.files) → IfSome told (λ t. map (λ c. string_bytes c.name) removed ≡ asides t.files)
 names_told None removed names is listed = tt
 names_told (Some t) removed names is listed = bytes_of_names removed ∙ ap (map string_bytes) is ∙ listed
-
-with_calls-append : (a b : List StoreCall) (calls : Option (List StoreCall)) → with_calls b (with_calls a calls) ≡ with_calls (a ++ b) calls
-with_calls-append a b None = refl
-with_calls-append a b (Some calls) = ap Some (append_assoc calls a b)
 
 pub calls_all : (removed : List Cleared) (names : List (String Global)) (done : Bool) (old listed cleared new : Option (List StoreCall)) → names_of removed ≡ names
     → listed ≡ with_calls (listing_calls (map string_bytes names)) old → cleared ≡ with_calls (removal_calls removed) listed → new ≡ with_calls (SettledFiles done ∷ []) cleared

@@ -1,8 +1,9 @@
 -- Reading files of a store.
-use Rattle.std.specs.Prelude.{ℕ, ◌≡◌, ◌<◌, true, false, List, Option, Some, None, Result, Ok, Err}
+use Rattle.std.specs.Prelude.{ℕ, ◌≡◌, ◌<◌, Bool, true, false, List, [], ◌∷◌, Option, Some, None, Result, Ok, Err}
+use Rattle.std.specs.List.{list_any}
 use Rattle.net_types.specs.declared.fault.NoMemory.{NoMemory}
 use Rattle.world.specs.Causes.{has_number}
-use Rattle.world.specs.StoreCalls.{StoreTold, Reading, Found, Missing, Unread, ReadFile, file_at, store_answered}
+use Rattle.world.specs.StoreCalls.{StoreTold, Reading, Found, Missing, Unread, StoreCall, ReadFile, file_at, store_answered}
 use Rattle.lease_file.specs.declared.reading.Got.{Got}
 use Rattle.lease_file.specs.declared.reading.Got.TheVariants as got
 
@@ -38,3 +39,17 @@ TellsReading name None told_new result = told_new ≡ None
 TellsReading name (Some told) told_new (Ok g) =
     IsReadingOf (file_at name told.files) g × (told_new ≡ Some (store_answered (ReadFile name (got_reading g)) told.files told))
 TellsReading name (Some told) told_new (Err e) = told_new ≡ Some told
+
+abbrev pub is_unread : Got → Bool
+is_unread (got.Text bytes) = false
+is_unread got.Missing = false
+is_unread got.Unread = true
+
+abbrev pub any_unread : List Got → Bool
+any_unread gots = list_any is_unread gots
+
+-- the calls that read files, with their answers
+abbrev pub reading_calls : List (List ℕ) → List Got → List StoreCall
+reading_calls [] gots = []
+reading_calls (name ∷ names) [] = []
+reading_calls (name ∷ names) (g ∷ gots) = ReadFile name (got_reading g) ∷ reading_calls names gots

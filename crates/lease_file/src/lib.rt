@@ -7,4 +7,4 @@ mod reading;
 
 pub use clearing::{Cleared, Clearing, clear_asides};
 pub use faults::{SaveFault, SaveStep};
-pub use reading::{Got, read_file};
+pub use reading::{Got, read_file, read_files};
