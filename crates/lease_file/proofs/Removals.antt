@@ -1,5 +1,5 @@
 -- One more removal after those so far, and all calls of a clearing.
-use Rattle.std.proofs.Common.{ℕ, ◌≡◌, ◌<◌, ◌≤◌, Bool, true, false, not, ◌||◌, List, [], ◌∷◌, ◌++◌, Option, Some, None, length, refl, sym, ap, ◌∙◌, append_assoc, append-nil, arith, String}
+use Rattle.std.proofs.Common.{ℕ, ◌≡◌, ◌<◌, ◌≤◌, Bool, true, false, not, ◌||◌, List, [], ◌∷◌, ◌++◌, Option, Some, None, length, refl, sym, ap, subst, ◌∙◌, append_assoc, append-nil, arith, String}
 use Rattle.std.specs.Prelude.{map, option_map, IfSome}
 use Rattle.std.specs.Global.{Global}
 use Rattle.std.specs.String.{string_bytes}
@@ -9,7 +9,8 @@ use Rattle.world.specs.StoreCalls.{StoreTold, StoreCall, StoreFile, RemovedFile,
 use Rattle.lease_file.specs.declared.clearing.Cleared.{Cleared}
 use Rattle.lease_file.specs.ToldStore.{with_calls}
 use Rattle.lease_file.proofs.CallLists.{with_calls-append}
-use Rattle.lease_file.specs.AsideCalls.{any_left, listing_calls, removal_calls, without, without_one}
+use Rattle.lease_file.specs.AsideCalls.{any_left, listing_calls, removal_calls}
+use Rattle.lease_file.specs.AsideFiles.{without, without_one, TakesFile, TakesFiles}
 
 cause_cases : (left ok : Bool) (old mid new : ℕ) → (left ≡ true → old < mid) → old ≤ mid → mid ≤ new → (ok ≡ false → mid < new)
     → (left || (not ok || false)) ≡ true → old < new
@@ -81,3 +82,23 @@ calls_all removed names done old listed cleared new is first second third =
     let named : listed ≡ with_calls listing old = first ∙ ap (λ (n : List (List ℕ)). with_calls (listing_calls n) old) (ap (map string_bytes) (sym is) ∙ sym (bytes_of_names removed)) in
     third ∙ ap (with_calls settling) (second ∙ ap (with_calls (removal_calls removed)) named ∙ with_calls-append listing (removal_calls removed) old)
     ∙ with_calls-append (listing ++ removal_calls removed) settling old
+
+taken_append : (failing : Option (List ℕ)) (removed : List Cleared) (one : Cleared) (old mid new : Option (List StoreFile))
+    → TakesFiles failing removed old mid → TakesFile failing one.ok (string_bytes one.name) mid new → TakesFiles failing (removed ++ one ∷ []) old new
+taken_append failing [] one old mid new before here = (new, subst (λ (o : Option (List StoreFile)). TakesFile failing one.ok (string_bytes one.name) o new) before here, refl)
+taken_append failing (c ∷ removed) one old mid new before here = (before.0, before.1, taken_append failing removed one before.0 mid new before.2 here)
+
+pub taken_more : (failing now : Option (List ℕ)) (removed all : List Cleared) (one : Cleared) (name : List ℕ) (old mid new : Option (List StoreFile))
+    → now ≡ failing → name ≡ string_bytes one.name → all ≡ removed ++ one ∷ []
+    → TakesFiles failing removed old mid → TakesFile now one.ok name mid new → TakesFiles failing all old new
+taken_more failing now removed all one name old mid new same called is before here =
+    let here_then = subst (λ (f : Option (List ℕ)). TakesFile f one.ok name mid new) same here in
+    let named = subst (λ (n : List ℕ). TakesFile failing one.ok n mid new) called here_then in
+    subst (λ (r : List Cleared). TakesFiles failing r old new) (sym is) (taken_append failing removed one old mid new before named)
+
+pub taken_all : (failing now : Option (List ℕ)) (removed : List Cleared) (old listed cleared new : Option (List StoreFile))
+    → now ≡ failing → listed ≡ old → new ≡ cleared → TakesFiles now removed listed cleared → TakesFiles failing removed old new
+taken_all failing now removed old listed cleared new same first last here =
+    let here_then = subst (λ (f : Option (List ℕ)). TakesFiles f removed listed cleared) same here in
+    let from_old = subst (λ (o : Option (List StoreFile)). TakesFiles failing removed o cleared) first here_then in
+    subst (λ (n : Option (List StoreFile)). TakesFiles failing removed old n) (sym last) from_old

@@ -1,9 +1,9 @@
 -- Clearing the asides of a store: a listing, a removal of each, and a settling where there was one.
-use Rattle.std.specs.Prelude.{ℕ, Bool, true, false, not, ◌||◌, ◌≡◌, ◌<◌, List, [], ◌∷◌, ◌++◌, map, Option, Some, None, Result, Ok, Err, if◌then◌else◌}
+use Rattle.std.specs.Prelude.{ℕ, Bool, true, false, not, ◌||◌, ◌≡◌, ◌<◌, List, [], ◌∷◌, ◌++◌, map, Option, Some, None, Result, Ok, Err}
 use Rattle.std.specs.List.{list_any}
 use Rattle.std.specs.String.{string_bytes}
 use Rattle.world.specs.Causes.{has_number}
-use Rattle.world.specs.StoreCalls.{StoreCall, ListedAsides, RemovedFile, SettledFiles, StoreFile, drop_file}
+use Rattle.world.specs.StoreCalls.{StoreCall, ListedAsides, RemovedFile, SettledFiles}
 use Rattle.lease_file.specs.declared.clearing.Cleared.{Cleared}
 use Rattle.lease_file.specs.declared.clearing.Clearing.{Clearing}
 use Rattle.lease_file.specs.declared.faults.SaveStep.TheVariants as step
@@ -62,12 +62,3 @@ abbrev pub cleared_calls : Clearing → List StoreCall
 cleared_calls clearing =
     listing_calls (map (λ cleared. string_bytes cleared.name) clearing.removed.items)
     ++ (removal_calls clearing.removed.items ++ settling_calls clearing.settled)
-
--- the files after a removal
-abbrev pub without_one : Bool → List ℕ → List StoreFile → List StoreFile
-without_one done name files = if done then drop_file name files else files
-
--- the files without those that were removed
-abbrev pub without : List Cleared → List StoreFile → List StoreFile
-without [] files = files
-without (cleared ∷ rest) files = without rest (without_one cleared.ok (string_bytes cleared.name) files)

@@ -1,4 +1,5 @@
 pub mod AsideCalls
+pub mod AsideFiles
 pub mod FileReads
 pub mod Quiet
 pub mod ToldStore

@@ -5,7 +5,8 @@ ghost use Rattle.world.specs.FileNames.{IsFileName};
 ghost use Rattle.world.specs.StoreCalls.{asides, store_number, drop_file, RemovedFile, SettledFiles};
 ghost use Rattle.lease_file.specs.Quiet.{IsQuiet};
 ghost use Rattle.lease_file.specs.ToldStore.{told_files, told_calls, with_calls};
-ghost use Rattle.lease_file.specs.AsideCalls.{HasListingCause, HasClearingCause, IsListingForetold, SettlesIfAny, FailsNothing, any_left, removal_calls, cleared_calls, listing_calls, without_one, without};
+ghost use Rattle.lease_file.specs.AsideCalls.{HasListingCause, HasClearingCause, IsListingForetold, SettlesIfAny, FailsNothing, any_left, removal_calls, cleared_calls, listing_calls};
+ghost use Rattle.lease_file.specs.AsideFiles.{without_one, without, TakesFile, TakesFiles};
 
 use crate::faults::{SaveFault, SaveStep};
 use std::alloc::Global;
@@ -51,6 +52,7 @@ fn remove_aside<S: Store>(store: &mut S, name: &str) -> Result<bool, NoMemory>
     ensures failing { S.failing store.new ≡ S.failing store.old }
     ensures cause { IfOk result (λ done. done ≡ false → S.faults store.old < S.faults store.new) }
     ensures calls { IfOk result (λ done. told_calls (S.told store.new) ≡ with_calls (RemovedFile name.now done ∷ []) (told_calls (S.told store.old))) }
+    ensures taken { IfOk result (λ done. TakesFile (S.failing store.old) done name.now (told_files (S.told store.old)) (told_files (S.told store.new))) }
     ensures files { IfOk result (λ done. IsSome (S.failing store.old) → told_files (S.told store.new) ≡ option_map (without_one done name.now) (told_files (S.told store.old))) }
 {
     match store.remove(name) {
@@ -71,6 +73,7 @@ fn remove_asides<S: Store>(
     ensures cause { IfOk result (λ removed. any_left removed.items ≡ true → S.faults store.old < S.faults store.new) }
     ensures names { IfOk result (λ removed. map (λ cleared. cleared.name) removed.items ≡ names.items) }
     ensures calls { IfOk result (λ removed. told_calls (S.told store.new) ≡ with_calls (removal_calls removed.items) (told_calls (S.told store.old))) }
+    ensures taken { IfOk result (λ removed. TakesFiles (S.failing store.old) removed.items (told_files (S.told store.old)) (told_files (S.told store.new))) }
     ensures files { IfOk result (λ removed. IsSome (S.failing store.old) → told_files (S.told store.new) ≡ option_map (without removed.items) (told_files (S.told store.old))) }
 {
     let mut removed = Vec::new(alloc);
@@ -106,6 +109,7 @@ pub fn clear_asides<S: Store>(alloc: Global, store: &mut S) -> Result<Clearing, 
     ensures quiet { IsQuiet (S.failing store.old) (S.told store.old) → IfOk result (λ clearing. (clearing.removed.items ≡ []) × (clearing.settled ≡ None)) × IsQuiet (S.failing store.new) (S.told store.new) × FailsNothing result }
     ensures names { IfOk result (λ clearing. IfSome (S.told store.old) (λ told. map (λ cleared. string_bytes cleared.name) clearing.removed.items ≡ asides told.files)) }
     ensures calls { IfOk result (λ clearing. told_calls (S.told store.new) ≡ with_calls (cleared_calls clearing) (told_calls (S.told store.old))) }
+    ensures taken { IfOk result (λ clearing. TakesFiles (S.failing store.old) clearing.removed.items (told_files (S.told store.old)) (told_files (S.told store.new))) }
     ensures files { IfOk result (λ clearing. IsSome (S.failing store.old) → told_files (S.told store.new) ≡ option_map (without clearing.removed.items) (told_files (S.told store.old))) }
 {
     let names = list_asides(alloc, store)?;

@@ -1,6 +1,6 @@
 use Rattle.std.proofs.Common.{◌≡◌, ◌∷◌, ◌∙◌, ap, length, arith}
 use Rattle.std.specs.Vec.Iter.{into_iter_items}
-use Rattle.lease_file.proofs.Removals.{cause_more, calls_more, files_more, names_more}
+use Rattle.lease_file.proofs.Removals.{cause_more, calls_more, files_more, names_more, taken_more}
 use Rattle.lease_file.proofs.clearing.remove_asides.Goals as goal
 
 pub loop-name-preserved : goal.loop-name-preserved
@@ -17,5 +17,6 @@ loop-name-preserved g c =
       count = let was = at.invariant.count in let gone = c.in-Some.ensures.steps.1 in let short = ap length next in omega arith;
       fit = (rw next at at.invariant.fit).1;
       calls = calls_more at.removed.items _ _ _ _ _ all at.invariant.calls (rw c.deref.ensures at one.calls);
+      taken = taken_more _ _ at.removed.items _ _ _ _ _ _ at.invariant.failing c.deref.ensures all at.invariant.taken one.taken;
       files = λ known. files_more at.removed.items _ _ _ _ _ all (at.invariant.files known) (rw c.deref.ensures at (one.files (rw at.invariant.failing known)));
     }
