@@ -51,8 +51,8 @@ calls_more names i d gots all g old mid new lt count is before here =
     here ∙ ap (with_calls (ReadFile item.now (got_reading g) ∷ [])) before
     ∙ with_calls-append (reading_calls (texts_of (take i names)) gots) (ReadFile item.now (got_reading g) ∷ []) old
     ∙ ap (λ (calls : List StoreCall). with_calls calls old)
-        (sym (reading_calls-append (texts_of (take i names)) gots item.now g same)
-        ∙ ap (λ (n : List (List ℕ)). reading_calls n (gots ++ g ∷ [])) (sym split) ∙ ap (reading_calls (texts_of (take (i + 1) names))) (sym is))
+    (sym (reading_calls-append (texts_of (take i names)) gots item.now g same)
+    ∙ ap (λ (n : List (List ℕ)). reading_calls n (gots ++ g ∷ [])) (sym split) ∙ ap (reading_calls (texts_of (take (i + 1) names))) (sym is))
 
 pub missing_more : (names : List (Bor (List ℕ))) (i : ℕ) (d : Bor (List ℕ)) (gots all : List Got) (g : Got)
     → i < length names → all ≡ gots ++ g ∷ [] → g ≡ got.Missing

@@ -1,9 +1,9 @@
 -- Clearing the asides of a store: a listing, a removal of each, and a settling where there was one.
-use Rattle.std.specs.Prelude.{ℕ, Bool, true, false, not, ◌||◌, ◌≡◌, ◌<◌, List, [], ◌∷◌, ◌++◌, map, Option, Some, None, Result, Ok, Err, if◌then◌else◌}
+use Rattle.std.specs.Prelude.{ℕ, Bool, true, false, not, ◌||◌, ◌≡◌, ◌<◌, List, [], ◌∷◌, ◌++◌, map, Option, Some, None, Result, Ok, Err}
 use Rattle.std.specs.List.{list_any}
 use Rattle.std.specs.String.{string_bytes}
 use Rattle.world.specs.Causes.{has_number}
-use Rattle.world.specs.StoreCalls.{StoreCall, ListedAsides, RemovedFile, SettledFiles, StoreFile, drop_file}
+use Rattle.world.specs.StoreCalls.{StoreCall, ListedAsides, RemovedFile, SettledFiles}
 use Rattle.lease_file.specs.declared.clearing.Cleared.{Cleared}
 use Rattle.lease_file.specs.declared.clearing.Clearing.{Clearing}
 use Rattle.lease_file.specs.declared.faults.SaveStep.TheVariants as step
