@@ -7,9 +7,12 @@ use Rattle.world.specs.declared.rows.HostRow.{HostRow}
 use Rattle.world.specs.HostCalls.{HostCall}
 use Rattle.client_model.specs.Lines.{Line, line_text, lines_text}
 use Rattle.client_model.specs.Lines as lines
-use Rattle.client_model.specs.Lives.{call_lines, host_lines}
+use Rattle.world.specs.declared.rows.HostRow.TheVariants.{Addr, Route}
+use Rattle.lease_file.specs.declared.clearing.Cleared.{Cleared}
+use Rattle.client_model.specs.Lives.{call_lines, host_lines, removal_line, hold_lines}
 use Rattle.daemon.specs.declared.host_changes.Made.{Made}
 use Rattle.daemon.specs.HostTurns.{made_call}
+use Rattle.daemon.specs.Openings.{aside_of}
 use Rattle.daemon.specs.Printing.{Prints}
 
 lines_text-append : (a b : List Line) → lines_text (a ++ b) ≡ lines_text a ++ lines_text b
@@ -41,3 +44,19 @@ made_more_lines made i d t u v lt p q =
 
 pub host_lines-append : (a b : List HostCall) → host_lines (a ++ b) ≡ host_lines a ++ host_lines b
 host_lines-append a b = flat_map-append call_lines a b
+
+-- a loop that prints the removal of each aside
+pub removals_more : (removed : List Cleared) (i : ℕ) (d : Cleared) (t u v : List ℕ) → i < length removed → Prints t u (map removal_line (map aside_of (take i removed))) → Prints u v (removal_line (aside_of (get_or removed i d)) ∷ []) → Prints t v (map removal_line (map aside_of (take (i + 1) removed)))
+removals_more removed i d t u v lt p q =
+    prints_same (prints_then p q)
+      (sym (map-append removal_line (map aside_of (take i removed)) (aside_of (get_or removed i d) ∷ []))
+      ∙ ap (map removal_line) (sym (map-append aside_of (take i removed) (get_or removed i d ∷ [])) ∙ ap (map aside_of) (sym (take_more removed i d lt))))
+
+hold_lines-append : (a b : List HostRow) → hold_lines (a ++ b) ≡ hold_lines a ++ hold_lines b
+hold_lines-append [] b = refl
+hold_lines-append (Addr i n ∷ a) b = ap (λ (ls : List Line). lines.Hold i n ∷ ls) (hold_lines-append a b)
+hold_lines-append (Route i d w m ∷ a) b = hold_lines-append a b
+
+-- a loop that prints each address
+pub holds_more : (rows : List HostRow) (i : ℕ) (d : HostRow) (t u v : List ℕ) → i < length rows → Prints t u (hold_lines (take i rows)) → Prints u v (hold_lines (get_or rows i d ∷ [])) → Prints t v (hold_lines (take (i + 1) rows))
+holds_more rows i d t u v lt p q = prints_same (prints_then p q) (sym (hold_lines-append (take i rows) (get_or rows i d ∷ [])) ∙ ap hold_lines (sym (take_more rows i d lt)))

@@ -5,3 +5,4 @@ pub mod TurnsMade
 pub mod Serving
 pub mod Waking
 pub mod Openings
+pub mod Served

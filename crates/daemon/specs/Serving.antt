@@ -58,8 +58,15 @@ pub record Ends (managed : List Managed) (failing : Option (List ℕ))
 
 -- why a life was cut off: only where the count of that device rose
 abbrev pub HasServeCause : ServeEnd → ℕ → ℕ → ℕ → ℕ → Type 0
-HasServeCause ends.End out out' link link' = (out ≤ out') × (link ≤ link')
+HasServeCause ends.End out out' link link' = ⊥
 HasServeCause ends.TurnsOver out out' link link' = (out ≤ out') × (link ≤ link')
 HasServeCause ends.LinkFault out out' link link' = (out ≤ out') × (link < link')
 HasServeCause ends.WriteFault out out' link link' = (out < out') × (link ≤ link')
 HasServeCause ends.NoMemory out out' link link' = (out ≤ out') × (link ≤ link')
+
+-- as many turns were handled as were allowed, since no fewer come
+abbrev pub AreManyTurns : Option (List ℕ) → Option HostTold → Option LinkTold → ℕ → Type 0
+AreManyTurns None host link turns = Unit {0}
+AreManyTurns (Some failing) None link turns = Unit {0}
+AreManyTurns (Some failing) (Some host) None turns = Unit {0}
+AreManyTurns (Some failing) (Some host) (Some link) turns = turns ≤ length link.coming

@@ -1,6 +1,7 @@
 //! The loop of turns over the devices, and the top call.
 #![tactic(auto)]
 
+mod closing;
 mod devices;
 mod host_changes;
 mod host_lines;

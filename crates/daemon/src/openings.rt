@@ -1,4 +1,4 @@
-ghost use Rattle.std.specs.Prelude.{◌≡◌, ◌≤◌, ◌++◌, [], ◌∷◌, Some, None, IfOk, OnOk, map, length, codes};
+ghost use Rattle.std.specs.Prelude.{◌≡◌, ◌≤◌, ◌++◌, [], ◌∷◌, Some, None, false, IfOk, OnOk, map, length, codes};
 ghost use Rattle.std.specs.String.{string_bytes};
 ghost use Rattle.client_model.specs.Fitting.{AreManaged};
 ghost use Rattle.client_model.specs.Opening as model;

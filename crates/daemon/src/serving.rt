@@ -1,7 +1,24 @@
-ghost use Rattle.std.specs.Prelude.{◌≡◌};
+ghost use Rattle.std.specs.Prelude.{◌≡◌, ◌≢◌, ◌≤◌, ◌<◌, [], Some, None, false, Ok, Err, IfOk, IfErr, length};
+ghost use Rattle.client_model.specs.Fitting.{AreManaged};
+ghost use Rattle.client_model.specs.Turns.{is_over};
+ghost use Rattle.world.specs.LinkCalls.{Begins};
 ghost use Rattle.daemon.specs.declared.serving.ServeEnd.TheVariants.{NoMemory as no_memory};
+ghost use Rattle.daemon.specs.Lives.{life_of, IsTimely};
+ghost use Rattle.daemon.specs.Serving.{HasServeCause, AreManyTurns};
+ghost use Rattle.daemon.specs.Waking.{EndsThere};
+ghost use Rattle.daemon.specs.Served.{Served};
 
-use world::NoMemory;
+use crate::closing::close;
+use crate::devices::Devices;
+use crate::lives::Life;
+use crate::openings::open;
+use crate::waking::{Woken, one_turn, write_all};
+use client_model::Managed;
+use std::alloc::Global;
+use world::{Begin, Failed, Hooks, Host, Link, NoMemory, Sink, Store};
+
+/// The room for a frame, in bytes.
+const FRAME_ROOM: usize = 2048;
 
 /// How a life ended.
 #[derive(Clone, Copy, Debug, PartialEq, Eq)]
@@ -21,4 +38,78 @@ impl From<NoMemory> for ServeEnd {
     fn from(_error: NoMemory) -> ServeEnd {
         ServeEnd::NoMemory
     }
+}
+
+fn frame_buffer(alloc: Global) -> Result<Vec<u8>, NoMemory>
+    ensures { IfOk result (λ buf. length buf.items ≡ 2048) }
+{
+    Ok(vec![in alloc; 0u8; FRAME_ROOM]?)
+}
+
+/// Takes turns until the life is over, at most so many.
+fn take_turns<O: Sink, L: Link, S: Store, H: Host, K: Hooks>(
+    alloc: Global,
+    managed: &[Managed],
+    life: Life,
+    live: &mut Devices<L, S, H, K>,
+    out: &mut O,
+    turns: u64,
+    text: &mut Vec<u8>,
+) -> Result<Life, ServeEnd>
+    requires timely { IsTimely life }
+    requires going { is_over (life_of life) ≡ false }
+    ensures ok { IfOk result (λ last. EndsThere managed.now (H.failing live.old.host) (life_of life) (H.told live.old.host) (L.told live.old.link) (O.written out.old) (life_of last) (O.written out.new)) }
+    ensures later { IfOk result (λ _. (O.faults out.old ≤ O.faults out.new) × (L.faults live.old.link ≤ L.faults live.new.link)) }
+    ensures cause { IfErr result (λ end. HasServeCause end (O.faults out.old) (O.faults out.new) (L.faults live.old.link) (L.faults live.new.link)) }
+    ensures foretold { L.failing_waits live.old.link ≡ Some [] → result ≢ Err ServeEnd.LinkFault }
+    ensures many { result ≡ Err ServeEnd.TurnsOver → AreManyTurns (H.failing live.old.host) (H.told live.old.host) (L.told live.old.link) turns }
+{
+    let mut buf = frame_buffer(alloc)?;
+    let mut life = life;
+    'wakes: for _ in 0..turns {
+        match one_turn(alloc, managed, life, live, out, &mut buf, text)? {
+            Woken::Over(last) => return Ok(last),
+            Woken::On(next) => life = next,
+        }
+    }
+    Err(ServeEnd::TurnsOver)
+}
+
+fn begin<L: Link>(link: &mut L) -> Result<Begin, ServeEnd>
+    ensures ok { IfOk result (λ begin. (L.faults link.old ≤ L.faults link.new) × Begins (L.told link.old) (L.told link.new) (Ok begin)) }
+    ensures cause { IfErr result (λ end. HasServeCause end 0 0 (L.faults link.old) (L.faults link.new)) }
+    ensures failing { L.failing_waits link.new ≡ L.failing_waits link.old }
+{
+    match link.begin() {
+        Ok(begin) => Ok(begin),
+        Err(Failed) => Err(ServeEnd::LinkFault),
+    }
+}
+
+fn live_on<O: Sink, L: Link, S: Store, H: Host, K: Hooks>(
+    alloc: Global,
+    managed: &[Managed],
+    live: &mut Devices<L, S, H, K>,
+    out: &mut O,
+    turns: u64,
+) -> Result<(), ServeEnd>
+    requires { AreManaged managed.now }
+    ensures ok { IfOk result (λ _. Served managed.now (H.failing live.old.host) (H.told live.old.host) (L.told live.old.link) (S.failing live.old.store) (S.told live.old.store) (O.written out.old) (O.written out.new)) }
+    ensures later { IfOk result (λ _. (O.faults out.old ≤ O.faults out.new) × (L.faults live.old.link ≤ L.faults live.new.link)) }
+    ensures cause { IfErr result (λ end. HasServeCause end (O.faults out.old) (O.faults out.new) (L.faults live.old.link) (L.faults live.new.link)) }
+{
+    let start = begin(&mut live.link)?;
+    let mut text = Vec::new(alloc);
+    let life = open(
+        alloc,
+        managed,
+        start,
+        &mut live.store,
+        &mut live.host,
+        &mut text,
+    )?;
+    write_all(out, &text)?;
+    let last = take_turns(alloc, managed, life, live, out, turns, &mut text)?;
+    close(alloc, &last, out, &mut text)?;
+    Ok(())
 }

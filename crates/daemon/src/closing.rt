@@ -1,0 +1,58 @@
+ghost use Rattle.std.specs.Prelude.{◌≡◌, ◌≤◌, OnOk, IfOk, IfErr, [], ◌∷◌};
+ghost use Rattle.client_model.specs.Interfaces.{rows_of};
+ghost use Rattle.client_model.specs.Lives.{hold_lines, closing_lines};
+ghost use Rattle.daemon.specs.Lives.{life_of};
+ghost use Rattle.daemon.specs.Printing.{Prints};
+ghost use Rattle.daemon.specs.Serving.{HasServeCause, WritesLines};
+
+use crate::host_lines::say;
+use crate::lives::Life;
+use crate::serving::ServeEnd;
+use crate::waking::write_all;
+use client_core::rows;
+use std::alloc::Global;
+use transcript_text::TranscriptLine;
+use world::{HostRow, NoMemory, Sink};
+
+fn say_hold(row: &HostRow, text: &mut Vec<u8>) -> Result<(), NoMemory>
+    ensures { OnOk result (Prints text.old.items text.new.items (hold_lines (row.now ∷ []))) }
+{
+    match *row {
+        HostRow::Addr { iface, net } => say(&TranscriptLine::Hold { iface, net }, text),
+        HostRow::Route { .. } => Ok(()),
+    }
+}
+
+fn say_holds(rows: &[HostRow], text: &mut Vec<u8>) -> Result<(), NoMemory>
+    ensures { OnOk result (Prints text.old.items text.new.items (hold_lines rows.now)) }
+{
+    for row in rows {
+        say_hold(row, text)?;
+    }
+    Ok(())
+}
+
+fn say_closing(alloc: Global, life: &Life, text: &mut Vec<u8>) -> Result<(), NoMemory>
+    ensures { OnOk result (Prints text.old.items text.new.items (closing_lines (life_of life.now))) }
+{
+    let wanted: Vec<HostRow> = rows(&life.core).iter().copied().collect(alloc)?;
+    say_holds(&wanted, text)?;
+    say(&TranscriptLine::End, text)?;
+    Ok(())
+}
+
+/// Writes the last lines of a life: the addresses that it leaves.
+pub fn close<O: Sink>(
+    alloc: Global,
+    life: &Life,
+    out: &mut O,
+    text: &mut Vec<u8>,
+) -> Result<(), ServeEnd>
+    ensures ok { IfOk result (λ _. (O.faults out.old ≤ O.faults out.new) × WritesLines (O.written out.old) (O.written out.new) (closing_lines (life_of life.now))) }
+    ensures cause { IfErr result (λ end. HasServeCause end (O.faults out.old) (O.faults out.new) 0 0) }
+{
+    text.clear();
+    say_closing(alloc, life, text)?;
+    write_all(out, text)?;
+    Ok(())
+}
