@@ -20,7 +20,7 @@ use Rattle.replay_text.specs.RowReading.{row_at}
 use Rattle.replay_text.specs.LineReading.{spec_at, turn_at}
 use Rattle.replay_text.specs.Carriers.{begin_at}
 use Rattle.replay_text.specs.Blocks.{parts_of, Block, block_at, line_at, are_done}
-use Rattle.replay_text.specs.ScriptContent.{unless_last, lines_within, conf_lines}
+use Rattle.replay_text.specs.ScriptContent.{unless_last, lines_within, conf_lines, HoldsLines}
 use Rattle.replay_text.specs.KindTests.{interfaces_fit, are_once, turns_fit}
 use Rattle.replay_text.specs.ScriptReading.{conf_at, ifaces_at, rows_at, life_at, body_at, head, script_at}
 use Rattle.replay_text.proofs.RowLaws.{row_reads, row_line}
@@ -78,6 +78,15 @@ conf_sound parts c free e =
     let lines = conf_lines_of m.value.0 each in
     let is : IsConf parts (flat_map ended m.value.0, m.value.1) = (s.0 ∙ ap (λ ts. map (λ t. codes "c:" ++ t) ts ++ m.value.1) (sym lines), subst (AllByRecursion (Lacks 10)) (sym lines) each) in
     subst (IsConf parts) m.gives is
+
+pub conf_holds : (parts : List (List ℕ)) (c : Flat) → AllByRecursion (Lacks 10) parts → conf_at parts ≡ Some c → HoldsLines c.0
+unfolding conf_at HoldsLines
+conf_holds parts c free e =
+    let m = mapped (λ (b : Block (List ℕ)). (flat_map ended b.0, b.1)) (block_at (codes "c:") Some parts) c e in
+    let s = block_sound (codes "c:") parts m.value conf_reads m.was in
+    let each = lacks_front m.value.0 m.value.1 (subst (AllByRecursion (Lacks 10)) s.0 free) in
+    let held : flat_map ended m.value.0 ≡ flat_map ended (conf_lines (flat_map ended m.value.0)) = ap (flat_map ended) (sym (conf_lines_of m.value.0 each)) in
+    subst (λ (p : Flat). p.0 ≡ flat_map ended (conf_lines p.0)) m.gives held
 
 all_units : (texts : List (List ℕ)) → AllByRecursion (λ t. Unit {0}) texts
 all_units [] = tt

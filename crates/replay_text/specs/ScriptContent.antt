@@ -1,7 +1,7 @@
 -- What a script is seen as.
-use Rattle.std.specs.Prelude.{ℕ, List, [], ◌∷◌, map}
+use Rattle.std.specs.Prelude.{◌≡◌, ℕ, flat_map, List, [], ◌∷◌, map}
 use Rattle.world.specs.LinkCalls.{Given}
-use Rattle.client_model.specs.Scripts.{ScriptLines, LifeScript}
+use Rattle.client_model.specs.Scripts.{ScriptLines, LifeScript, ended}
 use Rattle.replay_text.specs.declared.script.Script.{Script}
 use Rattle.replay_text.specs.declared.script.LifeLines.{LifeLines}
 use Rattle.replay_text.specs.declared.script.TurnLine.{TurnLine}
@@ -18,6 +18,10 @@ lines_within (part ∷ parts) = unless_last part parts (lines_within parts)
 
 unfoldable pub conf_lines : List ℕ → List (List ℕ)
 conf_lines conf = lines_within (parts_of conf)
+
+-- nothing stands after the last line
+unfoldable pub HoldsLines : List ℕ → Type 0
+HoldsLines conf = conf ≡ flat_map ended (conf_lines conf)
 
 abbrev pub given_of : TurnLine → Given
 given_of turn = record { wake = turn.wake; bytes = turn.bytes.items }

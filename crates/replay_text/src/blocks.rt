@@ -1,12 +1,12 @@
 //! Lines of one kind after one another.
-ghost use Rattle.std.specs.Prelude.{◌≡◌, ℕ, List, Option, map, option_map};
+ghost use Rattle.std.specs.Prelude.{◌≡◌, ℕ, List, Option, map, option_map, IfOk};
 ghost use Rattle.net_types.specs.declared.interface.IfSpec.{IfSpec};
 ghost use Rattle.world.specs.declared.rows.HostRow.{HostRow};
 ghost use Rattle.world.specs.LinkCalls.{Given};
 ghost use Rattle.replay_text.specs.RowReading.{row_at};
 ghost use Rattle.replay_text.specs.LineReading.{spec_at, turn_at};
 ghost use Rattle.replay_text.specs.Blocks.{line_after, block_at, parts_of};
-ghost use Rattle.replay_text.specs.ScriptContent.{given_of};
+ghost use Rattle.replay_text.specs.ScriptContent.{given_of, HoldsLines};
 ghost use Rattle.replay_text.specs.ScriptReading.{conf_at};
 ghost use Rattle.replay_text.specs.Answers.{Gives};
 
@@ -103,7 +103,8 @@ pub fn block_of<'a, T: LineForm + Drop>(
 /// The configuration: the texts of the lines that begin with `c:`, each with its line feed, and the text after them.
 #[tactic(auto, unfolding(crate::specs::ScriptReading::conf_at))]
 pub fn conf_of(alloc: Global, text: &[u8]) -> Result<(Vec<u8>, &[u8]), Refusal>
-    ensures { Gives (λ b. (b.0.items, parts_of b.1.now)) result (conf_at (parts_of text.now)) }
+    ensures value { Gives (λ b. (b.0.items, parts_of b.1.now)) result (conf_at (parts_of text.now)) }
+    ensures lines { IfOk result (λ b. HoldsLines b.0.items) }
 {
     let mut conf = Vec::new(alloc);
     let mut rest = text;

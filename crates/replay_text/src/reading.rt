@@ -4,7 +4,7 @@ ghost use Rattle.std.specs.List.{list_all};
 ghost use Rattle.client_model.specs.Scripts.{ScriptLines, script_text, FitsScript};
 ghost use Rattle.replay_text.specs.Blocks.{parts_of, line_at, block_at, are_done};
 ghost use Rattle.replay_text.specs.Carriers.{begin_at};
-ghost use Rattle.replay_text.specs.ScriptContent.{script_of, life_of, given_of};
+ghost use Rattle.replay_text.specs.ScriptContent.{script_of, life_of, given_of, HoldsLines};
 ghost use Rattle.replay_text.specs.KindTests.{counts_from, is_unlike, all_unlike, interfaces_fit, are_once, is_listed, turns_fit};
 ghost use Rattle.replay_text.specs.ScriptReading.{ifaces_at, rows_at, life_at, body_at, script_at};
 ghost use Rattle.replay_text.specs.Answers.{Gives, IsBad};
@@ -185,7 +185,8 @@ fn life_of(alloc: Global, count: u32, text: &[u8]) -> Result<LifeLines, Refusal>
 
 #[tactic(auto, unfolding(crate::specs::ScriptReading::body_at))]
 fn body_of(alloc: Global, text: &[u8]) -> Result<Script, Refusal>
-    ensures { Gives script_of result (body_at (parts_of text.now)) }
+    ensures value { Gives script_of result (body_at (parts_of text.now)) }
+    ensures lines { IfOk result (λ script. HoldsLines script.conf.items) }
 {
     let (conf, rest) = conf_of(alloc, text)?;
     let (ifaces, rest) = ifaces_of(alloc, rest)?;
@@ -201,7 +202,8 @@ fn body_of(alloc: Global, text: &[u8]) -> Result<Script, Refusal>
 
 #[tactic(auto, unfolding(crate::specs::ScriptReading::script_at))]
 fn script_of(alloc: Global, text: &[u8]) -> Result<Script, Refusal>
-    ensures { Gives script_of result (script_at text.now) }
+    ensures value { Gives script_of result (script_at text.now) }
+    ensures lines { IfOk result (λ script. HoldsLines script.conf.items) }
 {
     match strip_word(text, b"dhcpcd-script 1\n") {
         Some(rest) => body_of(alloc, rest),
@@ -224,6 +226,8 @@ fn line_number(text: &[u8], left: usize) -> u64 {
 /// The cause of a bad line is `NotBuilt` throughout.
 pub fn read_script(alloc: Global, text: &[u8]) -> Result<Script, ScriptAnswer>
     ensures found { IfOk result (λ script. (text.now ≡ script_text (script_of script)) × FitsScript (script_of script)) }
+    // Each line of the configuration is there with its line feed.
+    ensures conf { IfOk result (λ script. HoldsLines script.conf.items) }
     // Only want of memory may refuse a script.
     ensures bad { IfErr result (λ answer. IsBad answer → (script : ScriptLines) → FitsScript script → text.now ≢ script_text script) }
 {

@@ -2,7 +2,7 @@
 ghost use Rattle.std.specs.Prelude.{◌≡◌};
 ghost use Rattle.replay_text.specs.declared.refusal.Refusal.TheVariants as refusals;
 
-use net_types;
+use net_types::NoMemory;
 use std::alloc::{AllocError, AllocFailed};
 
 /// Why lines could not be read.
@@ -30,10 +30,10 @@ impl<T: Drop> From<AllocFailed<T>> for Refusal {
     }
 }
 
-impl From<net_types::NoMemory> for Refusal {
+impl From<NoMemory> for Refusal {
     ghost from_gives = { λ _ e. e ≡ refusals.NoMemory };
 
-    fn from(_error: net_types::NoMemory) -> Refusal {
+    fn from(_error: NoMemory) -> Refusal {
         Refusal::NoMemory
     }
 }
