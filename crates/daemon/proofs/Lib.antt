@@ -4,3 +4,5 @@ pub mod Calls
 pub mod Printings
 pub mod Stretches
 pub mod OneTurn
+pub mod OpeningsMade
+pub mod Wakings
