@@ -3,7 +3,8 @@ use Rattle.std.specs.Prelude.{ℕ, Bool, true, false, not, ◌||◌, ◌≡◌, 
 use Rattle.std.specs.List.{list_any}
 use Rattle.std.specs.String.{string_bytes}
 use Rattle.world.specs.Causes.{has_number}
-use Rattle.world.specs.StoreCalls.{StoreCall, ListedAsides, RemovedFile, SettledFiles}
+use Rattle.world.specs.StoreCalls.{StoreTold, StoreCall, ListedAsides, RemovedFile, SettledFiles}
+use Rattle.lease_file.specs.ToldStore.{told_files, told_calls, with_calls}
 use Rattle.lease_file.specs.declared.clearing.Cleared.{Cleared}
 use Rattle.lease_file.specs.declared.clearing.Clearing.{Clearing}
 use Rattle.lease_file.specs.declared.faults.SaveStep.TheVariants as step
@@ -62,3 +63,9 @@ abbrev pub cleared_calls : Clearing → List StoreCall
 cleared_calls clearing =
     listing_calls (map (λ cleared. string_bytes cleared.name) clearing.removed.items)
     ++ (removal_calls clearing.removed.items ++ settling_calls clearing.settled)
+
+-- A refusal is a failed listing, and left the files.
+abbrev pub TellsRefusal : {T : Type 0} → Option StoreTold → Option StoreTold → Result T SaveFault → Type 0
+TellsRefusal old new (Ok x) = Unit {0}
+TellsRefusal old new (Err (Failed call)) = (told_calls new ≡ with_calls (ListedAsides None ∷ []) (told_calls old)) × (told_files new ≡ told_files old)
+TellsRefusal old new (Err NoMemory) = Unit {0}

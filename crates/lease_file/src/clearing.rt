@@ -2,10 +2,10 @@ ghost use Rattle.std.specs.Prelude.{◌≡◌, ◌≤◌, ◌<◌, [], ◌∷◌
 ghost use Rattle.std.specs.List.{AllByRecursion};
 ghost use Rattle.std.specs.String.{string_bytes};
 ghost use Rattle.world.specs.FileNames.{IsFileName};
-ghost use Rattle.world.specs.StoreCalls.{asides, store_number, drop_file, RemovedFile, SettledFiles};
+ghost use Rattle.world.specs.StoreCalls.{asides, store_number, RemovedFile, SettledFiles};
 ghost use Rattle.lease_file.specs.Quiet.{IsQuiet};
 ghost use Rattle.lease_file.specs.ToldStore.{told_files, told_calls, with_calls};
-ghost use Rattle.lease_file.specs.AsideCalls.{HasListingCause, HasClearingCause, IsListingForetold, SettlesIfAny, FailsNothing, any_left, removal_calls, cleared_calls, listing_calls};
+ghost use Rattle.lease_file.specs.AsideCalls.{HasListingCause, HasClearingCause, IsListingForetold, TellsRefusal, SettlesIfAny, FailsNothing, any_left, removal_calls, cleared_calls, listing_calls};
 ghost use Rattle.lease_file.specs.AsideFiles.{without_one, without, TakesFile, TakesFiles};
 
 use crate::faults::{SaveFault, SaveStep};
@@ -33,6 +33,7 @@ fn list_asides<S: Store>(alloc: Global, store: &mut S) -> Result<Vec<String>, Sa
     ensures failing { S.failing store.new ≡ S.failing store.old }
     ensures cause { HasListingCause (S.faults store.old) (S.faults store.new) result }
     ensures foretold { IsListingForetold (S.failing store.old) (store_number (S.told store.old)) result }
+    ensures refused { TellsRefusal (S.told store.old) (S.told store.new) result }
     ensures fit { IfOk result (λ names. AllByRecursion (λ name. IsFileName (string_bytes name)) names.items) }
     ensures names { IfOk result (λ names. IfSome (S.told store.old) (λ told. map string_bytes names.items ≡ asides told.files)) }
     ensures calls { IfOk result (λ names. told_calls (S.told store.new) ≡ with_calls (listing_calls (map string_bytes names.items)) (told_calls (S.told store.old))) }
@@ -105,6 +106,7 @@ pub fn clear_asides<S: Store>(alloc: Global, store: &mut S) -> Result<Clearing, 
     ensures failing { S.failing store.new ≡ S.failing store.old }
     ensures cause { HasClearingCause (S.faults store.old) (S.faults store.new) result }
     ensures foretold { IsListingForetold (S.failing store.old) (store_number (S.told store.old)) result }
+    ensures refused { TellsRefusal (S.told store.old) (S.told store.new) result }
     ensures settled { IfOk result (λ clearing. SettlesIfAny clearing.removed.items clearing.settled) }
     ensures quiet { IsQuiet (S.failing store.old) (S.told store.old) → IfOk result (λ clearing. (clearing.removed.items ≡ []) × (clearing.settled ≡ None)) × IsQuiet (S.failing store.new) (S.told store.new) × FailsNothing result }
     ensures names { IfOk result (λ clearing. IfSome (S.told store.old) (λ told. map (λ cleared. string_bytes cleared.name) clearing.removed.items ≡ asides told.files)) }

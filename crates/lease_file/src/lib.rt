@@ -8,3 +8,6 @@ mod reading;
 pub use clearing::{Cleared, Clearing, clear_asides};
 pub use faults::{SaveFault, SaveStep};
 pub use reading::{Got, read_file, read_files};
+
+#[cfg(test)]
+mod tests;
