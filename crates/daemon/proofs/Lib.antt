@@ -6,3 +6,5 @@ pub mod Stretches
 pub mod OneTurn
 pub mod OpeningsMade
 pub mod Wakings
+pub mod Causes
+pub mod Whole

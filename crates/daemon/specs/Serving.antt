@@ -56,13 +56,26 @@ pub record Ends (managed : List Managed) (failing : Option (List ℕ))
   pub passes : Passes managed from out_from to out_to mets
   pub whole : AreWhole managed failing from host_from link_from mets
 
--- why a life was cut off: only where the count of that device rose
+-- why a device call cut a life off: only where the count of that device rose
 abbrev pub HasServeCause : ServeEnd → ℕ → ℕ → ℕ → ℕ → Type 0
 HasServeCause ends.End out out' link link' = ⊥
-HasServeCause ends.TurnsOver out out' link link' = (out ≤ out') × (link ≤ link')
+HasServeCause ends.TurnsOver out out' link link' = ⊥
 HasServeCause ends.LinkFault out out' link link' = (out ≤ out') × (link < link')
 HasServeCause ends.WriteFault out out' link link' = (out < out') × (link ≤ link')
 HasServeCause ends.NoMemory out out' link link' = (out ≤ out') × (link ≤ link')
+
+-- why a life was cut off: the same, or as many wakes as were allowed were handled
+abbrev pub HasLifeCause : ServeEnd → ℕ → ℕ → ℕ → ℕ → Type 0
+HasLifeCause ends.End out out' link link' = ⊥
+HasLifeCause ends.TurnsOver out out' link link' = (out ≤ out') × (link ≤ link')
+HasLifeCause ends.LinkFault out out' link link' = (out ≤ out') × (link < link')
+HasLifeCause ends.WriteFault out out' link link' = (out < out') × (link ≤ link')
+HasLifeCause ends.NoMemory out out' link link' = (out ≤ out') × (link ≤ link')
+
+-- the causes of all ends; no fault is needed for a life to be over
+abbrev pub HasEndCause : ServeEnd → ℕ → ℕ → ℕ → ℕ → Type 0
+HasEndCause ends.End out out' link link' = (out ≤ out') × (link ≤ link')
+HasEndCause end out out' link link' = HasLifeCause end out out' link link'
 
 -- as many turns were handled as were allowed, since no fewer come
 abbrev pub AreManyTurns : Option (List ℕ) → Option HostTold → Option LinkTold → ℕ → Type 0

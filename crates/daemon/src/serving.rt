@@ -1,10 +1,10 @@
-ghost use Rattle.std.specs.Prelude.{◌≡◌, ◌≢◌, ◌≤◌, ◌<◌, [], Some, None, false, Ok, Err, IfOk, IfErr, length};
+ghost use Rattle.std.specs.Prelude.{◌≡◌, ◌≢◌, ◌≤◌, ◌<◌, [], Some, None, false, Ok, Err, IfOk, IfErr, IfSome, length};
 ghost use Rattle.client_model.specs.Fitting.{AreManaged};
 ghost use Rattle.client_model.specs.Turns.{is_over};
 ghost use Rattle.world.specs.LinkCalls.{Begins};
 ghost use Rattle.daemon.specs.declared.serving.ServeEnd.TheVariants.{NoMemory as no_memory};
 ghost use Rattle.daemon.specs.Lives.{life_of, IsTimely};
-ghost use Rattle.daemon.specs.Serving.{HasServeCause, AreManyTurns};
+ghost use Rattle.daemon.specs.Serving.{HasServeCause, HasLifeCause, HasEndCause, AreManyTurns};
 ghost use Rattle.daemon.specs.Waking.{EndsThere};
 ghost use Rattle.daemon.specs.Served.{Served};
 
@@ -47,6 +47,7 @@ fn frame_buffer(alloc: Global) -> Result<Vec<u8>, NoMemory>
 }
 
 /// Takes turns until the life is over, at most so many.
+#[tactic(auto, using(crate::proofs::Causes::cause_after))]
 fn take_turns<O: Sink, L: Link, S: Store, H: Host, K: Hooks>(
     alloc: Global,
     managed: &[Managed],
@@ -60,7 +61,7 @@ fn take_turns<O: Sink, L: Link, S: Store, H: Host, K: Hooks>(
     requires going { is_over (life_of life) ≡ false }
     ensures ok { IfOk result (λ last. EndsThere managed.now (H.failing live.old.host) (life_of life) (H.told live.old.host) (L.told live.old.link) (O.written out.old) (life_of last) (O.written out.new)) }
     ensures later { IfOk result (λ _. (O.faults out.old ≤ O.faults out.new) × (L.faults live.old.link ≤ L.faults live.new.link)) }
-    ensures cause { IfErr result (λ end. HasServeCause end (O.faults out.old) (O.faults out.new) (L.faults live.old.link) (L.faults live.new.link)) }
+    ensures cause { IfErr result (λ end. HasLifeCause end (O.faults out.old) (O.faults out.new) (L.faults live.old.link) (L.faults live.new.link)) }
     ensures foretold { L.failing_waits live.old.link ≡ Some [] → result ≢ Err ServeEnd.LinkFault }
     ensures many { result ≡ Err ServeEnd.TurnsOver → AreManyTurns (H.failing live.old.host) (H.told live.old.host) (L.told live.old.link) turns }
 {
@@ -78,6 +79,7 @@ fn take_turns<O: Sink, L: Link, S: Store, H: Host, K: Hooks>(
 fn begin<L: Link>(link: &mut L) -> Result<Begin, ServeEnd>
     ensures ok { IfOk result (λ begin. (L.faults link.old ≤ L.faults link.new) × Begins (L.told link.old) (L.told link.new) (Ok begin)) }
     ensures cause { IfErr result (λ end. HasServeCause end 0 0 (L.faults link.old) (L.faults link.new)) }
+    ensures foretold { L.failing_waits link.old ≡ Some [] → result ≢ Err ServeEnd.LinkFault }
     ensures failing { L.failing_waits link.new ≡ L.failing_waits link.old }
 {
     match link.begin() {
@@ -86,6 +88,7 @@ fn begin<L: Link>(link: &mut L) -> Result<Begin, ServeEnd>
     }
 }
 
+#[tactic(auto, using(crate::proofs::Causes::cause_after, crate::proofs::Causes::life_cause_after))]
 fn live_on<O: Sink, L: Link, S: Store, H: Host, K: Hooks>(
     alloc: Global,
     managed: &[Managed],
@@ -96,7 +99,9 @@ fn live_on<O: Sink, L: Link, S: Store, H: Host, K: Hooks>(
     requires { AreManaged managed.now }
     ensures ok { IfOk result (λ _. Served managed.now (H.failing live.old.host) (H.told live.old.host) (L.told live.old.link) (S.failing live.old.store) (S.told live.old.store) (O.written out.old) (O.written out.new)) }
     ensures later { IfOk result (λ _. (O.faults out.old ≤ O.faults out.new) × (L.faults live.old.link ≤ L.faults live.new.link)) }
-    ensures cause { IfErr result (λ end. HasServeCause end (O.faults out.old) (O.faults out.new) (L.faults live.old.link) (L.faults live.new.link)) }
+    ensures cause { IfErr result (λ end. HasLifeCause end (O.faults out.old) (O.faults out.new) (L.faults live.old.link) (L.faults live.new.link)) }
+    ensures foretold { L.failing_waits live.old.link ≡ Some [] → result ≢ Err ServeEnd.LinkFault }
+    ensures many { H.failing live.old.host ≡ Some [] → result ≡ Err ServeEnd.TurnsOver → IfSome (H.told live.old.host) (λ _. IfSome (L.told live.old.link) (λ link. turns ≤ length link.coming)) }
 {
     let start = begin(&mut live.link)?;
     let mut text = Vec::new(alloc);
@@ -112,4 +117,24 @@ fn live_on<O: Sink, L: Link, S: Store, H: Host, K: Hooks>(
     let last = take_turns(alloc, managed, life, live, out, turns, &mut text)?;
     close(alloc, &last, out, &mut text)?;
     Ok(())
+}
+
+/// Runs one life over the devices, from its start line to its end line, with at most so many wakes.
+pub fn serve<O: Sink, L: Link, S: Store, H: Host, K: Hooks>(
+    alloc: Global,
+    managed: &[Managed],
+    live: &mut Devices<L, S, H, K>,
+    out: &mut O,
+    turns: u64,
+) -> ServeEnd
+    requires { AreManaged managed.now }
+    ensures served { result ≡ ServeEnd.End → Served managed.now (H.failing live.old.host) (H.told live.old.host) (L.told live.old.link) (S.failing live.old.store) (S.told live.old.store) (O.written out.old) (O.written out.new) }
+    ensures cause { HasEndCause result (O.faults out.old) (O.faults out.new) (L.faults live.old.link) (L.faults live.new.link) }
+    ensures foretold { L.failing_waits live.old.link ≡ Some [] → result ≢ ServeEnd.LinkFault }
+    ensures many { H.failing live.old.host ≡ Some [] → result ≡ ServeEnd.TurnsOver → IfSome (H.told live.old.host) (λ _. IfSome (L.told live.old.link) (λ link. turns ≤ length link.coming)) }
+{
+    match live_on(alloc, managed, live, out, turns) {
+        Ok(()) => ServeEnd::End,
+        Err(end) => end,
+    }
 }

@@ -1,4 +1,4 @@
-ghost use Rattle.std.specs.Prelude.{◌≡◌, ◌≤◌, ℕ, Option, List, length, IfOk};
+ghost use Rattle.std.specs.Prelude.{◌≡◌, ◌≤◌, ℕ, Option, List, length, IfOk, IfSome, IsOk};
 ghost use Rattle.world.specs.Causes.{HasCause, HasDeviceCause, Foretold};
 ghost use Rattle.world.specs.LinkCalls.{LinkTold, frame_len, Begins, Waits, Offers, wait_number, send_number};
 
@@ -28,6 +28,8 @@ pub trait Link {
         ensures cause { HasCause (faults self.old) (faults self.new) result }
         ensures no_send { send_faults self.new ≡ send_faults self.old }
         ensures told { Begins (told self.old) (told self.new) result }
+        // Where it is told which waits fail, beginning doesn't.
+        ensures begun { IfSome (failing_waits self.old) (λ _. IsOk result) }
         ensures failing { (failing_waits self.new ≡ failing_waits self.old) × (failing_sends self.new ≡ failing_sends self.old) };
 
     /// Waits until the moment `until` at the latest, in milliseconds since 1970; `None` waits as long as it takes.

@@ -1,0 +1,26 @@
+-- Causes after calls that were done.
+use Rattle.std.proofs.Common.{ℕ, ◌≡◌, ◌≤◌, ◌<◌, arith}
+use Rattle.daemon.specs.declared.serving.ServeEnd.{ServeEnd}
+use Rattle.daemon.specs.declared.serving.ServeEnd.TheVariants as ends
+use Rattle.daemon.specs.Serving.{HasServeCause, HasLifeCause}
+
+pub cause_after : (end : ServeEnd) (a b d p q r : ℕ) → a ≤ b → p ≤ q → HasServeCause end b d q r → HasLifeCause end a d p r
+cause_after ends.End a b d p q r ab pq h = absurd h
+cause_after ends.TurnsOver a b d p q r ab pq h = absurd h
+cause_after ends.LinkFault a b d p q r ab pq h = (omega (arith, h.0), omega (arith, h.1))
+cause_after ends.WriteFault a b d p q r ab pq h = (omega (arith, h.0), omega (arith, h.1))
+cause_after ends.NoMemory a b d p q r ab pq h = (omega (arith, h.0), omega (arith, h.1))
+
+pub life_cause_after : (end : ServeEnd) (a b d p q r : ℕ) → a ≤ b → p ≤ q → HasLifeCause end b d q r → HasLifeCause end a d p r
+life_cause_after ends.End a b d p q r ab pq h = absurd h
+life_cause_after ends.TurnsOver a b d p q r ab pq h = (omega (arith, h.0), omega (arith, h.1))
+life_cause_after ends.LinkFault a b d p q r ab pq h = (omega (arith, h.0), omega (arith, h.1))
+life_cause_after ends.WriteFault a b d p q r ab pq h = (omega (arith, h.0), omega (arith, h.1))
+life_cause_after ends.NoMemory a b d p q r ab pq h = (omega (arith, h.0), omega (arith, h.1))
+
+pub not_turns_over : (end : ServeEnd) (a b p q : ℕ) → HasServeCause end a b p q → end ≡ ends.TurnsOver → ⊥
+not_turns_over ends.End a b p q h e = h
+not_turns_over ends.TurnsOver a b p q h e = h
+not_turns_over ends.LinkFault a b p q h e = absurd cc
+not_turns_over ends.WriteFault a b p q h e = absurd cc
+not_turns_over ends.NoMemory a b p q h e = absurd cc
