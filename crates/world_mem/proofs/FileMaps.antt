@@ -1,15 +1,15 @@
 -- The files by their names as a list in order.
-use Rattle.std.proofs.Common.{◌≡◌, ℕ, Bool, true, false, cond, List, [], ◌∷◌, Option, Some, None, map, refl, sym, ap, ◌∙◌}
+use Rattle.std.proofs.Common.{◌≡◌, ℕ, Bool, true, false, cond, List, [], ◌∷◌, Option, Some, map, refl, sym, ap, ◌∙◌}
 use Rattle.std.specs.Prelude.{String, option_map}
 use Rattle.std.specs.Global.{Global, Vec}
 use Rattle.std.specs.String.{string_bytes, string_cmp}
 use Rattle.std.specs.declared.cmp.Ordering.{Ordering}
 use Rattle.std.specs.declared.cmp.Ordering.TheVariants.{Less, Equal, Greater}
-use Rattle.std.specs.Ordering.{match_ordering, is_eq}
+use Rattle.std.specs.Ordering.{match_ordering}
 use Rattle.std.specs.BTreeMap.{insert_entry, is_at}
 use Rattle.std.specs.Map.{remove_entry, lookup}
 use Rattle.std.proofs.lemmas.Map.Lookups.{exact_bytes}
-use Rattle.world.specs.StoreCalls.{StoreFile, name_cmp, is_name, put_file, drop_file, file_at}
+use Rattle.world.specs.StoreCalls.{name_cmp, is_name, put_file, drop_file, file_at}
 use Rattle.world_mem.specs.StoreRecord.{entry_file}
 
 abbrev Entry : Type 0

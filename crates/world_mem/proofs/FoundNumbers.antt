@@ -1,6 +1,6 @@
 -- Finding a number in a list.
-use Rattle.std.proofs.Common.{◌≡◌, ℕ, ◌+◌, ◌<◌, ◌≤◌, Bool, true, false, List, length, get_or, Result, Ok, Err, refl, sym, ap, ◌∙◌, arith, ⊎_elim, eq-eqb}
-use Rattle.std.specs.Prelude.{◌==◌, is_ok, MatchResult, MatchBool}
+use Rattle.std.proofs.Common.{◌≡◌, ℕ, ◌<◌, ◌≤◌, Bool, true, false, List, length, get_or, Result, Ok, Err, sym, ◌∙◌, arith, ⊎_elim, eq-eqb}
+use Rattle.std.specs.Prelude.{◌==◌, is_ok, MatchResult}
 use Rattle.std.specs.Ordering.{nat_cmp, is_le, is_some_and}
 use Rattle.std.specs.Prelude.{Some, All}
 use Rattle.std.specs.List.{IsAllAdjacentAnswer}

@@ -1,6 +1,5 @@
 -- What a host in memory tells after one more call.
-use Rattle.std.proofs.Common.{◌≡◌, ℕ, ◌+◌, ◌≤◌, ◌<◌, get_or, drop, add-one, drop-cons, Bool, true, false, not, List, [], ◌∷◌, ◌++◌, All, Some, None, length, fold, refl, sym, ap, ◌∙◌, arith, length-append}
-use Rattle.std.specs.List.{count_by}
+use Rattle.std.proofs.Common.{◌≡◌, ℕ, ◌+◌, ◌<◌, get_or, drop, add-one, drop-cons, Bool, true, false, List, [], ◌∷◌, ◌++◌, All, Some, None, length, sym, ap, ◌∙◌, length-append}
 use Rattle.std.specs.BTreeSet.{insert_key}
 use Rattle.std.specs.Set.{remove_key}
 use Rattle.std.specs.BTreeMap.{is_at}
@@ -14,7 +13,7 @@ use Rattle.world.proofs.RowLists.{in_order_stays}
 use Rattle.world.specs.HostCalls.{HostTold, HostCall, Listed, host_answered, ListsRows}
 use Rattle.world_mem.specs.declared.hosts.HostEntry.{HostEntry}
 use Rattle.world_mem.specs.declared.hosts.HostEntry.TheVariants.{List as Lists, Add, Remove}
-use Rattle.world_mem.specs.HostRecord.{host_step, told_from, HoldsRows, host_failed}
+use Rattle.world_mem.specs.HostRecord.{host_step, told_from, HoldsRows}
 
 -- one more call is one more step
 pub told_more : (first : List HostRow) (entries : List HostEntry) (entry : HostEntry) → told_from first (entries ++ entry ∷ []) ≡ host_step (told_from first entries) entry

@@ -1,15 +1,14 @@
 -- Files in byte order of their names.
-use Rattle.std.proofs.Common.{◌≡◌, ℕ, suc, ◌+◌, ◌<◌, Bool, true, false, cond, List, [], ◌∷◌, ◌++◌, All, map, length, get_or, drop, add-one, drop-cons, refl, sym, ap, ◌∙◌, ◌&&◌, IsTrue}
-use Rattle.std.specs.List.{list_all}
+use Rattle.std.proofs.Common.{◌≡◌, ℕ, suc, ◌+◌, ◌<◌, Bool, true, false, cond, List, [], ◌∷◌, ◌++◌, All, map, length, get_or, drop, add-one, drop-cons, refl, sym, ap, ◌∙◌}
 use Rattle.std.specs.declared.cmp.Ordering.{Ordering}
 use Rattle.std.specs.declared.cmp.Ordering.TheVariants.{Less, Equal, Greater}
 use Rattle.std.specs.Ordering.{match_ordering}
 use Rattle.std.proofs.lemmas.List.Elements.{All-cons, All-head, All-tail, All-nil, All-map, All-filter}
 use Rattle.std.proofs.lemmas.List.Folds.{list_all-append}
-use Rattle.world.specs.FileNames.{IsFileName, aside_of, is_file_byte}
+use Rattle.world.specs.FileNames.{IsFileName, aside_of}
 use Rattle.world.specs.StoreCalls.{StoreFile, name_cmp, is_name, put_file, drop_file}
 use Rattle.world_mem.specs.declared.stores.MemFile.{MemFile}
-use Rattle.std.specs.Prelude.{String, Option, Some, None, is_some, fold, filter}
+use Rattle.std.specs.Prelude.{String, Option, Some, None, is_some, filter}
 use Rattle.std.specs.Global.{Global, Vec}
 use Rattle.std.specs.String.{string_bytes}
 use Rattle.std.specs.Map.{keys_of}

@@ -1,5 +1,5 @@
 -- What hooks in memory were asked to run, and what their polls answer.
-use Rattle.std.specs.Prelude.{ℕ, Bool, true, false, not, ◌+◌, ◌≤◌, List, [], length, map, Option, Some, None, if◌then◌else◌}
+use Rattle.std.specs.Prelude.{ℕ, Bool, false, not, ◌+◌, ◌≤◌, List, [], map, Option, Some, None, if◌then◌else◌}
 use Rattle.world.specs.declared.hooking.Poll.{Poll}
 use Rattle.world.specs.declared.hooking.Poll.TheVariants.{Running, Ended}
 use Rattle.world.specs.HookCalls.{HookCall, Started, HooksTold, job_of}

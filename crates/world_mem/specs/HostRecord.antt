@@ -1,5 +1,5 @@
 -- What a host in memory holds, and what its record of calls tells.
-use Rattle.std.specs.Prelude.{ℕ, Bool, true, false, not, count_by, ◌≡◌, List, [], ◌∷◌, ◌++◌, length, fold, All, Option, Some, None}
+use Rattle.std.specs.Prelude.{ℕ, Bool, true, false, not, count_by, ◌≡◌, List, [], length, fold, All, Some, None}
 use Rattle.world.specs.declared.rows.HostRow.{HostRow}
 use Rattle.world.specs.RowOrder.{in_row_order, with_row, without_row}
 use Rattle.world.specs.Rows.{IsRow}

@@ -1,5 +1,5 @@
 -- What a link in memory does, and what its record of calls tells.
-use Rattle.std.specs.Prelude.{ℕ, Bool, true, false, not, ◌≡◌, List, [], ◌∷◌, length, take, drop, map, fold, count_by, Option, Some, None}
+use Rattle.std.specs.Prelude.{ℕ, Bool, true, false, not, ◌≡◌, List, [], ◌∷◌, take, drop, map, fold, Option, Some, None}
 use Rattle.world.specs.declared.wakes.Begin.{Begin}
 use Rattle.world.specs.declared.wakes.Event.TheVariants.{End}
 use Rattle.world.specs.LinkCalls.{Given, LinkCall, Waited, Offered, LinkTold, frame_len, cut_wake, waited, offered}

@@ -1,5 +1,5 @@
 -- What a store in memory holds, and what its record of calls tells.
-use Rattle.std.specs.Prelude.{ℕ, Bool, true, false, not, ◌≡◌, List, [], ◌∷◌, length, map, fold, count_by, All, Option, Some, None, String}
+use Rattle.std.specs.Prelude.{ℕ, Bool, true, false, not, ◌≡◌, List, [], ◌∷◌, length, map, fold, All, Some, None, String}
 use Rattle.std.specs.Global.{Global, Vec}
 use Rattle.std.specs.String.{string_bytes}
 use Rattle.world.specs.FileNames.{IsFileName, aside_of}

@@ -48,9 +48,22 @@ impl Model for MemHooks {
 
     ghost Value = { HooksState };
 
-    ghost view = { λ hooks. record { told = record { polls = map poll_of (drop hooks.next hooks.polls.items); starts = length hooks.starts.items; polled = hooks.next + hooks.late; abandoned = hooks.abandoned; calls = map call_of hooks.starts.items }; running = hooks.running; failing = hooks.fails; failed_polls = hooks.failed } };
+    ghost view = { λ hooks. record {
+      told = record {
+        polls = map poll_of (drop hooks.next hooks.polls.items);
+        starts = length hooks.starts.items;
+        polled = hooks.next + hooks.late;
+        abandoned = hooks.abandoned;
+        calls = map call_of hooks.starts.items;
+      };
+      running = hooks.running;
+      failing = hooks.fails;
+      failed_polls = hooks.failed;
+    } };
 
-    ghost invariant = { λ hooks. HoldsChildren hooks.next (length hooks.polls.items) hooks.failed hooks.late hooks.abandoned hooks.running (length hooks.starts.items) };
+    ghost invariant = { λ hooks.
+        HoldsChildren hooks.next (length hooks.polls.items) hooks.failed hooks.late hooks.abandoned hooks.running
+        (length hooks.starts.items) };
 }
 
 impl MemHooks {

@@ -55,9 +55,15 @@ impl Model for MemLink {
 
     ghost Value = { LinkState };
 
-    ghost view = { λ link. record { told = told_of (link_start link.begin link.wakes.items link.earlier) link.calls.items; failing_waits = link.failing_waits; failing_sends = link.failing_sends } };
+    ghost view = { λ link. record {
+      told = told_of (link_start link.begin link.wakes.items link.earlier) link.calls.items;
+      failing_waits = link.failing_waits;
+      failing_sends = link.failing_sends;
+    } };
 
-    ghost invariant = { λ link. HoldsWakes (told_of (link_start link.begin link.wakes.items link.earlier) link.calls.items) link.begin link.wakes.items link.next link.waits link.sends };
+    ghost invariant = { λ link.
+        HoldsWakes (told_of (link_start link.begin link.wakes.items link.earlier) link.calls.items)
+        link.begin link.wakes.items link.next link.waits link.sends };
 }
 
 impl MemLink {

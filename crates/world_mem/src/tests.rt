@@ -1,3 +1,5 @@
+ghost use Rattle.world.specs.Rows.{IsRow};
+
 use crate::{MemHooks, MemHost, MemLink, MemPoll, MemSink, MemSource, MemStore, MemWake};
 use net_types::{Failed, IfIndex, Ip4, Net, Net4};
 use std::test::Fail;
@@ -6,7 +8,9 @@ use world::{
     Store, Wake,
 };
 
-fn addr(number: u32) -> HostRow {
+fn addr(number: u32) -> HostRow
+    ensures { IsRow result }
+{
     HostRow::Addr {
         iface: IfIndex { number: 1 },
         net: Net::V4(Net4 {

@@ -1,7 +1,6 @@
-use Rattle.std.proofs.Common.{◌∙◌, ap, map, Some, sym, List, ℕ}
+use Rattle.std.proofs.Common.{◌∙◌, ap, Some, List, ℕ}
 use Rattle.std.specs.Prelude.{option_map}
 use Rattle.std.specs.Global.{Vec}
-use Rattle.world_mem.specs.StoreRecord.{entry_file}
 use Rattle.world_mem.proofs.FileMaps.{map_find}
 use Rattle.world_mem.proofs.files.bytes_of.Goals as goal
 

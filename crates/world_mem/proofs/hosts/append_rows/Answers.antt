@@ -1,4 +1,3 @@
-use Rattle.std.proofs.Common.{ap, ◌∙◌, take, length}
 use Rattle.world_mem.proofs.Fronts.{cut_back}
 use Rattle.world_mem.proofs.hosts.append_rows.Goals as goal
 

@@ -1,7 +1,7 @@
 use Rattle.std.proofs.Common.{ap, map, sym, ◌∙◌}
 use Rattle.std.specs.String.{string_bytes}
 use Rattle.world.specs.StoreCalls.{is_aside}
-use Rattle.world_mem.proofs.StoreSteps.{one_found, found_back, all_found}
+use Rattle.world_mem.proofs.StoreSteps.{one_found, found_back}
 use Rattle.world_mem.proofs.stores.append_asides.Goals as goal
 
 pub returns-in_default-clause-unchanged : goal.returns-in_default-clause-unchanged

@@ -1,4 +1,4 @@
-use Rattle.std.proofs.Common.{ap, sym, ◌∙◌}
+use Rattle.std.proofs.Common.{ap}
 use Rattle.world_mem.proofs.HostSteps.{lists_rows}
 use Rattle.world_mem.proofs.hosts.MemHostHost.list.Goals as goal
 

@@ -1,7 +1,3 @@
-use Rattle.std.proofs.Common.{map}
-use Rattle.world.specs.FileNames.{IsFileName}
-use Rattle.world.specs.StoreCalls.{StoreFile}
-use Rattle.world_mem.specs.StoreRecord.{entry_file, file_of}
 use Rattle.world_mem.proofs.StoreSteps.{put_more, named_at, named_more}
 use Rattle.world_mem.proofs.stores.MemStore.new.Goals as goal
 

@@ -1,4 +1,4 @@
-use Rattle.std.proofs.Common.{ap, sym, ◌∙◌, Some}
+use Rattle.std.proofs.Common.{ap, ◌∙◌, Some}
 use Rattle.world.specs.StoreCalls.{asides}
 use Rattle.world_mem.specs.StoreRecord.{told_after}
 use Rattle.world_mem.proofs.StoreSteps.{asides_told, asides_named, listed, names_told}

@@ -1,4 +1,4 @@
-use Rattle.world_mem.proofs.StoreSteps.{after_missing, after_rename}
+use Rattle.world_mem.proofs.StoreSteps.{after_rename}
 use Rattle.world_mem.proofs.stores.MemStoreStore.rename_aside.Goals as goal
 
 pub invariant_of-self-2 : goal.invariant_of-self-2
