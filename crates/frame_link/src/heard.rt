@@ -1,6 +1,7 @@
-//! Laws: what is spelled is heard as what was said.
+//! Laws: what is spelled is heard as what was said, and what is heard was spelled so.
 
-ghost use Rattle.std.specs.Prelude.{◌≡◌, ◌≤◌, ◌++◌, Some};
+ghost use Rattle.std.specs.Prelude.{◌≡◌, ◌≤◌, ◌++◌, drop, IfSome, Some};
+ghost use Rattle.frame_link.specs.Fields.{mac_in};
 ghost use Rattle.frame_link.specs.Frames.{frame_in, frame_text, said};
 ghost use Rattle.frame_link.specs.Packets.{arp_in, arp_text, no_mac, request, request_frame, request_text};
 
@@ -24,4 +25,15 @@ pub fn packet_is_heard(said: ArpView, target_mac: Mac, rest: &[u8])
 pub fn arp_is_heard(mac: Mac, sender: Ip4, target: Ip4)
     ensures frame { frame_in (request_text mac sender target) ≡ Some (request_frame mac sender target) }
     ensures packet { arp_in (arp_text (request mac sender target) no_mac) ≡ Some (request mac sender target) }
+{}
+
+/// Each frame that is heard is spelled by what it says.
+pub fn frame_is_spelled(frame: &[u8])
+    ensures { IfSome (frame_in frame.now) (λ heard. frame.now ≡ frame_text heard) }
+{}
+
+/// Each ARP packet that is heard is spelled by what it says and the target's hardware address, up to what
+/// follows its 28 bytes.
+pub fn packet_is_spelled(body: &[u8])
+    ensures { IfSome (arp_in body.now) (λ heard. body.now ≡ arp_text heard (mac_in body.now 18) ++ drop 28 body.now) }
 {}

@@ -10,7 +10,9 @@ mod heard;
 pub use arp::{ArpView, arp_frame, arp_of};
 pub use ethernet::{EthView, eth_of};
 pub use fields::{ip4_at, mac_at, word_at};
-pub use heard::{arp_is_heard, frame_is_heard, packet_is_heard};
+pub use heard::{
+    arp_is_heard, frame_is_heard, frame_is_spelled, packet_is_heard, packet_is_spelled,
+};
 
 #[cfg(test)]
 mod tests;

@@ -13,7 +13,7 @@ use Rattle.udp_frame.specs.Datagrams.{datagram_in, is_checked4, pseudo4, ports_t
 use Rattle.udp_frame.specs.Udp4Frames.{Udp4, checked4_in, udp4_in, said4, udp4_packet, udp4_text}
 use Rattle.udp_frame.proofs.Cells.{all_bytes, word_bytes, ip4_bytes}
 
-abbrev fits : Ip4 → Type 0
+abbrev pub fits : Ip4 → Type 0
 fits ip = ip.number < 2 ^ 32
 
 -- ---- the datagram
@@ -127,3 +127,8 @@ said_is_heard m rest from_fits to_fits from_port to_port small range =
     datagram_said m.from m.to d m.from_port m.to_port m.payload (checked_heard m.from m.to m.from_port m.to_port m.payload range)
     (from_be_bytes-to_be_bytes_2 m.from_port from_port) (from_be_bytes-to_be_bytes_2 m.to_port to_port) refl in
     rw (packet, datagram) said
+
+pub alone_is_heard : (m : Udp4) → fits m.from → fits m.to → m.from_port < 2 ^ 16 → m.to_port < 2 ^ 16 → 28 + length m.payload < 2 ^ 16 → AreBytes m.payload
+    → udp4_in (udp4_text m) ≡ Some m
+alone_is_heard m from_fits to_fits from_port to_port small range =
+    ap udp4_in (sym (append-nil (udp4_text m))) ∙ said_is_heard m [] from_fits to_fits from_port to_port small range

@@ -2,7 +2,7 @@ use Rattle.std.proofs.Common.{rules, arith}
 use Rattle.frame_link.proofs.Laws.{frame_heard}
 use Rattle.net_types.proofs.Checksum.{fit_bytes}
 use Rattle.udp_frame.specs.Udp4Frames.{udp4_frame, said4}
-use Rattle.udp_frame.proofs.Laws.{said_is_heard}
+use Rattle.udp_frame.proofs.Laws.{alone_is_heard, said_is_heard}
 use Rattle.udp_frame.proofs.heard.udp4_is_heard.Goals as goal
 
 pub returns-clause-frame : goal.returns-clause-frame
@@ -11,5 +11,10 @@ returns-clause-frame c =
 
 pub returns-clause-packet : goal.returns-clause-packet
 returns-clause-packet c =
-    said_is_heard (said4 c.args.ends.from c.args.ends.to c.args.from_port c.args.to_port c.args.payload.now) c.args.rest.now (search rules) (search rules)
+    alone_is_heard (said4 c.args.ends.from c.args.ends.to c.args.from_port c.args.to_port c.args.payload.now) (search rules) (search rules)
+    (search rules) (search rules) (omega (arith, c.requires)) (fit_bytes c.args.payload.now c.type_inv.payload)
+
+pub returns-clause-padded : goal.returns-clause-padded
+returns-clause-padded c =
+    said_is_heard (said4 c.args.ends.from c.args.ends.to c.args.from_port c.args.to_port c.args.payload.now) c.args.padding.now (search rules) (search rules)
     (search rules) (search rules) (omega (arith, c.requires)) (fit_bytes c.args.payload.now c.type_inv.payload)
