@@ -17,13 +17,17 @@ use net_types::{Ip4, sum_add, sum_is_right, sum_new, sum_value};
 /// ```
 pub const HEADER_LEN: usize = 20;
 
+/// The version in the first byte's high half.
 const VERSION: u8 = 4;
 
+/// The bytes of a word, which the low half of the first byte counts.
 const WORD_LEN: usize = 4;
-/// What the fragment's word has beside the two flags that whole packets may have.
-const FRAGMENT: u16 = 0x4000;
 
-const PROTOCOL_UDP: u8 = 17;
+/// The flag of a packet that may not be cut. The bits below it are those of a fragment.
+const DONT_FRAGMENT: u16 = 0x4000;
+
+/// The protocol number of UDP.
+const UDP: u8 = 17;
 
 /// A packet with a whole datagram.
 #[derive(Clone, Copy)]
@@ -58,8 +62,8 @@ fn is_packet(body: &[u8]) -> bool
         && head_len(body) >= HEADER_LEN
         && head_len(body) <= usize::from(word_at(body, 2))
         && usize::from(word_at(body, 2)) <= body.len()
-        && word_at(body, 6) % FRAGMENT == 0
-        && body[9] == PROTOCOL_UDP
+        && word_at(body, 6) % DONT_FRAGMENT == 0
+        && body[9] == UDP
         && is_right(&body[..head_len(body)])
 }
 
@@ -97,26 +101,11 @@ fn header_with(from: Ip4, to: Ip4, total: u16, sum: u16) -> [u8; 20]
     let from = from.number.to_be_bytes();
     let to = to.number.to_be_bytes();
     [
-        0x45,
-        0x00,
-        total[0],
-        total[1], // version 4, five words of header, no service asked for
-        0x00,
-        0x00,
-        0x40,
-        0x00, // no identification, don't fragment
-        64,
-        PROTOCOL_UDP,
-        sum[0],
-        sum[1], // hops to live
-        from[0],
-        from[1],
-        from[2],
-        from[3], // source
-        to[0],
-        to[1],
-        to[2],
-        to[3], // destination
+        0x45, 0x00, total[0], total[1], // version and header length, no service asked for, total length
+        0x00, 0x00, 0x40, 0x00, // no identification, don't fragment
+        64, UDP, sum[0], sum[1], // hops to live, protocol, checksum
+        from[0], from[1], from[2], from[3], // source
+        to[0], to[1], to[2], to[3], // destination
     ]
 }
 
@@ -128,17 +117,8 @@ pub fn pseudo_header(from: Ip4, to: Ip4, len: u16) -> [u8; 12]
     let to = to.number.to_be_bytes();
     let len = len.to_be_bytes();
     [
-        from[0],
-        from[1],
-        from[2],
-        from[3], // source
-        to[0],
-        to[1],
-        to[2],
-        to[3], // destination
-        0x00,
-        PROTOCOL_UDP,
-        len[0],
-        len[1],
+        from[0], from[1], from[2], from[3], // source
+        to[0], to[1], to[2], to[3], // destination
+        0x00, UDP, len[0], len[1], // protocol, length
     ]
 }
