@@ -8,9 +8,12 @@ use Rattle.net_types.specs.declared.address.Ip4.{Ip4}
 use Rattle.net_types.specs.Sum.{AreBytes, ones_sum, checksum}
 use Rattle.net_types.proofs.Checksum.{checks, checks_ones, append_bytes}
 use Rattle.frame_link.specs.Fields.{word_in, ip4_in, word_text, ip4_text}
+use Rattle.frame_link.specs.Frames.{frame_in}
+use Rattle.frame_link.proofs.Laws.{frame_heard}
+use Rattle.udp_frame.specs.declared.udp4.Ends4.{Ends4}
 use Rattle.udp_frame.specs.Packets.{Packet, udp_protocol, head_len, is_packet, packet_in, head_text, whole_head, packet_text}
 use Rattle.udp_frame.specs.Datagrams.{datagram_in, is_checked4, pseudo4, ports_text, sent_sum, datagram_sum, datagram_text}
-use Rattle.udp_frame.specs.Udp4Frames.{Udp4, checked4_in, udp4_in, said4, udp4_packet, udp4_text}
+use Rattle.udp_frame.specs.Udp4Frames.{Udp4, checked4_in, udp4_in, said4, udp4_packet, udp4_text, udp4_frame, udp4_frame_text}
 use Rattle.udp_frame.proofs.Cells.{all_bytes, word_bytes, ip4_bytes}
 
 abbrev pub fits : Ip4 → Type 0
@@ -115,7 +118,7 @@ datagram_said from to d from_port to_port payload checked from_is to_is payload_
 
 pub said_is_heard : (m : Udp4) (rest : List ℕ) → fits m.from → fits m.to → m.from_port < 2 ^ 16 → m.to_port < 2 ^ 16 → 28 + length m.payload < 2 ^ 16 → AreBytes m.payload
     → udp4_in (udp4_text m ++ rest) ≡ Some m
-unfolding udp4_in
+unfolding udp4_in udp4_text
 said_is_heard m rest from_fits to_fits from_port to_port small range =
     let pseudo = pseudo4 m.from m.to (8 + length m.payload) in
     let d = datagram_text pseudo m.from_port m.to_port m.payload in
@@ -132,3 +135,8 @@ pub alone_is_heard : (m : Udp4) → fits m.from → fits m.to → m.from_port < 
     → udp4_in (udp4_text m) ≡ Some m
 alone_is_heard m from_fits to_fits from_port to_port small range =
     ap udp4_in (sym (append-nil (udp4_text m))) ∙ said_is_heard m [] from_fits to_fits from_port to_port small range
+
+pub frame_is_heard : (ends : Ends4) (from_port to_port : ℕ) (payload : List ℕ) → length ends.to_mac.bytes ≡ 6 → length ends.from_mac.bytes ≡ 6
+    → frame_in (udp4_frame_text ends from_port to_port payload) ≡ Some (udp4_frame ends from_port to_port payload)
+unfolding udp4_frame_text
+frame_is_heard ends from_port to_port payload to_len from_len = frame_heard (udp4_frame ends from_port to_port payload) to_len from_len (omega arith)

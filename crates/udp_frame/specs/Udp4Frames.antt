@@ -35,7 +35,7 @@ said4 from to from_port to_port payload = record { from = from; to = to; from_po
 abbrev pub udp4_packet : Udp4 → Packet
 udp4_packet m = record { from = m.from; to = m.to; body = datagram_text (pseudo4 m.from m.to (8 + length m.payload)) m.from_port m.to_port m.payload }
 
-abbrev pub udp4_text : Udp4 → List ℕ
+unfoldable pub udp4_text : Udp4 → List ℕ
 udp4_text m = packet_text (udp4_packet m)
 
 abbrev pub ip4_kind : ℕ
@@ -45,5 +45,5 @@ ip4_kind = 0x0800
 abbrev pub udp4_frame : Ends4 → ℕ → ℕ → List ℕ → Frame
 udp4_frame ends from_port to_port payload = said ends.to_mac ends.from_mac ip4_kind (udp4_text (said4 ends.from ends.to from_port to_port payload))
 
-abbrev pub udp4_frame_text : Ends4 → ℕ → ℕ → List ℕ → List ℕ
+unfoldable pub udp4_frame_text : Ends4 → ℕ → ℕ → List ℕ → List ℕ
 udp4_frame_text ends from_port to_port payload = frame_text (udp4_frame ends from_port to_port payload)

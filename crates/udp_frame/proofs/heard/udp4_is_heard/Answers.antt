@@ -1,13 +1,12 @@
 use Rattle.std.proofs.Common.{rules, arith}
-use Rattle.frame_link.proofs.Laws.{frame_heard}
 use Rattle.net_types.proofs.Checksum.{fit_bytes}
 use Rattle.udp_frame.specs.Udp4Frames.{udp4_frame, said4}
-use Rattle.udp_frame.proofs.Laws.{alone_is_heard, said_is_heard}
+use Rattle.udp_frame.proofs.Laws.{alone_is_heard, frame_is_heard, said_is_heard}
 use Rattle.udp_frame.proofs.heard.udp4_is_heard.Goals as goal
 
 pub returns-clause-frame : goal.returns-clause-frame
 returns-clause-frame c =
-    frame_heard (udp4_frame c.args.ends c.args.from_port c.args.to_port c.args.payload.now) (search rules) (search rules) (omega arith)
+    frame_is_heard c.args.ends c.args.from_port c.args.to_port c.args.payload.now (search rules) (search rules)
 
 pub returns-clause-packet : goal.returns-clause-packet
 returns-clause-packet c =
