@@ -140,3 +140,8 @@ pub frame_is_heard : (ends : Ends4) (from_port to_port : ℕ) (payload : List �
     → frame_in (udp4_frame_text ends from_port to_port payload) ≡ Some (udp4_frame ends from_port to_port payload)
 unfolding udp4_frame_text
 frame_is_heard ends from_port to_port payload to_len from_len = frame_heard (udp4_frame ends from_port to_port payload) to_len from_len (omega arith)
+
+pub frame_len : (ends : Ends4) (from_port to_port : ℕ) (payload : List ℕ) → length ends.to_mac.bytes ≡ 6 → length ends.from_mac.bytes ≡ 6
+    → length (udp4_frame_text ends from_port to_port payload) ≡ 42 + length payload
+unfolding udp4_frame_text udp4_text
+frame_len ends from_port to_port payload to_len from_len = simp length-append (omega (arith, to_len, from_len))

@@ -59,9 +59,10 @@ fn discover_is_spelled(rt: HostRuntime) -> Result<(), Fail> {
     let frame = build_udp4(rt.alloc(), &ENDS, 68, 67, &data)
         .ok()
         .ok_or("memory")?;
-    assert_eq!(rt; frame.len(), 342);
-    assert_eq!(rt; &frame[..42], HEADERS.as_slice());
-    assert_eq!(rt; &frame[42..], data.as_slice());
+    let mut expected = [0; 342];
+    expected[..42].copy_from_slice(&HEADERS);
+    expected[42..].copy_from_slice(&data);
+    assert_eq!(rt; frame.as_slice(), expected.as_slice());
     Ok(())
 }
 

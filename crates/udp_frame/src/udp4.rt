@@ -1,6 +1,6 @@
 //! UDP over IPv4.
 
-ghost use Rattle.std.specs.Prelude.{◌≡◌, ◌≤◌, ◌<◌, ◌^◌, ◌++◌, length, IfOk};
+ghost use Rattle.std.specs.Prelude.{◌≡◌, ◌≤◌, ◌<◌, ◌+◌, ◌^◌, ◌++◌, length, vec_len, IfOk};
 ghost use Rattle.std.specs.Option.{option_map};
 ghost use Rattle.frame_link.specs.Fields.{word_text};
 ghost use Rattle.udp_frame.specs.Datagrams.{is_checked4};
@@ -90,7 +90,8 @@ pub fn build_udp4(
     payload: &[u8],
 ) -> Result<Vec<u8>, NoMemory>
     requires { length payload.now ≤ 1472 }
-    ensures { IfOk result (λ v. v.items ≡ udp4_frame_text ends.now from_port to_port payload.now) }
+    ensures exact { IfOk result (λ v. v.items ≡ udp4_frame_text ends.now from_port to_port payload.now) }
+    ensures len { IfOk result (λ v. vec_len v ≡ 42 + length payload.now) }
 {
     let len = (UDP_HEADER_LEN + payload.len()) as u16;
     let total = ipv4::HEADER_LEN as u16 + len;
@@ -128,7 +129,8 @@ fn joined(
     payload: &[u8],
 ) -> Result<Vec<u8>, AllocError>
     requires { length payload.now ≤ 1472 }
-    ensures { IfOk result (λ v. v.items ≡ eth.now ++ head.now ++ ports.now ++ payload.now) }
+    ensures exact { IfOk result (λ v. v.items ≡ eth.now ++ head.now ++ ports.now ++ payload.now) }
+    ensures len { IfOk result (λ v. vec_len v ≡ 42 + length payload.now) }
 {
     let len = eth.len() + head.len() + ports.len() + payload.len();
     let mut frame = Vec::with_capacity(alloc, len)?;
