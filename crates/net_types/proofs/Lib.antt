@@ -7,3 +7,4 @@ pub mod MarkLaws
 pub mod NameLaws
 pub mod NumberLaws
 pub mod ReadsLaws
+pub mod Checksum

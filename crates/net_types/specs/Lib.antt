@@ -5,3 +5,4 @@ pub mod Numbers
 pub mod HexText
 pub mod AddressText
 pub mod NameText
+pub mod Sum

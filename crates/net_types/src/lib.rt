@@ -11,6 +11,7 @@ mod memory;
 mod name_text;
 mod number;
 mod printing;
+mod sum;
 
 pub use address::{Ip4, Ip6, Mac, Net, Net4, Net6};
 pub use address_text::{ip4_of, mac_of, net4_of, read_ip4, read_mac, read_net4};
@@ -21,6 +22,8 @@ pub use interface::{IfIndex, IfSpec, Name};
 pub use name_text::{name_of, read_name};
 pub use number::{number_of, u8_of, u64_of};
 pub use printing::{Hex, append_text, print_ip4, print_ip6};
+pub use sum::Sum;
+pub use sum::calls::{sum_add, sum_is_right, sum_new, sum_value};
 
 #[cfg(test)]
 mod tests;

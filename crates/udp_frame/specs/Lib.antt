@@ -1,0 +1,3 @@
+pub mod Packets
+pub mod Datagrams
+pub mod Udp4Frames
