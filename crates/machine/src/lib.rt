@@ -8,7 +8,7 @@ mod salt;
 mod timed;
 
 pub use salt::{draw, draw_xid};
-pub use timed::{LAST_MOMENT, Machine, clamp_moment};
+pub use timed::{LAST_MOMENT, Machine, clamp_moment, has_come};
 
 #[cfg(test)]
 mod tests;

@@ -11,6 +11,13 @@ pub fn clamp_moment(at: u64) -> u64
     at.min(LAST_MOMENT)
 }
 
+/// Whether a machine's moment has come: it waits for one, and that isn't above `at`.
+pub fn has_come(due: Option<u64>, at: u64) -> bool
+    ensures { result ≡ is_due due at }
+{
+    due.is_some_and(|due| due <= at)
+}
+
 /// A machine that acts at moments of its own.
 ///
 /// Before its due moment a tick changes nothing and says nothing, so whoever drives it may leave such
