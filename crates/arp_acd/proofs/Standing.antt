@@ -83,7 +83,7 @@ probe_said own iface addr n due at salt past few le h =
 pub test-le : (m n : ℕ) → nat_le m n ≡ true → m ≤ n
 test-le m n h = grind (arith, nat_tests)
 
-test-lt : (m n : ℕ) → nat_lt m n ≡ true → m < n
+pub test-lt : (m n : ℕ) → nat_lt m n ≡ true → m < n
 test-lt m n h = grind (arith, nat_tests)
 
 pub tick_keeps : (own : List Mac) (iface : IfIndex) (addr : Ip4) (phase : Phase) (at salt : ℕ) (past : List AcdEntry)
