@@ -1,4 +1,4 @@
-use Rattle.std.proofs.Common.{◌≡◌, ℕ, ◌-◌, true, false, List, Option, Some, None, nat_le, nat_lt, refl}
+use Rattle.std.proofs.Common.{◌≡◌, ℕ, ◌-◌, List, Option, Some, None, nat_le, nat_lt, refl}
 use Rattle.net_types.specs.declared.address.Ip4.{Ip4}
 use Rattle.net_types.specs.declared.address.Mac.{Mac}
 use Rattle.net_types.specs.declared.interface.IfIndex.{IfIndex}
@@ -34,12 +34,12 @@ heard own iface addr (Probing n due) arp at =
     split (is_contested own addr arp) (λ yes. rw yes refl) (λ no. rw no refl)
 heard own iface addr (Announcing due last) arp at =
     split (is_used own addr arp)
-      (λ yes. rw yes (contested (mk iface addr (Announcing due last)) last at (Announcing due (Some at))))
-      (λ no. rw no refl)
+    (λ yes. rw yes (contested (mk iface addr (Announcing due last)) last at (Announcing due (Some at))))
+    (λ no. rw no refl)
 heard own iface addr (Held last) arp at =
     split (is_used own addr arp)
-      (λ yes. rw yes (contested (mk iface addr (Held last)) last at (Held (Some at))))
-      (λ no. rw no refl)
+    (λ yes. rw yes (contested (mk iface addr (Held last)) last at (Held (Some at))))
+    (λ no. rw no refl)
 heard own iface addr Over arp at = refl
 
 pub addr-hears : (own : List Mac) (acd : Acd) (arp : ArpView) (at : ℕ) → (acd_hears own acd arp at).acd.addr ≡ acd.addr

@@ -22,8 +22,8 @@ pub record PassesProbed (own : List Mac) (addr : Ip4) (start : Acd) (past : List
 
 abbrev pub PassesAfterProbes : Type 0
 PassesAfterProbes = (own : List Mac) (iface : IfIndex) (addr : Ip4) (at salt : ℕ) (past : List AcdEvent) (event : AcdEvent)
-    → (acd_step own (acd_after own (acd_begun iface addr at salt) past) event).says ≡ Passed
-    → PassesProbed own addr (acd_begun iface addr at salt) past event
+    → let start : Acd = acd_begun iface addr at salt in
+    (acd_step own (acd_after own start past) event).says ≡ Passed → PassesProbed own addr start past event
 
 -- The address has passed and wasn't given up.
 abbrev pub IsInUse : Phase → Type 0
@@ -44,7 +44,8 @@ pub record AnswersConflict (before at : ℕ) (step : AcdStep) : Type 0 where
 
 abbrev pub GivesUpContestedTwice : Type 0
 GivesUpContestedTwice = (own : List Mac) (iface : IfIndex) (addr : Ip4) (at salt : ℕ) (past : List AcdEvent) (arp : ArpView) (now : ℕ)
-    → IsInUse (acd_after own (acd_begun iface addr at salt) past).phase → is_used own addr arp ≡ true
-    → MatchOption (last_defence (acd_history own (acd_begun iface addr at salt) past))
-    ((acd_hears own (acd_after own (acd_begun iface addr at salt) past) arp now).says ≡ SayAnnounce)
-    (λ before. AnswersConflict before now (acd_hears own (acd_after own (acd_begun iface addr at salt) past) arp now))
+    → let start : Acd = acd_begun iface addr at salt in
+    let acd : Acd = acd_after own start past in
+    let step : AcdStep = acd_hears own acd arp now in
+    IsInUse acd.phase → is_used own addr arp ≡ true
+    → MatchOption (last_defence (acd_history own start past)) (step.says ≡ SayAnnounce) (λ before. AnswersConflict before now step)

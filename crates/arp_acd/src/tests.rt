@@ -1,6 +1,6 @@
 use crate::{Acd, AcdSays, acd_addr, acd_begin, acd_heard, acd_held, acd_unsent};
 use frame_link::ArpView;
-use machine::Machine;
+use machine::{Machine, early_ticks_rest};
 use net_types::{IfIndex, Ip4, Mac};
 use std::rt::HostRuntime;
 
@@ -45,6 +45,7 @@ fn held() -> Acd {
 
 #[test]
 fn an_address_passes_after_three_probes(rt: HostRuntime) {
+    early_ticks_rest::<Acd>();
     let mut acd = acd_begin(FIRST, ADDR, 200, 0);
     assert_eq!(rt; acd_addr(&acd), ADDR);
     assert_eq!(rt; acd.due(), Some(201));

@@ -1,5 +1,5 @@
-use Rattle.std.proofs.Common.{List, [], ◌∷◌, ◌⊎◌, inl, inr}
-use Rattle.machine.specs.Since.{Since, Always}
+use Rattle.std.proofs.Common.{List, [], ◌∷◌, inl, inr}
+use Rattle.machine.specs.Since.{Since}
 
 -- A weaker fact of the earlier entry.
 pub since-map : {A : Type 0} (P Q R : A → List A → Type 0) → ((e : A) (earlier : List A) → Q e earlier → R e earlier)
