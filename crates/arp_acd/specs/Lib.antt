@@ -1,0 +1,5 @@
+pub mod Conflict
+pub mod History
+pub mod Laws
+pub mod Rests
+pub mod Table

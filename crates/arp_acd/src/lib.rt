@@ -1,0 +1,16 @@
+//! Conflict detection for one IPv4 address (RFC 5227): three probes, then two announcements, then a
+//! defence of the address while it is held.
+//!
+//! `acd_begin`, then `tick` at the due moments, `acd_heard` for each ARP packet, and `acd_unsent` where
+//! a frame could not be sent.
+#![tactic(auto)]
+
+mod detection;
+mod foreign;
+mod laws;
+
+pub use detection::{Acd, AcdSays, ArpSay, acd_addr, acd_begin, acd_heard, acd_held, acd_unsent};
+pub use laws::{gives_up_contested_twice, passes_after_probes};
+
+#[cfg(test)]
+mod tests;

@@ -1,0 +1,5 @@
+pub mod Choice
+pub mod History
+pub mod Laws
+pub mod Rests
+pub mod Table

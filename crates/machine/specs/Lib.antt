@@ -1,0 +1,3 @@
+pub mod Draw
+pub mod Moment
+pub mod Since
