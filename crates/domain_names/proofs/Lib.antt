@@ -1,0 +1,5 @@
+pub mod Labels
+pub mod NameBytes
+pub mod Pieces
+pub mod Reading
+pub mod Names

@@ -1,0 +1,5 @@
+pub mod DomainName
+pub mod NameText
+pub mod LabelSteps
+pub mod CompressedName
+pub mod CompressedSteps

@@ -1,0 +1,63 @@
+//! The search list: names one after another (RFC 3397).
+
+ghost use Rattle.std.specs.Prelude.{◌≡◌, ◌≢◌, ◌<◌, ◌≤◌, [], length, map, IfOk, IfSome, MatchOption};
+ghost use Rattle.std.specs.Str.{IsUtf8};
+ghost use Rattle.std.specs.String.{string_bytes};
+ghost use Rattle.domain_names.specs.CompressedName.{IsNameAt, NoNameAt, AreNames, NoNames};
+
+use crate::compressed::read_name;
+use net_types::NoMemory;
+use std::alloc::{AllocError, Global};
+
+/// The name that begins at `from` as text, and where what follows it begins.
+fn name_at(alloc: Global, value: &[u8], from: usize) -> Result<Option<(String, usize)>, AllocError>
+    ensures name { IfOk result (λ name. MatchOption name (NoNameAt value.now from) (λ x. IsNameAt value.now from (string_bytes x.0) x.1)) }
+    ensures forward { IfOk result (λ name. IfSome name (λ x. (from < x.1) × (x.1 ≤ length value.now))) }
+{
+    let name = read_name(alloc, value, from)?;
+    let Some((name, next)) = name else {
+        return Ok(None);
+    };
+    Ok(Some((text_from(name), next)))
+}
+
+/// The text of bytes that are text.
+fn text_from(bytes: Vec<u8>) -> String
+    requires { IsUtf8 bytes.items }
+    ensures { string_bytes result ≡ bytes.items }
+{
+    match String::from_utf8(bytes) {
+        Ok(text) => text,
+        Err(_) => unreachable!(),
+    }
+}
+
+fn read_names(alloc: Global, value: &[u8]) -> Result<Option<Vec<String>>, AllocError>
+    requires { 0 < length value.now }
+    ensures { IfOk result (λ names. MatchOption names (NoNames value.now) (λ v. (v.items ≢ []) × AreNames value.now 0 (map (λ name. string_bytes name) v.items))) }
+{
+    let mut names = Vec::new(alloc);
+    let mut at = 0;
+    'names: while at < value.len() {
+        let name = name_at(alloc, value, at)?;
+        let Some((name, next)) = name else {
+            return Ok(None);
+        };
+        names.push(name)?;
+        at = next;
+    }
+    Ok(Some(names))
+}
+
+/// The names that are the value: option 119. None unless it is one compressed name or more, and nothing else.
+pub fn search_of(alloc: Global, value: &[u8]) -> Result<Option<Vec<String>>, NoMemory>
+    ensures { IfOk result (λ names. MatchOption names (NoNames value.now) (λ v. (v.items ≢ []) × AreNames value.now 0 (map (λ name. string_bytes name) v.items))) }
+{
+    if value.is_empty() {
+        return Ok(None);
+    }
+    match read_names(alloc, value) {
+        Ok(names) => Ok(names),
+        Err(_) => Err(NoMemory),
+    }
+}

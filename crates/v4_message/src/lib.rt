@@ -1,0 +1,13 @@
+//! DHCPv4 messages (RFC 2131): a server's reply read, and a client's message written.
+#![tactic(auto)]
+
+mod field;
+pub mod kind;
+mod reading;
+mod writing;
+
+pub use reading::{Bad4, Msg4, read4};
+pub use writing::{Ask4, Kind4, Said4, write4};
+
+#[cfg(test)]
+mod tests;

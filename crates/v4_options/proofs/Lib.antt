@@ -1,0 +1,5 @@
+pub mod Fronts
+pub mod OnlyByte
+pub mod AddressSteps
+pub mod RouteSteps
+pub mod AreaLaws

@@ -1,0 +1,8 @@
+pub mod OptionArea
+pub mod OptionValue
+pub mod Overload
+pub mod OptionViews
+pub mod AreaSteps
+pub mod Numbers
+pub mod Routes
+pub mod AreaGrammar

@@ -1,0 +1,123 @@
+//! One area of options, from its front to its end.
+
+ghost use Rattle.std.specs.Prelude.{◌≡◌, ◌+◌, ◌^◌, ◌<◌, ℕ, [], ◌∷◌, length, Some, None, MatchOption, IfOk, IfErr};
+ghost use Rattle.v4_options.specs.OptionArea.{front_of, instances_in, malformed_in};
+ghost use Rattle.v4_options.specs.Overload.{overload_by, overload_in};
+ghost use Rattle.v4_options.specs.AreaSteps.{HasRoom, InstancesBy, MalformedBy, OverloadBy};
+
+use crate::code;
+use crate::view::Malformed;
+
+/// No area but the options holds options.
+pub(crate) const NEITHER: u8 = 0;
+/// The field file holds options too.
+pub(crate) const FILE: u8 = 1;
+/// The field sname holds options too.
+pub(crate) const SNAME: u8 = 2;
+/// Both fields hold options too.
+pub(crate) const BOTH: u8 = 3;
+
+/// What stands at the front of an area (RFC 2132, section 2).
+#[derive(Clone, Copy)]
+pub enum Front {
+    /// A byte of padding.
+    Pad,
+    /// The end of the area: its last byte is passed, or the end option stands here.
+    End,
+    /// An option whose length byte is missing or whose value runs past the area.
+    Cut,
+    /// An option with a value of so many bytes.
+    Whole(usize),
+}
+
+#[tactic(auto, unfolding(crate::specs::OptionArea::front_of))]
+fn front_at(area: &[u8]) -> Front
+    ensures exact { front_of area.now ≡ result }
+    ensures room { HasRoom area.now result }
+{
+    if area.is_empty() {
+        return Front::End;
+    }
+    if area[0] == code::PAD {
+        return Front::Pad;
+    }
+    if area[0] == code::END {
+        return Front::End;
+    }
+    if area.len() < 2 {
+        return Front::Cut;
+    }
+    let len = area[1] as usize;
+    if area.len() - 2 < len {
+        return Front::Cut;
+    }
+    Front::Whole(len)
+}
+
+/// What stands at the front of an area, and what that says of the area's instances.
+pub(crate) fn read_front(area: &[u8]) -> Front
+    ensures instances { InstancesBy area.now result }
+    ensures malformed { (at : ℕ) → MalformedBy at area.now result }
+    ensures overload { OverloadBy area.now result }
+    ensures room { HasRoom area.now result }
+{
+    front_at(area)
+}
+
+/// The first instance of an area, as its code and its value, and the area after it.
+pub(crate) fn split_option(area: &[u8]) -> Option<(u8, &[u8], &[u8])>
+    ensures { MatchOption result (instances_in area.now ≡ []) (λ x. instances_in area.now ≡ (x.0, x.1.now) ∷ instances_in x.2.now) }
+{
+    let mut rest = area;
+    'options: loop {
+        match read_front(rest) {
+            Front::Pad => rest = &rest[1..],
+            Front::End => return None,
+            Front::Cut => return None,
+            Front::Whole(len) => {
+                let (value, others) = rest[2..].split_at(len);
+                return Some((rest[0], value, others));
+            }
+        }
+    }
+}
+
+/// What the value of an option 52 says of the other areas (RFC 2132, section 9.3).
+fn overload_of(value: &[u8]) -> u8
+    ensures { result ≡ overload_by value.now }
+{
+    match value {
+        [overload] if *overload <= BOTH => *overload,
+        _ => NEITHER,
+    }
+}
+
+/// The overload that an area tells by its first option 52. The area begins at `begins`, which counts in
+/// the place of a malformed option.
+pub(crate) fn check_area(area: &[u8], begins: usize) -> Result<u8, Malformed>
+    requires { begins + length area.now < 2 ^ 64 }
+    ensures whole { IfOk result (λ overload. (malformed_in begins area.now ≡ None) × (overload ≡ overload_in area.now)) }
+    ensures malformed { IfErr result (λ m. malformed_in begins area.now ≡ Some m.place) }
+{
+    let mut rest = area;
+    let mut at = begins;
+    let mut overload = None;
+    'options: loop {
+        match read_front(rest) {
+            Front::Pad => {
+                rest = &rest[1..];
+                at += 1;
+            }
+            Front::End => return Ok(overload.unwrap_or(NEITHER)),
+            Front::Cut => return Err(Malformed { place: at }),
+            Front::Whole(len) => {
+                let (value, others) = rest[2..].split_at(len);
+                if rest[0] == code::OVERLOAD && overload.is_none() {
+                    overload = Some(overload_of(value));
+                }
+                rest = others;
+                at += 2 + len;
+            }
+        }
+    }
+}

@@ -1,0 +1,61 @@
+//! The areas of a message, and the view of their options once each is known to be well formed.
+
+ghost use Rattle.std.specs.Prelude.{◌≡◌, ◌+◌, ◌^◌, ◌<◌, ◌↔◌, length, Some, None, IfOk, IfErr, IsTrue};
+ghost use Rattle.v4_options.specs.Overload.{overload_in, reads_file, reads_sname};
+ghost use Rattle.v4_options.specs.OptionViews.{area_bytes, malformed_of};
+
+use crate::area::{BOTH, FILE, SNAME, check_area};
+
+/// The three fields of a message that can hold options (RFC 2131, section 2).
+#[derive(Clone, Copy, Debug)]
+pub struct Areas<'a> {
+    pub options: &'a [u8],
+    pub file: &'a [u8],
+    pub sname: &'a [u8],
+}
+
+/// An option whose length byte is missing or whose value runs past its area.
+#[derive(Clone, Copy, Debug, PartialEq, Eq)]
+pub struct Malformed {
+    pub place: usize,
+}
+
+/// The options of a message. `overload` tells which areas hold options beside the first: 0 neither, 1 file, 2 sname,
+/// 3 both (RFC 2132, section 9.3).
+#[derive(Clone, Copy, Debug)]
+pub struct OptionView<'a> {
+    pub areas: Areas<'a>,
+    pub overload: u8,
+}
+
+pub(crate) fn reads_file(overload: u8) -> bool
+    ensures { result ≡ reads_file overload }
+{
+    matches!(overload, FILE | BOTH)
+}
+
+pub(crate) fn reads_sname(overload: u8) -> bool
+    ensures { result ≡ reads_sname overload }
+{
+    matches!(overload, SNAME | BOTH)
+}
+
+/// The view of the areas' options. It is refused at the first malformed option of the areas that are read, in the order
+/// options, file, sname; the place counts from the front of the three areas laid end to end.
+pub fn options_of<'a>(areas: Areas<'a>) -> Result<OptionView<'a>, Malformed>
+    requires { length areas.options.now + length areas.file.now + length areas.sname.now < 2 ^ 64 }
+    ensures same { IfOk result (λ view. area_bytes view.areas ≡ area_bytes areas.entry) }
+    ensures overload { IfOk result (λ view. view.overload ≡ overload_in areas.entry.options.now) }
+    ensures whole { IfOk result (λ _. malformed_of areas.entry ≡ None) }
+    ensures malformed { IfErr result (λ malformed. malformed_of areas.entry ≡ Some malformed.place) }
+{
+    let overload = check_area(areas.options, 0)?;
+    let file = areas.options.len();
+    if reads_file(overload) {
+        check_area(areas.file, file)?;
+    }
+    if reads_sname(overload) {
+        check_area(areas.sname, file + areas.file.len())?;
+    }
+    Ok(OptionView { areas, overload })
+}
