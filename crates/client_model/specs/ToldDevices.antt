@@ -1,17 +1,17 @@
 -- What devices that tell what they hold and which calls fail make of a life: it is determined.
-use Rattle.std.specs.Prelude.{ℕ, ◌≡◌, ◌+◌, Bool, true, false, not, ◌||◌, if◌then◌else◌, List, [], ◌∷◌, ◌++◌, map, length, take, Option, Some, None}
+use Rattle.std.specs.Prelude.{ℕ, ◌≡◌, ◌+◌, Bool, true, false, not, ◌||◌, if◌then◌else◌, List, [], ◌∷◌, map, length, take, Option, Some, None}
 use Rattle.world.specs.Causes.{has_number}
 use Rattle.world.specs.declared.rows.HostRow.{HostRow}
 use Rattle.world.specs.declared.wakes.Begin.{Begin}
 use Rattle.world.specs.declared.wakes.Wake.{Wake}
 use Rattle.world.specs.HostCalls.{HostTold, Listed, host_answered}
-use Rattle.world.specs.LinkCalls.{Given, LinkTold, cut_wake, frame_len}
-use Rattle.world.specs.StoreCalls.{StoreTold, Reading, Missing}
+use Rattle.world.specs.LinkCalls.{Given, cut_wake, frame_len}
+use Rattle.world.specs.StoreCalls.{Missing}
 use Rattle.client_model.specs.declared.interfaces.Managed.{Managed}
 use Rattle.client_model.specs.Interfaces.{stepped, rows_of, opening}
-use Rattle.client_model.specs.HostTurn.{Change, Remove, Add, HostMet, change_call, applied, changes_from, learnt}
+use Rattle.client_model.specs.HostTurn.{Change, HostMet, change_call, applied, changes_from, learnt}
 use Rattle.client_model.specs.Turns.{Life, Met, turned, is_over, is_end}
-use Rattle.client_model.specs.Opening.{OpeningMet, file_names, opened_life}
+use Rattle.client_model.specs.Opening.{OpeningMet, file_names}
 
 -- whether the host's next call fails
 abbrev pub fails_next : List ℕ → HostTold → Bool

@@ -1,5 +1,5 @@
 -- One turn of a life: a wake, the client's step, the host calls, and the moment that the next wait is asked for.
-use Rattle.std.specs.Prelude.{ℕ, ◌+◌, ◌-◌, ◌^◌, Bool, true, false, min, max, nat_le, if◌then◌else◌, List, [], ◌∷◌, Option, Some, None}
+use Rattle.std.specs.Prelude.{ℕ, ◌+◌, ◌-◌, ◌^◌, Bool, true, false, min, max, nat_le, List, [], ◌∷◌, Option, Some, None}
 use Rattle.world.specs.declared.wakes.Event.{Event}
 use Rattle.world.specs.declared.wakes.Event.TheVariants.{Stop, End}
 use Rattle.world.specs.declared.wakes.Wake.{Wake}

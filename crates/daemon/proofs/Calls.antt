@@ -1,5 +1,5 @@
 -- The calls of a host turn, as the code has them and as the definitions have them.
-use Rattle.std.proofs.Common.{ℕ, ◌≡◌, ◌+◌, Bool, true, false, cond, List, [], ◌∷◌, ◌++◌, length, Option, Some, None, refl, sym, ap, subst, ◌∙◌, arith}
+use Rattle.std.proofs.Common.{◌≡◌, Bool, true, false, cond, List, [], ◌∷◌, ◌++◌, length, Option, Some, None, refl, sym, ap, subst, ◌∙◌, arith}
 use Rattle.std.specs.Prelude.{map, reverse, filter}
 use Rattle.std.specs.List.{list_all, AllByRecursion}
 use Rattle.std.proofs.lemmas.List.{length-map}
@@ -14,8 +14,7 @@ use Rattle.daemon.specs.declared.host_changes.HostChange.{HostChange}
 use Rattle.daemon.specs.declared.host_changes.HostChange.TheVariants as rust
 use Rattle.daemon.specs.declared.host_changes.Made.{Made}
 use Rattle.daemon.specs.declared.host_turns.Listing.{Listing}
-use Rattle.daemon.specs.declared.host_turns.HostTurn.{HostTurn}
-use Rattle.daemon.specs.HostTurns.{change_of, made_call, made_outcomes, known_with, known_through, FitsChange, IsHostTurn, listing_call, listing_rows, calls_of, met_of}
+use Rattle.daemon.specs.HostTurns.{change_of, made_call, made_outcomes, known_through, FitsChange, listing_call, listing_rows}
 
 -- ---- only rows are added
 
@@ -53,7 +52,7 @@ all_fit (change ∷ made) fit = (one_fits change fit.0, all_fit made fit.1)
 pub changes_fit : (known wanted : List HostRow) (made : List HostChange) → map change_of made ≡ changes known wanted → AllByRecursion IsRow wanted → AllByRecursion FitsChange made
 changes_fit known wanted made same fit =
     all_fit made (subst (λ (cs : List Change). AllByRecursion FitsModel cs) (sym same)
-      (removes_fit (reverse (rows_beyond wanted known)) (map model.Add (rows_beyond known wanted)) (adds_fit (rows_beyond known wanted) (filter_fit _ wanted fit))))
+    (removes_fit (reverse (rows_beyond wanted known)) (map model.Add (rows_beyond known wanted)) (adds_fit (rows_beyond known wanted) (filter_fit _ wanted fit))))
 
 -- ---- the calls
 
@@ -105,5 +104,5 @@ module _ (managed : List Managed) (known : Option (List HostRow)) (wanted before
       ∙ ap (λ (xs : List Change). cond (list_all (λ done. done) (made_outcomes made)) (Some (after_changes xs before)) None) (sym from_learnt)
       ∙ known_by
     where
-    known_by : cond (list_all (λ done. done) (made_outcomes made)) (Some (after_changes (changes_from (learnt managed known (listing_rows listing)) wanted) before)) None ≡ known_from (learnt managed known (listing_rows listing)) wanted (made_outcomes made)
-    known_by = rw (← learnt_is) refl
+      known_by : cond (list_all (λ done. done) (made_outcomes made)) (Some (after_changes (changes_from (learnt managed known (listing_rows listing)) wanted) before)) None ≡ known_from (learnt managed known (listing_rows listing)) wanted (made_outcomes made)
+      known_by = rw (← learnt_is) refl

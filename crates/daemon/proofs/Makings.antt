@@ -1,7 +1,7 @@
 -- Changes made one after another.
-use Rattle.std.proofs.Common.{ℕ, suc, ◌≡◌, ◌+◌, ◌<◌, Bool, true, false, cond, List, [], ◌∷◌, ◌++◌, length, get_or, take, Option, Some, None, refl, sym, ap, subst, ◌∙◌, append_assoc, arith}
+use Rattle.std.proofs.Common.{ℕ, ◌≡◌, ◌+◌, ◌<◌, Bool, List, [], ◌∷◌, ◌++◌, length, get_or, take, Option, Some, None, refl, sym, ap, subst, ◌∙◌, arith}
 use Rattle.std.specs.Prelude.{map, not}
-use Rattle.std.proofs.lemmas.List.{take_more, map-append, length-map, length-take}
+use Rattle.std.proofs.lemmas.List.{take_more, map-append, length-map}
 use Rattle.world.specs.declared.rows.HostRow.{HostRow}
 use Rattle.world.specs.HostCalls.{HostTold}
 use Rattle.client_model.specs.HostTurn.{Change}
@@ -74,9 +74,9 @@ made_more changes i d known made new done now next lt so_far new_is next_is =
     record {
       made_are = ap (λ (ms : List Made). map (λ (m : Made). m.change) ms) new_is ∙ map-append (λ (m : Made). m.change) made (one ∷ []) ∙ ap (λ (cs : List HostChange). cs ++ get_or changes i d ∷ []) so_far.made_are ∙ sym (take_more changes i d lt);
       known_is = next_is ∙ ap (known_with done (change_of (get_or changes i d))) so_far.known_is
-        ∙ sym (known_through-append (made_outcomes made) (map change_of (take i changes)) done (change_of (get_or changes i d)) (Some known) (same_length made changes i so_far.made_are))
-        ∙ ap (λ (os : List Bool). known_through os (map change_of (take i changes) ++ change_of (get_or changes i d) ∷ []) (Some known)) (sym (ap made_outcomes new_is ∙ outcomes_more made one))
-        ∙ ap (λ (cs : List Change). known_through (made_outcomes new) cs (Some known)) (sym (taken_more changes i d lt));
+          ∙ sym (known_through-append (made_outcomes made) (map change_of (take i changes)) done (change_of (get_or changes i d)) (Some known) (same_length made changes i so_far.made_are))
+          ∙ ap (λ (os : List Bool). known_through os (map change_of (take i changes) ++ change_of (get_or changes i d) ∷ []) (Some known)) (sym (ap made_outcomes new_is ∙ outcomes_more made one))
+          ∙ ap (λ (cs : List Change). known_through (made_outcomes new) cs (Some known)) (sym (taken_more changes i d lt));
     }
 
 pub told_more : (failing here : Option (List ℕ)) (changes : List HostChange) (i : ℕ) (d : HostChange) (old : Option HostTold) (made new : List Made) (done : Bool) (mid next : Option HostTold)

@@ -1,5 +1,5 @@
 -- One wake of a life.
-use Rattle.std.proofs.Common.{ℕ, ◌≡◌, ◌≢◌, ◌+◌, ◌<◌, ◌≤◌, Bool, true, false, cond, ◌||◌, List, [], ◌∷◌, ◌++◌, length, take, Option, Some, None, Result, Ok, refl, sym, ap, subst, ◌∙◌, append_assoc, append-nil, arith}
+use Rattle.std.proofs.Common.{ℕ, ◌≡◌, Bool, true, false, cond, ◌||◌, List, [], ◌∷◌, ◌++◌, length, take, Option, Some, None, Result, Ok, refl, sym, ap, subst, ◌∙◌, append-nil, arith}
 use Rattle.world.specs.declared.faults.DeviceAnswer.{DeviceAnswer}
 use Rattle.world.specs.declared.wakes.Wake.{Wake}
 use Rattle.world.specs.declared.wakes.Event.{Event}
@@ -10,9 +10,9 @@ use Rattle.client_model.specs.declared.interfaces.Managed.{Managed}
 use Rattle.client_model.specs.Interfaces.{stepped, rows_of}
 use Rattle.client_model.specs.HostTurn.{HostMet}
 use Rattle.client_model.specs.Turns.{Life, Met, turned, is_over, is_end}
-use Rattle.client_model.specs.Lives.{turn_lines, turns_lines}
+use Rattle.client_model.specs.Lives.{turn_lines}
 use Rattle.client_model.specs.Lines.{Line, lines_text}
-use Rattle.client_model.specs.ToldDevices.{HostStep, told_host, told_host_for, told_turn, told_turns, Determined}
+use Rattle.client_model.specs.ToldDevices.{told_host, told_host_for, told_turn, told_turns, Determined}
 use Rattle.daemon.specs.Printing.{Prints}
 use Rattle.daemon.specs.TurnsMade.{met_with, MakesTurn}
 use Rattle.daemon.specs.Serving.{WritesLines, IsRest, AreForetold, AreWhole, Passes, Goes, Ends}
@@ -52,7 +52,6 @@ over_is_empty managed failing life host (given ∷ coming) over = rw over refl
 module _ (managed : List Managed) (failing : List ℕ) (from : Life) (host : HostTold) (wake : Wake) (bytes : List ℕ) (met : HostMet) (host_to : Option HostTold)
     (going : is_over from ≡ false) (more : is_end wake.event ≡ false)
     (told : Determined (told_host_for managed from.known (rows_of (stepped wake.event from.client))) (Some failing) (Some host) met host_to) where
-
   after_told : HostTold
   after_told = (told_host managed failing from.known (rows_of (stepped wake.event from.client)) host).told
 
@@ -61,14 +60,14 @@ module _ (managed : List Managed) (failing : List ℕ) (from : Life) (host : Hos
   unfolding after_told
   rest_of given coming wake_is bytes_are =
       let same : (told_turn managed failing from host given).answer ≡ met_with wake bytes met =
-        ap (λ (w : Wake). met_with w (take (frame_len w.event) given.bytes) (told_host managed failing from.known (rows_of (stepped w.event from.client)) host).answer) (sym wake_is)
-        ∙ ap (λ (b : List ℕ). met_with wake b (told_host managed failing from.known (rows_of (stepped wake.event from.client)) host).answer) (sym bytes_are)
-        ∙ ap (λ (m : HostMet). met_with wake bytes m) (sym told.0) in
+      ap (λ (w : Wake). met_with w (take (frame_len w.event) given.bytes) (told_host managed failing from.known (rows_of (stepped w.event from.client)) host).answer) (sym wake_is)
+      ∙ ap (λ (b : List ℕ). met_with wake b (told_host managed failing from.known (rows_of (stepped wake.event from.client)) host).answer) (sym bytes_are)
+      ∙ ap (λ (m : HostMet). met_with wake bytes m) (sym told.0) in
       let same_told : (told_turn managed failing from host given).told ≡ (told_host managed failing from.known (rows_of (stepped wake.event from.client)) host).told =
-        ap (λ (w : Wake). (told_host managed failing from.known (rows_of (stepped w.event from.client)) host).told) (sym wake_is) in
+      ap (λ (w : Wake). (told_host managed failing from.known (rows_of (stepped w.event from.client)) host).told) (sym wake_is) in
       let not_end : is_end given.wake.event ≡ false = sym (is_end-cut given.wake.event (length given.bytes) 2048) ∙ ap (λ (w : Wake). is_end w.event) (sym wake_is) ∙ more in
       ap (λ (b : Bool). cond b [] ((told_turn managed failing from host given).answer ∷ told_turns managed failing (turned managed from (told_turn managed failing from host given).answer) (told_turn managed failing from host given).told coming))
-        (or_false (is_over from) (is_end given.wake.event) going not_end)
+      (or_false (is_over from) (is_end given.wake.event) going not_end)
       ∙ ap (λ (m : Met). m ∷ told_turns managed failing (turned managed from m) (told_turn managed failing from host given).told coming) same
       ∙ ap (λ (h : HostTold). met_with wake bytes met ∷ told_turns managed failing (turned managed from (met_with wake bytes met)) h coming) same_told
 
@@ -81,9 +80,9 @@ module _ (managed : List Managed) (failing : List ℕ) (from : Life) (host : Hos
       let wake_is : wake ≡ cut_wake given 2048 = comes.0 ∙ ap (cut_wake given) room in
       let link_after : LinkTold = waited until (Some (record { wake = wake; bytes = take (frame_len wake.event) given.bytes })) coming link in
       let base : IsRest managed failing (told_turns managed failing from host (given ∷ coming)) (length (given ∷ coming)) (met_with wake bytes met ∷ []) (turned managed from (met_with wake bytes met)) (Some after_told) (Some link_after) =
-        (rest_of given coming wake_is (bytes_are ∙ comes.1), omega arith) in
+      (rest_of given coming wake_is (bytes_are ∙ comes.1), omega arith) in
       subst (λ (l : Option LinkTold). IsRest managed failing (told_turns managed failing from host (given ∷ coming)) (length (given ∷ coming)) (met_with wake bytes met ∷ []) (turned managed from (met_with wake bytes met)) host_to l) (sym comes.2)
-        (subst (λ (h : Option HostTold). IsRest managed failing (told_turns managed failing from host (given ∷ coming)) (length (given ∷ coming)) (met_with wake bytes met ∷ []) (turned managed from (met_with wake bytes met)) h (Some link_after)) (sym told.1) base)
+      (subst (λ (h : Option HostTold). IsRest managed failing (told_turns managed failing from host (given ∷ coming)) (length (given ∷ coming)) (met_with wake bytes met ∷ []) (turned managed from (met_with wake bytes met)) h (Some link_after)) (sym told.1) base)
 
 pub turn_foretold : (managed : List Managed) (failing : Option (List ℕ)) (from : Life) (host : Option HostTold) (wake : Wake) (bytes : List ℕ) (met : HostMet) (host_to : Option HostTold) (until : Option ℕ) (link link_to : Option LinkTold) (buffer : List ℕ)
     → is_over from ≡ false → is_end wake.event ≡ false
@@ -113,7 +112,7 @@ ended_comes managed failing from host wake until link [] link_to buffer end come
 ended_comes managed failing from host wake until link (given ∷ coming) link_to buffer end comes =
     let is : is_end given.wake.event ≡ true = sym (is_end-cut given.wake.event (length given.bytes) (length buffer)) ∙ ap (λ (w : Wake). is_end w.event) (sym comes.0) ∙ end in
     ap (λ (b : Bool). cond b [] ((told_turn managed failing from host given).answer ∷ told_turns managed failing (turned managed from (told_turn managed failing from host given).answer) (told_turn managed failing from host given).told coming))
-      (or_true (is_over from) (is_end given.wake.event) is)
+    (or_true (is_over from) (is_end given.wake.event) is)
 
 pub ended_whole : (managed : List Managed) (failing : Option (List ℕ)) (from : Life) (host : Option HostTold) (wake : Wake) (until : Option ℕ) (link link_to : Option LinkTold) (buffer : List ℕ)
     → is_end wake.event ≡ true → Waits until link link_to buffer (woke wake) → AreWhole managed failing from host link []
@@ -143,7 +142,7 @@ pub one_goes : (managed : List Managed) (failing : Option (List ℕ)) (from to :
 one_goes managed failing from to host host_to link link_to out out_to wake bytes text_old text bytes_written until buffer made empty same written going more room bytes_are waits = record {
   passes = turn_passes managed from to wake bytes failing host host_to text_old text out out_to made empty (subst (λ (t : List ℕ). WritesBytes out out_to t) same written);
   foretold = subst (λ (life : Life). AreForetold managed failing from host link (met_with wake bytes made.host ∷ []) life host_to link_to) (sym made.after)
-    (turn_foretold managed failing from host wake bytes made.host host_to until link link_to buffer going more made.told room bytes_are waits);
+      (turn_foretold managed failing from host wake bytes made.host host_to until link link_to buffer going more made.told room bytes_are waits);
 }
 
 pub one_ends : (managed : List Managed) (failing : Option (List ℕ)) (from to : Life) (host host_to : Option HostTold) (link link_to : Option LinkTold) (out out_to : Option (List ℕ)) (mets : List Met)

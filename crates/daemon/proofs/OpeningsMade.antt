@@ -1,5 +1,5 @@
 -- What an opening printed and did.
-use Rattle.std.proofs.Common.{ℕ, ◌≡◌, Bool, List, [], ◌∷◌, ◌++◌, length, Option, Some, None, refl, sym, ap, subst, ◌∙◌, append-nil}
+use Rattle.std.proofs.Common.{ℕ, ◌≡◌, Bool, List, [], ◌∷◌, ◌++◌, Option, Some, None, refl, sym, ap, subst, ◌∙◌}
 use Rattle.std.specs.Prelude.{map, codes, String}
 use Rattle.std.specs.Global.{Global}
 use Rattle.std.specs.String.{string_bytes}
@@ -10,15 +10,15 @@ use Rattle.world.specs.StoreCalls.{Reading}
 use Rattle.client_model.specs.declared.interfaces.Managed.{Managed}
 use Rattle.client_model.specs.Interfaces.{Client, opening, rows_of}
 use Rattle.client_model.specs.HostTurn.{HostMet, AnswersAll, host_calls, known_after}
-use Rattle.client_model.specs.Opening.{Aside, OpeningMet, SettlesIfAny, Opens, opened_client, opened_life}
-use Rattle.client_model.specs.Turns.{Life, capped, until}
+use Rattle.client_model.specs.Opening.{Aside, OpeningMet, SettlesIfAny, Opens, opened_life}
+use Rattle.client_model.specs.Turns.{capped, until}
 use Rattle.client_model.specs.Lives.{removal_line, settle_lines, aside_lines, host_lines, opening_lines}
 use Rattle.client_model.specs.Lines.{Line}
 use Rattle.client_model.specs.Lines as lines
 use Rattle.client_model.specs.ToldDevices.{Determined, told_host_for}
 use Rattle.lease_file.specs.declared.clearing.Cleared.{Cleared}
 use Rattle.daemon.specs.declared.host_turns.HostTurn.{HostTurn}
-use Rattle.daemon.specs.HostTurns.{calls_of, met_of, IsHostTurn}
+use Rattle.daemon.specs.HostTurns.{calls_of, met_of}
 use Rattle.daemon.specs.Printing.{Prints}
 use Rattle.daemon.specs.Openings.{aside_of}
 use Rattle.daemon.proofs.Printings.{prints_then, prints_same}
@@ -33,17 +33,16 @@ pub clearing_prints : (names slice : List (String Global)) (removed one two : Li
     → Prints t w (aside_lines (Some (map aside_of removed)) settled)
 clearing_prints names slice removed one two settled t u v w same names_are one_is two_is p q r =
     let told : map string_bytes slice ≡ map (λ (a : Aside). a.name) (map aside_of removed) =
-      ap (map string_bytes) same ∙ names_are ∙ ap (map (λ (c : Cleared). string_bytes c.name)) one_is ∙ sym (names_again removed) in
+    ap (map string_bytes) same ∙ names_are ∙ ap (map (λ (c : Cleared). string_bytes c.name)) one_is ∙ sym (names_again removed) in
     prints_same (prints_then p (prints_then q r))
-      (ap (λ (ns : List (List ℕ)). lines.Asides ns ∷ (map removal_line (map aside_of two) ++ settle_lines settled)) told
-      ∙ ap (λ (cs : List Cleared). lines.Asides (map (λ (a : Aside). a.name) (map aside_of removed)) ∷ (map removal_line (map aside_of cs) ++ settle_lines settled)) two_is)
+    (ap (λ (ns : List (List ℕ)). lines.Asides ns ∷ (map removal_line (map aside_of two) ++ settle_lines settled)) told
+    ∙ ap (λ (cs : List Cleared). lines.Asides (map (λ (a : Aside). a.name) (map aside_of removed)) ∷ (map removal_line (map aside_of cs) ++ settle_lines settled)) two_is)
 
 abbrev pub opening_met : Begin → Option (List Aside) → Option Bool → Reading → HostMet → OpeningMet
 opening_met begin asides settled reading host = record { begin = begin; asides = asides; settled = settled; readings = reading ∷ []; host = host }
 
 module _ (managed : List Managed) (begin : Begin) (asides : Option (List Aside)) (settled : Option Bool) (reading : Reading) (asked : HostTurn)
     (core : Client) (wanted : List HostRow) (core_is : core ≡ opening managed begin.up) (wanted_is : wanted ≡ rows_of core) where
-
   wanted_here : wanted ≡ rows_of (opening managed begin.up)
   wanted_here = wanted_is ∙ ap rows_of core_is
 
@@ -72,5 +71,5 @@ module _ (managed : List Managed) (begin : Begin) (asides : Option (List Aside))
   opening_prints t u v w x y moment p q r s calls z moment_is =
       let calls_here : calls_of asked ≡ host_calls managed None (rows_of (opening managed begin.up)) (met_of asked) = calls ∙ ap (λ (k : List HostRow). host_calls managed None k (met_of asked)) wanted_here in
       prints_same (prints_then p (prints_then q (prints_then r (prints_then s z))))
-        (ap (λ (cs : List HostCall). lines.Start begin ∷ (aside_lines asides settled ++ (lines.Read (codes "resolv.conf") reading ∷ (host_lines cs ++ lines.Until moment ∷ [])))) calls_here
-        ∙ ap (λ (m : Option ℕ). lines.Start begin ∷ (aside_lines asides settled ++ (lines.Read (codes "resolv.conf") reading ∷ (host_lines (host_calls managed None (rows_of (opening managed begin.up)) (met_of asked)) ++ lines.Until m ∷ [])))) moment_is)
+      (ap (λ (cs : List HostCall). lines.Start begin ∷ (aside_lines asides settled ++ (lines.Read (codes "resolv.conf") reading ∷ (host_lines cs ++ lines.Until moment ∷ [])))) calls_here
+      ∙ ap (λ (m : Option ℕ). lines.Start begin ∷ (aside_lines asides settled ++ (lines.Read (codes "resolv.conf") reading ∷ (host_lines (host_calls managed None (rows_of (opening managed begin.up)) (met_of asked)) ++ lines.Until m ∷ [])))) moment_is)

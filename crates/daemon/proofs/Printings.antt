@@ -1,6 +1,6 @@
 -- Lines printed one after another.
-use Rattle.std.proofs.Common.{ℕ, ◌≡◌, ◌+◌, ◌<◌, List, [], ◌∷◌, ◌++◌, length, get_or, take, Option, Some, None, refl, sym, ap, subst, ◌∙◌, append_assoc, append-nil}
-use Rattle.std.specs.Prelude.{map, flat_map}
+use Rattle.std.proofs.Common.{ℕ, ◌≡◌, ◌+◌, ◌<◌, List, [], ◌∷◌, ◌++◌, length, get_or, take, refl, sym, ap, subst, ◌∙◌, append_assoc, append-nil}
+use Rattle.std.specs.Prelude.{map}
 use Rattle.std.proofs.lemmas.List.{take_more, map-append}
 use Rattle.std.proofs.lemmas.List.Concat.{flat_map-append}
 use Rattle.world.specs.declared.rows.HostRow.{HostRow}
@@ -38,9 +38,9 @@ rows_more rows i d t u v lt p q = prints_same (prints_then p q) (sym (map-append
 pub made_more_lines : (made : List Made) (i : ℕ) (d : Made) (t u v : List ℕ) → i < length made → Prints t u (host_lines (map made_call (take i made))) → Prints u v (call_lines (made_call (get_or made i d))) → Prints t v (host_lines (map made_call (take (i + 1) made)))
 made_more_lines made i d t u v lt p q =
     prints_same (prints_then p q)
-      (ap (λ (ls : List Line). host_lines (map made_call (take i made)) ++ ls) (sym (append-nil (call_lines (made_call (get_or made i d)))))
-      ∙ sym (flat_map-append call_lines (map made_call (take i made)) (made_call (get_or made i d) ∷ []))
-      ∙ ap host_lines (sym (map-append made_call (take i made) (get_or made i d ∷ [])) ∙ ap (λ (ms : List Made). map made_call ms) (sym (take_more made i d lt))))
+    (ap (λ (ls : List Line). host_lines (map made_call (take i made)) ++ ls) (sym (append-nil (call_lines (made_call (get_or made i d)))))
+    ∙ sym (flat_map-append call_lines (map made_call (take i made)) (made_call (get_or made i d) ∷ []))
+    ∙ ap host_lines (sym (map-append made_call (take i made) (get_or made i d ∷ [])) ∙ ap (λ (ms : List Made). map made_call ms) (sym (take_more made i d lt))))
 
 pub host_lines-append : (a b : List HostCall) → host_lines (a ++ b) ≡ host_lines a ++ host_lines b
 host_lines-append a b = flat_map-append call_lines a b
@@ -49,8 +49,8 @@ host_lines-append a b = flat_map-append call_lines a b
 pub removals_more : (removed : List Cleared) (i : ℕ) (d : Cleared) (t u v : List ℕ) → i < length removed → Prints t u (map removal_line (map aside_of (take i removed))) → Prints u v (removal_line (aside_of (get_or removed i d)) ∷ []) → Prints t v (map removal_line (map aside_of (take (i + 1) removed)))
 removals_more removed i d t u v lt p q =
     prints_same (prints_then p q)
-      (sym (map-append removal_line (map aside_of (take i removed)) (aside_of (get_or removed i d) ∷ []))
-      ∙ ap (map removal_line) (sym (map-append aside_of (take i removed) (get_or removed i d ∷ [])) ∙ ap (map aside_of) (sym (take_more removed i d lt))))
+    (sym (map-append removal_line (map aside_of (take i removed)) (aside_of (get_or removed i d) ∷ []))
+    ∙ ap (map removal_line) (sym (map-append aside_of (take i removed) (get_or removed i d ∷ [])) ∙ ap (map aside_of) (sym (take_more removed i d lt))))
 
 hold_lines-append : (a b : List HostRow) → hold_lines (a ++ b) ≡ hold_lines a ++ hold_lines b
 hold_lines-append [] b = refl

@@ -1,11 +1,11 @@
 -- Stretches of turns, one after another.
-use Rattle.std.proofs.Common.{ℕ, ◌≡◌, ◌+◌, ◌<◌, ◌≤◌, Bool, true, false, List, [], ◌∷◌, ◌++◌, length, take, Option, Some, None, refl, sym, ap, subst, ◌∙◌, append_assoc, append-nil, arith}
+use Rattle.std.proofs.Common.{ℕ, ◌≡◌, List, [], ◌∷◌, ◌++◌, length, Option, Some, None, refl, sym, ap, subst, ◌∙◌, append_assoc, append-nil, arith}
 use Rattle.std.proofs.lemmas.List.{length-append}
 use Rattle.std.proofs.lemmas.List.Concat.{flat_map-append}
 use Rattle.world.specs.HostCalls.{HostTold}
-use Rattle.world.specs.LinkCalls.{LinkTold, Given}
+use Rattle.world.specs.LinkCalls.{LinkTold}
 use Rattle.client_model.specs.declared.interfaces.Managed.{Managed}
-use Rattle.client_model.specs.Turns.{Life, Met, life_after, turned, is_over}
+use Rattle.client_model.specs.Turns.{Life, Met, life_after, turned}
 use Rattle.client_model.specs.Lives.{AllAnswered, turn_lines, turns_lines}
 use Rattle.client_model.specs.Lines.{Line, line_text, lines_text}
 use Rattle.client_model.specs.ToldDevices.{told_turns}
@@ -31,8 +31,8 @@ lines_then (Some w) mid new a b p q =
     let at_mid : WritesLines (Some (w ++ lines_text a)) new b = subst (λ (m : Option (List ℕ)). WritesLines m new b) p q in
     at_mid ∙ ap Some' (append_assoc w (lines_text a) (lines_text b) ∙ ap (λ (x : List ℕ). w ++ x) (sym (flat_map-append line_text a b)))
   where
-  Some' : List ℕ → Option (List ℕ)
-  Some' x = Some x
+    Some' : List ℕ → Option (List ℕ)
+    Some' x = Some x
 
 pub lines_none : (old : Option (List ℕ)) → WritesLines old old []
 lines_none None = refl
@@ -45,9 +45,10 @@ rest_then managed failing foretold count a b mid to None host_to link_mid link_t
 rest_then managed failing foretold count a b mid to (Some h) host_to None link_to p q = absurd p
 rest_then managed failing foretold count a b mid to (Some h) None (Some l) link_to p q = absurd q
 rest_then managed failing foretold count a b mid to (Some h) (Some h') (Some l) None p q = absurd q
-rest_then managed failing foretold count a b mid to (Some h) (Some h') (Some l) (Some l') p q =
-    (p.0 ∙ ap (λ (ms : List Met). a ++ ms) q.0 ∙ sym (append_assoc a b (told_turns managed failing to h' l'.coming)),
-     omega (arith, p.1, q.1, length-append a b))
+rest_then managed failing foretold count a b mid to (Some h) (Some h') (Some l) (Some l') p q = (
+  p.0 ∙ ap (λ (ms : List Met). a ++ ms) q.0 ∙ sym (append_assoc a b (told_turns managed failing to h' l'.coming)),
+  omega (arith, p.1, q.1, length-append a b),
+)
 
 foretold_then : (managed : List Managed) (failing : Option (List ℕ)) (a b : List Met) (from mid to : Life) (host host_mid host_to : Option HostTold) (link link_mid link_to : Option LinkTold)
     → AreForetold managed failing from host link a mid host_mid link_mid → AreForetold managed failing mid host_mid link_mid b to host_to link_to
@@ -64,7 +65,7 @@ passes_then managed from mid to out out_mid out_to a b p q = record {
   after = q.after ∙ ap (λ (life : Life). life_after managed life b) p.after ∙ sym (life_after-append managed from a b);
   answers = answered-append managed from a b p.answers (subst (λ (life : Life). AllAnswered managed life b) p.after q.answers);
   written = subst (λ (ls : List Line). WritesLines out out_to ls) (sym (turns_lines-append managed from a b))
-    (lines_then out out_mid out_to (turns_lines managed from a) (turns_lines managed (life_after managed from a) b) p.written
+      (lines_then out out_mid out_to (turns_lines managed from a) (turns_lines managed (life_after managed from a) b) p.written
       (subst (λ (life : Life). WritesLines out_mid out_to (turns_lines managed life b)) p.after q.written));
 }
 

@@ -25,7 +25,7 @@ pub takes_more : (managed : List Managed) (failing here : Option (List ℕ)) (fr
 takes_more managed failing here from mid to host host_mid host_to link link_mid link_to out out_mid out_to count same p q = record {
   mets = p.mets ++ q.met ∷ [];
   goes = goes_then managed failing from mid to host host_mid host_to link link_mid link_to out out_mid out_to p.mets (q.met ∷ []) p.goes
-    (subst (λ (f : Option (List ℕ)). Goes managed f mid host_mid link_mid out_mid to host_to link_to out_to (q.met ∷ [])) same q.goes);
+      (subst (λ (f : Option (List ℕ)). Goes managed f mid host_mid link_mid out_mid to host_to link_to out_to (q.met ∷ [])) same q.goes);
   counted = omega (arith, p.counted, length-append p.mets (q.met ∷ []));
 }
 
@@ -35,7 +35,7 @@ pub takes_last : (managed : List Managed) (failing here : Option (List ℕ)) (fr
 takes_last managed failing here from mid to host host_mid link link_mid out out_mid out_to count same p q = record {
   mets = p.mets ++ q.mets;
   ends = ends_then managed failing from mid to host host_mid link link_mid out out_mid out_to p.mets q.mets p.goes
-    (subst (λ (f : Option (List ℕ)). Ends managed f mid host_mid link_mid out_mid to out_to q.mets) same q.ends);
+      (subst (λ (f : Option (List ℕ)). Ends managed f mid host_mid link_mid out_mid to out_to q.mets) same q.ends);
 }
 
 rest_many : (managed : List Managed) (failing : List ℕ) (foretold : List Met) (many : ℕ) (mets : List Met) (to : Life) (host_to : Option HostTold) (link_to : Option LinkTold) (count : ℕ)

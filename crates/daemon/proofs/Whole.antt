@@ -1,22 +1,20 @@
 -- A whole life.
-use Rattle.std.proofs.Common.{ℕ, ◌≡◌, List, [], ◌∷◌, ◌++◌, Option, Some, None, Result, Ok, refl, sym, ap, subst, ◌∙◌}
+use Rattle.std.proofs.Common.{ℕ, ◌≡◌, List, [], ◌++◌, Option, Some, None, Result, Ok, ap, subst, ◌∙◌}
 use Rattle.net_types.specs.declared.fault.Failed.{Failed}
 use Rattle.world.specs.declared.wakes.Begin.{Begin}
 use Rattle.world.specs.HostCalls.{HostTold}
 use Rattle.world.specs.LinkCalls.{LinkTold, Begins}
-use Rattle.world.specs.StoreCalls.{StoreTold, Reading}
+use Rattle.world.specs.StoreCalls.{StoreTold}
 use Rattle.client_model.specs.declared.interfaces.Managed.{Managed}
 use Rattle.client_model.specs.Interfaces.{opening, rows_of}
-use Rattle.client_model.specs.HostTurn.{HostMet}
-use Rattle.client_model.specs.Opening.{OpeningMet, Aside, Opens, opened_client, opened_life}
+use Rattle.client_model.specs.Opening.{OpeningMet, opened_client, opened_life}
 use Rattle.client_model.specs.Turns.{Life, Met, life_after}
-use Rattle.client_model.specs.Lives.{AllAnswered, turns_lines, opening_lines, closing_lines, life_lines}
-use Rattle.client_model.specs.Lines.{Line, lines_text}
+use Rattle.client_model.specs.Lives.{AllAnswered, turns_lines, opening_lines, closing_lines}
+use Rattle.client_model.specs.Lines.{Line}
 use Rattle.client_model.specs.ToldDevices.{Determined, told_host, told_host_for, told_opening, told_turns}
-use Rattle.lease_file.specs.Quiet.{IsQuiet}
 use Rattle.daemon.specs.Printing.{Prints}
 use Rattle.daemon.specs.Openings.{FindsNothing, MakesOpening}
-use Rattle.daemon.specs.Serving.{WritesLines, AreWhole, Passes, Ends}
+use Rattle.daemon.specs.Serving.{WritesLines, AreWhole}
 use Rattle.daemon.specs.Waking.{WritesBytes, EndsThere}
 use Rattle.daemon.specs.Served.{OpensForetold, Served}
 use Rattle.daemon.proofs.Stretches.{lines_then}
@@ -38,12 +36,13 @@ both_told : (managed : List Managed) (failing : List ℕ) (here : Option (List �
 both_told managed failing here host host_mid link link_mid begin met mets life same begins nothing told starts after whole =
     let begin_is : met.begin ≡ link.begin = begins ∙ starts.0 in
     let told_here : host_mid ≡ Some (told_opening managed failing link.begin host).told =
-      told.1 ∙ ap (λ (b : Begin). Some (told_host managed failing None (rows_of (opening managed b.up)) host).told) begin_is in
-    (met_is managed failing host link.begin met begin_is nothing told.0,
-     subst (λ (l : Life). told_turns managed failing l (told_opening managed failing link.begin host).told link.coming ≡ mets) after
-       (subst (λ (h : Option HostTold). AreWhole managed (Some failing) life h (Some link) mets) told_here
-         (subst (λ (k : Option LinkTold). AreWhole managed (Some failing) life host_mid k mets) starts.1
-           (subst (λ (f : Option (List ℕ)). AreWhole managed f life host_mid link_mid mets) same whole))))
+    told.1 ∙ ap (λ (b : Begin). Some (told_host managed failing None (rows_of (opening managed b.up)) host).told) begin_is in (
+      met_is managed failing host link.begin met begin_is nothing told.0,
+      subst (λ (l : Life). told_turns managed failing l (told_opening managed failing link.begin host).told link.coming ≡ mets) after
+          (subst (λ (h : Option HostTold). AreWhole managed (Some failing) life h (Some link) mets) told_here
+          (subst (λ (k : Option LinkTold). AreWhole managed (Some failing) life host_mid k mets) starts.1
+          (subst (λ (f : Option (List ℕ)). AreWhole managed f life host_mid link_mid mets) same whole))),
+    )
 
 opens_foretold : (managed : List Managed) (failing here : Option (List ℕ)) (host host_mid : Option HostTold) (link link_mid : Option LinkTold) (begin : Begin) (met : OpeningMet) (mets : List Met) (life : Life)
     → here ≡ failing → met.begin ≡ begin → FindsNothing met
@@ -73,17 +72,17 @@ serves managed failing here host host_mid link link_mid store_failing store begi
     let mets : List Met = ends.mets in
     let last_is : last ≡ life_after managed (opened_life managed made.met) mets = ends.ends.passes.after ∙ ap (λ (l : Life). life_after managed l mets) life_is in
     let opening_is : WritesLines out out_one (opening_lines managed made.met) =
-      opening_written out out_one text (opening_lines managed made.met) (subst (λ (t : List ℕ). WritesBytes out out_one t) text_is wrote) (subst (λ (t : List ℕ). Prints t text (opening_lines managed made.met)) empty made.lines) in
+    opening_written out out_one text (opening_lines managed made.met) (subst (λ (t : List ℕ). WritesBytes out out_one t) text_is wrote) (subst (λ (t : List ℕ). Prints t text (opening_lines managed made.met)) empty made.lines) in
     let turns_are : WritesLines out_one out_two (turns_lines managed (opened_life managed made.met) mets) =
-      subst (λ (l : Life). WritesLines out_one out_two (turns_lines managed l mets)) life_is ends.ends.passes.written in
+    subst (λ (l : Life). WritesLines out_one out_two (turns_lines managed l mets)) life_is ends.ends.passes.written in
     let closing_is : WritesLines out_two out_three (closing_lines (life_after managed (opened_life managed made.met) mets)) =
-      subst (λ (l : Life). WritesLines out_two out_three (closing_lines l)) last_is closes in
+    subst (λ (l : Life). WritesLines out_two out_three (closing_lines l)) last_is closes in
     record {
       opening = made.met;
       mets = mets;
       opens = made.opens;
       answers = subst (λ (l : Life). AllAnswered managed l mets) life_is ends.ends.passes.answers;
       written = lines_then out out_one out_three (opening_lines managed made.met) (turns_lines managed (opened_life managed made.met) mets ++ closing_lines (life_after managed (opened_life managed made.met) mets)) opening_is
-        (lines_then out_one out_two out_three (turns_lines managed (opened_life managed made.met) mets) (closing_lines (life_after managed (opened_life managed made.met) mets)) turns_are closing_is);
+          (lines_then out_one out_two out_three (turns_lines managed (opened_life managed made.met) mets) (closing_lines (life_after managed (opened_life managed made.met) mets)) turns_are closing_is);
       foretold = λ quiet. opens_foretold managed failing here host host_mid link link_mid begin made.met mets life same made.begins (made.quiet quiet) made.told starts life_is ends.ends.whole;
     }

@@ -1,5 +1,5 @@
 -- A life as the code has it.
-use Rattle.std.specs.Prelude.{ℕ, ◌≡◌, ◌<◌, ◌^◌, ◌+◌, Bool, true, false, Option, Some, None}
+use Rattle.std.specs.Prelude.{ℕ, ◌<◌, ◌^◌, ◌+◌, Bool, true, false, Option, Some, None}
 use Rattle.client_model.specs.Turns as model
 use Rattle.daemon.specs.declared.lives.Life.{Life}
 use Rattle.daemon.specs.HostTurns.{keys_of}

@@ -1,12 +1,11 @@
 -- What an opening of the code did, told by the definitions.
-use Rattle.std.specs.Prelude.{ℕ, ◌≡◌, Bool, List, [], ◌∷◌, map, Option, Some, None}
+use Rattle.std.specs.Prelude.{ℕ, ◌≡◌, Bool, List, [], map, Option, Some, None}
 use Rattle.std.specs.String.{string_bytes}
 use Rattle.world.specs.declared.wakes.Begin.{Begin}
 use Rattle.world.specs.HostCalls.{HostTold}
-use Rattle.world.specs.StoreCalls.{StoreTold, Reading, Missing}
+use Rattle.world.specs.StoreCalls.{StoreTold, Missing}
 use Rattle.client_model.specs.declared.interfaces.Managed.{Managed}
 use Rattle.client_model.specs.Interfaces.{rows_of}
-use Rattle.client_model.specs.Opening as model
 use Rattle.client_model.specs.Opening.{Aside, OpeningMet, Opens, file_names, opened_client, opened_life}
 use Rattle.client_model.specs.Turns.{Life}
 use Rattle.client_model.specs.Lives.{opening_lines}

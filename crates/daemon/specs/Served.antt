@@ -1,13 +1,12 @@
 -- A whole life, from its opening to its end.
-use Rattle.std.specs.Prelude.{ℕ, ◌≡◌, Bool, List, [], ◌∷◌, Option, Some, None}
-use Rattle.world.specs.declared.wakes.Begin.{Begin}
+use Rattle.std.specs.Prelude.{ℕ, ◌≡◌, List, Option, Some, None}
 use Rattle.world.specs.HostCalls.{HostTold}
 use Rattle.world.specs.LinkCalls.{LinkTold}
 use Rattle.world.specs.StoreCalls.{StoreTold}
 use Rattle.client_model.specs.declared.interfaces.Managed.{Managed}
 use Rattle.client_model.specs.Opening.{OpeningMet, Opens, opened_life}
-use Rattle.client_model.specs.Turns.{Life, Met}
-use Rattle.client_model.specs.Lives.{AllAnswered, life_lines, opening_lines}
+use Rattle.client_model.specs.Turns.{Met}
+use Rattle.client_model.specs.Lives.{AllAnswered, life_lines}
 use Rattle.client_model.specs.ToldDevices.{told_opening, told_turns}
 use Rattle.lease_file.specs.Quiet.{IsQuiet}
 use Rattle.daemon.specs.Serving.{WritesLines}

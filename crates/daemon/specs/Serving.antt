@@ -1,9 +1,9 @@
 -- A stretch of turns, as the loop meets them.
-use Rattle.std.specs.Prelude.{ℕ, ◌≡◌, ◌<◌, ◌≤◌, ◌+◌, Bool, true, false, List, [], ◌∷◌, ◌++◌, length, Option, Some, None}
+use Rattle.std.specs.Prelude.{ℕ, ◌≡◌, ◌<◌, ◌≤◌, ◌+◌, List, ◌++◌, length, Option, Some, None}
 use Rattle.world.specs.HostCalls.{HostTold}
 use Rattle.world.specs.LinkCalls.{LinkTold}
 use Rattle.client_model.specs.declared.interfaces.Managed.{Managed}
-use Rattle.client_model.specs.Turns.{Life, Met, life_after, is_over}
+use Rattle.client_model.specs.Turns.{Life, Met, life_after}
 use Rattle.client_model.specs.Lives.{AllAnswered, turns_lines}
 use Rattle.client_model.specs.Lines.{Line, lines_text}
 use Rattle.client_model.specs.ToldDevices.{told_turns}

@@ -1,5 +1,5 @@
 -- What a turn of the code did, told by the definitions.
-use Rattle.std.specs.Prelude.{ℕ, ◌≡◌, List, [], ◌∷◌, ◌++◌, Option, Some, None}
+use Rattle.std.specs.Prelude.{ℕ, ◌≡◌, List, Option}
 use Rattle.world.specs.declared.wakes.Wake.{Wake}
 use Rattle.world.specs.HostCalls.{HostTold}
 use Rattle.client_model.specs.declared.interfaces.Managed.{Managed}

@@ -104,18 +104,11 @@ pub struct Making {
     pub known: Option<BTreeSet<HostRow>>,
 }
 
-fn note(
-    making: &mut Making,
-    change: HostChange,
-    done: bool,
-) -> Result<(), NoMemory>
+fn note(making: &mut Making, change: HostChange, done: bool) -> Result<(), NoMemory>
     ensures made { OnOk result (making.new.made.items ≡ making.old.made.items ++ (record { change = change; done = done }) ∷ []) }
     ensures known { OnOk result (keys_of making.new.known ≡ known_with done (change_of change) (keys_of making.old.known)) }
 {
-    making
-        .made
-        .push(Made { change, done })
-        ?;
+    making.made.push(Made { change, done })?;
     if !done {
         making.known = None;
     }

@@ -31,11 +31,7 @@ fn say_rows(rows: &[HostRow], text: &mut Vec<u8>) -> Result<(), NoMemory>
 }
 
 #[tactic(auto, using(crate::proofs::Printings::prints_then))]
-fn say_listed(
-    alloc: Global,
-    rows: &BTreeSet<HostRow>,
-    text: &mut Vec<u8>,
-) -> Result<(), NoMemory>
+fn say_listed(alloc: Global, rows: &BTreeSet<HostRow>, text: &mut Vec<u8>) -> Result<(), NoMemory>
     ensures { OnOk result (Prints text.old.items text.new.items (call_lines (calls.Listed (Some rows.now.keys)))) }
 {
     let all: Vec<HostRow> = rows.iter().copied().collect(alloc)?;
@@ -75,11 +71,7 @@ fn say_changes(made: &[Made], text: &mut Vec<u8>) -> Result<(), NoMemory>
 }
 
 /// Appends the lines of the host calls of a turn.
-pub fn say_host_turn(
-    alloc: Global,
-    turn: &HostTurn,
-    text: &mut Vec<u8>,
-) -> Result<(), NoMemory>
+pub fn say_host_turn(alloc: Global, turn: &HostTurn, text: &mut Vec<u8>) -> Result<(), NoMemory>
     ensures { OnOk result (Prints text.old.items text.new.items (host_lines (calls_of turn.now))) }
 {
     say_listing(alloc, &turn.listing, text)?;

@@ -42,10 +42,7 @@ fn ordered(alloc: Global, rows: &[HostRow]) -> Result<BTreeSet<HostRow>, AllocEr
 }
 
 /// Asks the host for its rows; `None` where that failed.
-fn list_rows<H: Host>(
-    alloc: Global,
-    host: &mut H,
-) -> Result<Option<BTreeSet<HostRow>>, NoMemory>
+fn list_rows<H: Host>(alloc: Global, host: &mut H) -> Result<Option<BTreeSet<HostRow>>, NoMemory>
     ensures later { H.faults host.old ≤ H.faults host.new }
     ensures failing { H.failing host.new ≡ H.failing host.old }
     ensures told { IfOk result (λ rows. Determined asked_listing (H.failing host.old) (H.told host.old) (keys_of rows) (H.told host.new)) }

@@ -77,11 +77,7 @@ fn say_settled(settled: Option<bool>, text: &mut Vec<u8>) -> Result<(), NoMemory
     }
 }
 
-fn say_clearing(
-    alloc: Global,
-    clearing: &Clearing,
-    text: &mut Vec<u8>,
-) -> Result<(), NoMemory>
+fn say_clearing(alloc: Global, clearing: &Clearing, text: &mut Vec<u8>) -> Result<(), NoMemory>
     ensures { OnOk result (Prints text.old.items text.new.items (aside_lines (Some (map aside_of clearing.now.removed.items)) clearing.now.settled)) }
 {
     let names = names_of(alloc, &clearing.removed)?;

@@ -19,5 +19,5 @@ returns-in_ok-making-in-Some-clause-turn g c =
 pub returns-in_ok-making-in-Some-clause-known : goal.returns-in_ok-making-in-Some-clause-known
 returns-in_ok-making-in-Some-clause-known g c =
     known_agrees c.args.managed.now (keys_of c.args.known) c.args.wanted.now.keys c.in-Some.known.keys c.in_ok-learnt.learnt.listing c.in_ok-making-in-Some.making.made.items _ c.in_ok-learnt.ensures.calls
-      (sym (ap keys_of c.in-Some.is) ∙ c.in_ok-learnt.ensures.known) (ap (map change_of) c.deref.ensures.value ∙ c.in_ok-changes-in-Some.ensures) c.in_ok-making-in-Some.ensures.made
-      _ c.in_ok-making-in-Some.ensures.known
+    (sym (ap keys_of c.in-Some.is) ∙ c.in_ok-learnt.ensures.known) (ap (map change_of) c.deref.ensures.value ∙ c.in_ok-changes-in-Some.ensures) c.in_ok-making-in-Some.ensures.made
+    _ c.in_ok-making-in-Some.ensures.known

@@ -1,6 +1,6 @@
-use Rattle.std.proofs.Common.{refl, arith, ◌∙◌, sym}
+use Rattle.std.proofs.Common.{refl, arith, ◌∙◌}
 use Rattle.daemon.specs.Lives.{life_of}
-use Rattle.daemon.proofs.Wakings.{takes_none, takes_more, takes_last, takes_many}
+use Rattle.daemon.proofs.Wakings.{takes_none, takes_more, takes_last}
 use Rattle.daemon.proofs.serving.take_turns.Goals as goal
 
 pub wakes-init : goal.wakes-init

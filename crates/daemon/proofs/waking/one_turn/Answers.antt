@@ -18,17 +18,20 @@ pub returns-then-is_over-clause-ok : goal.returns-then-is_over-clause-ok
 returns-then-is_over-clause-ok g c = record {
   mets = _;
   ends = one_ends c.args.managed.now (g.H.Host.failing c.args.live.now.host) (life_of c.args.life) (life_of c.in_ok-life.life) (g.H.Host.told c.args.live.now.host) (g.H.Host.told c.turn.new.host) (g.L.Link.told c.args.live.now.link) (g.L.Link.told c.wait.new.link) (g.O.Sink.written c.args.out.now) (g.O.Sink.written c.write_all.new.out) _
-    (sym c.is_over.ensures ∙ c.if-is_over.true)
-    (one_goes c.args.managed.now (g.H.Host.failing c.args.live.now.host) (life_of c.args.life) (life_of c.in_ok-life.life) (g.H.Host.told c.args.live.now.host) (g.H.Host.told c.turn.new.host) (g.L.Link.told c.args.live.now.link) (g.L.Link.told c.wait.new.link) (g.O.Sink.written c.args.out.now) (g.O.Sink.written c.write_all.new.out) c.in_ok-wake.wake c.front.result.now c.clear.new.self.items c.turn.new.text.items c.deref.result.now _ c.wait.new.buf
+      (sym c.is_over.ensures ∙ c.if-is_over.true)
+      (one_goes c.args.managed.now (g.H.Host.failing c.args.live.now.host) (life_of c.args.life) (life_of c.in_ok-life.life) (g.H.Host.told c.args.live.now.host) (g.H.Host.told c.turn.new.host) (g.L.Link.told c.args.live.now.link) (g.L.Link.told c.wait.new.link) (g.O.Sink.written c.args.out.now) (g.O.Sink.written c.write_all.new.out) c.in_ok-wake.wake c.front.result.now c.clear.new.self.items c.turn.new.text.items c.deref.result.now _ c.wait.new.buf
       c.in_ok-life.ensures.made c.clear.ensures.items c.deref.ensures.value c.in_ok-write_all.ensures.ok.1
       c.requires.going (sym c.ends_life.ensures ∙ c.if-ends_life.false) (c.wait.auto.buf ∙ c.requires.room) (c.front.ensures ∙ ap (λ n. take n c.wait.new.buf) c.frame_size-len.ensures) c.in_ok-wake.ensures.ok.2);
 }
 
 pub returns-clause-ok : goal.returns-clause-ok
-returns-clause-ok g c = (c.in_ok-life.ensures.timely, record {
-  met = met_with c.in_ok-wake.wake c.front.result.now c.in_ok-life.ensures.made.host;
-  goes = one_goes c.args.managed.now (g.H.Host.failing c.args.live.now.host) (life_of c.args.life) (life_of c.in_ok-life.life) (g.H.Host.told c.args.live.now.host) (g.H.Host.told c.turn.new.host) (g.L.Link.told c.args.live.now.link) (g.L.Link.told c.wait.new.link) (g.O.Sink.written c.args.out.now) (g.O.Sink.written c.write_all.new.out) c.in_ok-wake.wake c.front.result.now c.clear.new.self.items c.turn.new.text.items c.deref.result.now _ c.wait.new.buf
-      c.in_ok-life.ensures.made c.clear.ensures.items c.deref.ensures.value c.in_ok-write_all.ensures.ok.1
-      c.requires.going (sym c.ends_life.ensures ∙ c.if-ends_life.false) (c.wait.auto.buf ∙ c.requires.room) (c.front.ensures ∙ ap (λ n. take n c.wait.new.buf) c.frame_size-len.ensures) c.in_ok-wake.ensures.ok.2;
-  going = sym c.is_over.ensures ∙ c.if-is_over.false;
-})
+returns-clause-ok g c = (
+  c.in_ok-life.ensures.timely,
+  record {
+    met = met_with c.in_ok-wake.wake c.front.result.now c.in_ok-life.ensures.made.host;
+    goes = one_goes c.args.managed.now (g.H.Host.failing c.args.live.now.host) (life_of c.args.life) (life_of c.in_ok-life.life) (g.H.Host.told c.args.live.now.host) (g.H.Host.told c.turn.new.host) (g.L.Link.told c.args.live.now.link) (g.L.Link.told c.wait.new.link) (g.O.Sink.written c.args.out.now) (g.O.Sink.written c.write_all.new.out) c.in_ok-wake.wake c.front.result.now c.clear.new.self.items c.turn.new.text.items c.deref.result.now _ c.wait.new.buf
+        c.in_ok-life.ensures.made c.clear.ensures.items c.deref.ensures.value c.in_ok-write_all.ensures.ok.1
+        c.requires.going (sym c.ends_life.ensures ∙ c.if-ends_life.false) (c.wait.auto.buf ∙ c.requires.room) (c.front.ensures ∙ ap (λ n. take n c.wait.new.buf) c.frame_size-len.ensures) c.in_ok-wake.ensures.ok.2;
+    going = sym c.is_over.ensures ∙ c.if-is_over.false;
+  },
+)
