@@ -1,2 +1,3 @@
+pub mod WordChoice
 pub mod LineLaws
 pub mod ReadingLaws

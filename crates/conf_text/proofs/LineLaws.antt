@@ -8,10 +8,12 @@ use Rattle.net_types.specs.declared.address.Ip4.{Ip4}
 use Rattle.net_types.specs.declared.address.Net4.{Net4}
 use Rattle.net_types.specs.Reads.{Reads}
 use Rattle.net_types.specs.Marks.{Lacks}
-use Rattle.net_types.specs.Cutting.{strip_word, IsPart}
+use Rattle.net_types.specs.Cutting.{strip_word}
+use Rattle.conf_text.proofs.WordChoice.{IsPart, part_or_others}
 use Rattle.net_types.specs.AddressText.{ip4_text, net4_text, FitsIp4, FitsNet4}
 use Rattle.net_types.specs.NameText.{name_text, FitsName}
-use Rattle.net_types.proofs.ReadsLaws.{choice_reads, words_apart, some_same}
+use Rattle.net_types.proofs.ReadsLaws.{some_same}
+use Rattle.net_types.proofs.ChoiceLaws.{words_apart}
 use Rattle.net_types.proofs.AddressLaws.{ip4_reads, net4_reads}
 use Rattle.net_types.proofs.NameLaws.{name_reads, name_lacks}
 use Rattle.net_types.proofs.MarkLaws.{lacks-append, ip4_lacks, net4_lacks}
@@ -92,7 +94,7 @@ router_apart (Router ip) e = absurd (some_none e)
 
 router_reads : Reads conf_line_text FitsThird router_at
 unfolding router_at
-router_reads = choice_reads (codes "static routers=") (λ ip. Router ip) router_part ip4_reads no_script_reads router_is router_apart
+router_reads = part_or_others (codes "static routers=") (λ ip. Router ip) router_part ip4_reads no_script_reads router_is router_apart
 
 address_is : IsPart (codes "static ip_address=") (λ net. Address net) address_part net4_text FitsNet4 conf_line_text FitsSecond
 unfolding conf_line_text
@@ -113,7 +115,7 @@ address_apart (Router ip) e = words_apart (codes "static ip_address=") (codes "s
 
 address_reads : Reads conf_line_text FitsSecond address_at
 unfolding address_at
-address_reads = choice_reads (codes "static ip_address=") (λ net. Address net) address_part net4_reads router_reads address_is address_apart
+address_reads = part_or_others (codes "static ip_address=") (λ net. Address net) address_part net4_reads router_reads address_is address_apart
 
 interface_is : IsPart (codes "interface ") (λ name. Interface name) interface_part name_text FitsName conf_line_text FitsConfLine
 unfolding conf_line_text
@@ -134,7 +136,7 @@ interface_apart (Router ip) e = words_apart (codes "interface ") (codes "static 
 
 pub conf_line_reads : Reads conf_line_text FitsConfLine conf_line_at
 unfolding conf_line_at
-conf_line_reads = choice_reads (codes "interface ") (λ name. Interface name) interface_part name_reads address_reads interface_is interface_apart
+conf_line_reads = part_or_others (codes "interface ") (λ name. Interface name) interface_part name_reads address_reads interface_is interface_apart
 
 -- a line has no line feed
 pub conf_line_lacks : (line : ConfLine) → FitsConfLine line → Lacks 10 (conf_line_text line)
