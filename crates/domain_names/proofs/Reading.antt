@@ -5,7 +5,7 @@ use Rattle.std.specs.List.{flat_map, list_all}
 use Rattle.std.proofs.lemmas.Bool.{le-leb}
 use Rattle.std.proofs.lemmas.List.{append-nil, length-append}
 use Rattle.std.proofs.lemmas.List.Folds.{list_all-append}
-use Rattle.domain_names.specs.declared.compressed.Piece.TheVariants.{End, Label, Pointer, Bad}
+use Rattle.domain_names.specs.declared.compressed.Piece.TheVariants.{End, Label, Pointer}
 use Rattle.domain_names.specs.DomainName.{is_label, dotted, name_of}
 use Rattle.domain_names.specs.CompressedName.{piece_of, Spells, ends, goes_on, points, IsNameAt, NoNameAt}
 use Rattle.domain_names.specs.CompressedSteps.{with_label}

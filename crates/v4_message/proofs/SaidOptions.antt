@@ -1,20 +1,19 @@
 -- A message that is written holds exactly its options.
-use Rattle.std.proofs.Common.{◌≡◌, ◌≢◌, ℕ, zero, suc, ◌+◌, ◌-◌, ◌<◌, ◌≤◌, ◌^◌, Bool, true, false, cond, List, [], ◌∷◌, ◌++◌, length, map, take, drop, replicate, Option, Some, None, refl, sym, ap, subst, ◌∙◌, append_assoc, arith, eqb}
-use Rattle.std.specs.Prelude.{filter}
+use Rattle.std.proofs.Common.{◌≡◌, ℕ, ◌-◌, ◌<◌, false, List, [], ◌∷◌, ◌++◌, length, map, drop, replicate, Option, Some, None, refl, ap, ◌∙◌, append_assoc, arith, eqb}
 use Rattle.std.specs.List.{flat_map, AllByRecursion}
 use Rattle.std.specs.Int.{w32, to_be_bytes}
-use Rattle.std.proofs.lemmas.List.{append-nil, drop_at, length-append, length-replicate}
+use Rattle.std.proofs.lemmas.List.{append-nil, drop_at, length-append}
 use Rattle.net_types.specs.declared.address.Ip4.{Ip4}
-use Rattle.v4_options.specs.OptionArea.{Instance, instances_in, malformed_in}
+use Rattle.v4_options.specs.OptionArea.{Instance, instances_in}
 use Rattle.v4_options.specs.OptionValue.{pieces}
-use Rattle.v4_options.specs.Overload.{overload_in, first_overload}
-use Rattle.v4_options.specs.AreaGrammar.{Part, option, FitsPart, area_text, part_instances, IsArea}
+use Rattle.v4_options.specs.Overload.{overload_in}
+use Rattle.v4_options.specs.AreaGrammar.{option, FitsPart, part_instances, IsArea}
 use Rattle.v4_options.proofs.AreaLaws.{area_instances, area_whole}
 use Rattle.v4_message.specs.declared.writing.Kind4.{Kind4}
 use Rattle.v4_message.specs.declared.writing.Kind4.TheVariants.{Discover, Request, Decline, Release}
 use Rattle.v4_message.specs.declared.writing.Said4.{Said4}
 use Rattle.v4_message.specs.Message.{options_area, message_instances, malformed_place}
-use Rattle.v4_message.specs.Requests.{AskContent, AskFits, address_option, text_option, number_of_kind, asked_for, asked_for_in, said_options, option_part, options_text, exchange_fields, client_fields, fixed_fields, message_text, padded}
+use Rattle.v4_message.specs.Requests.{AskContent, AskFits, address_option, text_option, number_of_kind, asked_for, asked_for_in, said_options, option_part, options_text, fixed_fields, message_text, padded}
 
 -- an option that fits the grammar and isn't the overload
 abbrev IsPlain : Instance → Type 0

@@ -1,4 +1,3 @@
-use Rattle.std.proofs.Common.{◌≡◌, ◌+◌, length, refl, arith}
 use Rattle.v4_message.proofs.SaidOptions.{said_is_read, said_is_whole}
 use Rattle.v4_message.specs.Requests.{ask_content}
 use Rattle.v4_message.proofs.writing.write4.Goals as goal
