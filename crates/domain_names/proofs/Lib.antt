@@ -3,3 +3,4 @@ pub mod NameBytes
 pub mod Pieces
 pub mod Reading
 pub mod Names
+pub mod SearchNames

@@ -5,7 +5,7 @@ use Rattle.std.specs.List.{flat_map, list_all}
 use Rattle.std.proofs.lemmas.Bool.{le-leb}
 use Rattle.std.proofs.lemmas.List.{append-nil, length-append}
 use Rattle.std.proofs.lemmas.List.Folds.{list_all-append}
-use Rattle.domain_names.specs.declared.compressed.Piece.TheVariants.{End, Label, Pointer, Bad}
+use Rattle.domain_names.specs.declared.compressed.Piece.TheVariants.{End, Label, Pointer}
 use Rattle.domain_names.specs.DomainName.{is_label, dotted, name_of}
 use Rattle.domain_names.specs.CompressedName.{piece_of, Spells, ends, goes_on, points, IsNameAt, NoNameAt}
 use Rattle.domain_names.specs.CompressedSteps.{with_label}
@@ -108,18 +108,6 @@ module _ (value : List ℕ) (from start at : ℕ) (text : List ℕ) (after : Opt
         spelled = r.found [] (at + 1) (ends e);
         named = rw (append-nil r.done, le-leb 1 (length r.done) (some_label r.done (omega arith)), r.good, le-leb (length (dotted r.done)) 253 (omega (arith, r.short)), ← r.spelled) refl;
       }
-
-  pub refuses_bad : piece_of value start at ≡ Bad → NoNameAt value from
-  refuses_bad e all n is = let there = name_there all n is in spelled_by Bad e there.2
-
-  pub refuses_empty : piece_of value start at ≡ End → length text ≡ 0 → NoNameAt value from
-  refuses_empty e none all n is =
-      let there = name_there all n is in
-      let by = spelled_by End e there.2 in
-      let nothing : r.done ≡ [] = no_labels r.done r.good (ap (λ (t : List ℕ). length t) (sym r.spelled) ∙ none) in
-      let joined : r.done ++ there.0 ≡ [] = ap (λ (ls : List (List ℕ)). ls ++ there.0) nothing ∙ by.0 in
-      let named : None ≡ Some all = ap name_of (sym joined) ∙ there.3 in
-      absurd cc
 
   pub refuses_label : (n : ℕ) → piece_of value start at ≡ Label n → is_label (take n (drop (at + 1) value)) ≡ false → NoNameAt value from
   refuses_label n e bad all m is =

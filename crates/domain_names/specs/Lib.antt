@@ -3,3 +3,4 @@ pub mod NameText
 pub mod LabelSteps
 pub mod CompressedName
 pub mod CompressedSteps
+pub mod SearchList

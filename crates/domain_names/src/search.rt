@@ -1,9 +1,11 @@
 //! The search list: names one after another (RFC 3397).
 
 ghost use Rattle.std.specs.Prelude.{◌≡◌, ◌≢◌, ◌<◌, ◌≤◌, [], length, map, IfOk, IfSome, MatchOption};
+ghost use Rattle.std.specs.Option.{option_map};
 ghost use Rattle.std.specs.Str.{IsUtf8};
 ghost use Rattle.std.specs.String.{string_bytes};
 ghost use Rattle.domain_names.specs.CompressedName.{IsNameAt, NoNameAt, AreNames, NoNames};
+ghost use Rattle.domain_names.specs.SearchList.{search_in};
 
 use crate::compressed::read_name;
 use net_types::NoMemory;
@@ -51,7 +53,10 @@ fn read_names(alloc: Global, value: &[u8]) -> Result<Option<Vec<String>>, AllocE
 
 /// The names that are the value: option 119. None unless it is one compressed name or more, and nothing else.
 pub fn search_of(alloc: Global, value: &[u8]) -> Result<Option<Vec<String>>, NoMemory>
-    ensures { IfOk result (λ names. MatchOption names (NoNames value.now) (λ v. (v.items ≢ []) × AreNames value.now 0 (map (λ name. string_bytes name) v.items))) }
+    // What the grammar says.
+    ensures names { IfOk result (λ names. MatchOption names (NoNames value.now) (λ v. (v.items ≢ []) × AreNames value.now 0 (map (λ name. string_bytes name) v.items))) }
+    // The same as a function of the value.
+    ensures gives { IfOk result (λ names. option_map (λ v. map (λ name. string_bytes name) v.items) names ≡ search_in value.now) }
 {
     if value.is_empty() {
         return Ok(None);

@@ -9,12 +9,27 @@ use Rattle.v4_message.specs.declared.writing.Kind4.TheVariants.{Discover, Reques
 use Rattle.v4_message.specs.declared.writing.Ask4.{Ask4}
 use Rattle.v4_message.specs.declared.writing.Said4.{Said4}
 
--- each field of what a client says of itself fits an option
-pub record AskFits (ask : Ask4) : Type 0 where
-  pub client_id : length ask.client_id.items < 256
-  pub vendor : length ask.vendor.items < 256
-  pub host : length ask.host.items < 256
-  pub list : length ask.list.items < 256
+-- what a client says of itself, as the bytes of each field
+pub record AskContent : Type 0 where
+  pub client_id : List ℕ
+  pub vendor : List ℕ
+  pub host : List ℕ
+  pub list : List ℕ
+
+abbrev pub ask_content : Ask4 → AskContent
+ask_content ask = record {
+  client_id = ask.client_id.items;
+  vendor = ask.vendor.items;
+  host = ask.host.items;
+  list = ask.list.items;
+}
+
+-- each field fits an option
+pub record AskFits (ask : AskContent) : Type 0 where
+  pub client_id : length ask.client_id < 256
+  pub vendor : length ask.vendor < 256
+  pub host : length ask.host < 256
+  pub list : length ask.list < 256
 
 abbrev pub number_of_kind : Kind4 → ℕ
 number_of_kind Discover = 1
@@ -34,20 +49,20 @@ text_option code [] = []
 text_option code (b ∷ text) = (code, b ∷ text) ∷ []
 
 -- the largest message that is taken, 1472, the vendor and the host where they are set, and the codes that are wanted
-abbrev pub asked_for : Ask4 → List Instance
+abbrev pub asked_for : AskContent → List Instance
 asked_for ask =
-    (57, 5 ∷ 192 ∷ []) ∷ text_option 60 ask.vendor.items ++ text_option 12 ask.host.items ++ (55, ask.list.items) ∷ []
+    (57, 5 ∷ 192 ∷ []) ∷ text_option 60 ask.vendor ++ text_option 12 ask.host ++ (55, ask.list) ∷ []
 
-abbrev pub asked_for_in : Kind4 → Ask4 → List Instance
+abbrev pub asked_for_in : Kind4 → AskContent → List Instance
 asked_for_in Discover ask = asked_for ask
 asked_for_in Request ask = asked_for ask
 asked_for_in Decline ask = []
 asked_for_in Release ask = []
 
 -- the options of a message, in their order
-abbrev pub said_options : Said4 → Ask4 → List Instance
+abbrev pub said_options : Said4 → AskContent → List Instance
 said_options said ask =
-    (53, number_of_kind said.kind ∷ []) ∷ (61, ask.client_id.items)
+    (53, number_of_kind said.kind ∷ []) ∷ (61, ask.client_id)
     ∷ (address_option 50 said.asked ++ address_option 54 said.server ++ asked_for_in said.kind ask)
 
 -- ---- the bytes
@@ -71,7 +86,7 @@ client_fields said = replicate 12 0 ++ said.mac.bytes ++ replicate 202 0 ++ (0x6
 abbrev pub fixed_fields : Said4 → List ℕ
 fixed_fields said = exchange_fields said ++ client_fields said
 
-abbrev pub message_text : Said4 → Ask4 → List ℕ
+abbrev pub message_text : Said4 → AskContent → List ℕ
 message_text said ask = fixed_fields said ++ options_text (said_options said ask) ++ 255 ∷ []
 
 -- zeros up to 300 bytes

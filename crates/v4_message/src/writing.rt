@@ -2,7 +2,7 @@
 
 ghost use Rattle.std.specs.Prelude.{◌≡◌, ◌<◌, ◌++◌, ◌∷◌, [], length, None, IfOk, OnOk};
 ghost use Rattle.v4_message.specs.Message.{message_instances, malformed_place};
-ghost use Rattle.v4_message.specs.Requests.{options_text, address_option, text_option, number_of_kind, asked_for, said_options, exchange_fields, client_fields, fixed_fields, message_text, padded, AskFits};
+ghost use Rattle.v4_message.specs.Requests.{options_text, address_option, text_option, number_of_kind, asked_for, said_options, exchange_fields, client_fields, fixed_fields, message_text, padded, ask_content, AskFits};
 
 use crate::field::{BOOT_REQUEST, ETHERNET, MAC_LEN, MAGIC_COOKIE};
 use crate::kind;
@@ -136,8 +136,8 @@ fn put_text(message: &mut Vec<u8>, code: u8, text: &[u8]) -> Result<(), AllocErr
 
 /// What a client asks for in a DISCOVER or a REQUEST.
 fn put_asked_for(message: &mut Vec<u8>, ask: &Ask4) -> Result<(), AllocError>
-    requires { AskFits ask.now }
-    ensures { OnOk result (message.new.items ≡ message.old.items ++ options_text (asked_for ask.now)) }
+    requires { AskFits (ask_content ask.now) }
+    ensures { OnOk result (message.new.items ≡ message.old.items ++ options_text (asked_for (ask_content ask.now))) }
 {
     put_option(
         message,
@@ -151,8 +151,8 @@ fn put_asked_for(message: &mut Vec<u8>, ask: &Ask4) -> Result<(), AllocError>
 
 /// The options of a message, in their order.
 fn put_options(message: &mut Vec<u8>, said: &Said4, ask: &Ask4) -> Result<(), AllocError>
-    requires { AskFits ask.now }
-    ensures { OnOk result (message.new.items ≡ message.old.items ++ options_text (said_options said.now ask.now)) }
+    requires { AskFits (ask_content ask.now) }
+    ensures { OnOk result (message.new.items ≡ message.old.items ++ options_text (said_options said.now (ask_content ask.now))) }
 {
     put_option(message, code::MESSAGE_TYPE, &[number_of_kind(said.kind)])?;
     put_option(message, code::CLIENT_IDENTIFIER, &ask.client_id)?;
@@ -176,8 +176,8 @@ fn pad(message: &mut Vec<u8>) -> Result<(), AllocError>
 }
 
 fn message(alloc: Global, said: &Said4, ask: &Ask4) -> Result<Vec<u8>, AllocError>
-    requires { AskFits ask.now }
-    ensures text { IfOk result (λ bytes. bytes.items ≡ padded (message_text said.now ask.now)) }
+    requires { AskFits (ask_content ask.now) }
+    ensures text { IfOk result (λ bytes. bytes.items ≡ padded (message_text said.now (ask_content ask.now))) }
     ensures len { OnOk result (length (fixed_fields said.now) ≡ 240) }
 {
     let mut bytes = Vec::with_capacity(alloc, MESSAGE_MIN)?;
@@ -191,12 +191,12 @@ fn message(alloc: Global, said: &Said4, ask: &Ask4) -> Result<Vec<u8>, AllocErro
 /// The bytes of a client's message (RFC 2131, section 4.4.1). Its options are 53, 61, 50 and 54 where they are given,
 /// and in a DISCOVER or a REQUEST 57, 60 and 12 where they aren't empty, and 55.
 pub fn write4(alloc: Global, said: &Said4, ask: &Ask4) -> Result<Vec<u8>, NoMemory>
-    requires { AskFits ask.now }
+    requires { AskFits (ask_content ask.now) }
     // Exactly these bytes.
-    ensures text { IfOk result (λ bytes. bytes.items ≡ padded (message_text said.now ask.now)) }
+    ensures text { IfOk result (λ bytes. bytes.items ≡ padded (message_text said.now (ask_content ask.now))) }
     // Read again, they hold exactly those options.
     ensures whole { IfOk result (λ bytes. malformed_place bytes.items ≡ None) }
-    ensures options { IfOk result (λ bytes. message_instances bytes.items ≡ said_options said.now ask.now) }
+    ensures options { IfOk result (λ bytes. message_instances bytes.items ≡ said_options said.now (ask_content ask.now)) }
 {
     match message(alloc, said, ask) {
         Ok(bytes) => Ok(bytes),

@@ -1,8 +1,7 @@
-use Rattle.std.proofs.Common.{◌≡◌, ◌+◌, ◌-◌, ◌<◌, ◌≤◌, ◌^◌, length, take, drop, Some, None, List, ℕ, refl, ap, sym, ◌∙◌, arith, min}
-use Rattle.std.proofs.lemmas.List.{length-take, length-drop}
+use Rattle.std.proofs.Common.{arith}
+use Rattle.std.proofs.lemmas.List.{length-drop}
 use Rattle.v4_options.specs.Overload.{overload_in}
-use Rattle.v4_options.specs.OptionViews.{malformed_of}
-use Rattle.v4_message.specs.Message.{options_area, file_area, sname_area, malformed_place}
+use Rattle.v4_message.specs.Message.{options_area, file_area, sname_area}
 use Rattle.v4_message.proofs.Places.{whole_message, malformed_message, file_len, sname_len}
 use Rattle.v4_message.proofs.reading.options_in.Goals as goal
 

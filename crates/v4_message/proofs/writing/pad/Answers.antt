@@ -1,4 +1,4 @@
-use Rattle.std.proofs.Common.{◌≡◌, ◌+◌, ◌-◌, ◌<◌, ◌≤◌, length, arith, vec_len, refl, sym}
+use Rattle.std.proofs.Common.{◌≡◌, ◌≤◌, length, arith, vec_len, refl}
 use Rattle.std.proofs.lemmas.List.{take_all}
 use Rattle.v4_message.proofs.writing.pad.Goals as goal
 
