@@ -1,3 +1,4 @@
 pub mod WordChoice
 pub mod LineLaws
 pub mod ReadingLaws
+pub mod ManagedFit
