@@ -13,4 +13,4 @@ mod turns;
 mod waking;
 
 pub use devices::Devices;
-pub use serving::ServeEnd;
+pub use serving::{ServeEnd, serve};
