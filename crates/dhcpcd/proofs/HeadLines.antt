@@ -1,0 +1,69 @@
+-- The lines of a configuration, cut one after another.
+use Rattle.std.proofs.Common.{ℕ, ◌≡◌, ◌<◌, List, [], ◌∷◌, ◌++◌, length, Option, Some, None, refl, sym, ap, subst, ◌∙◌, append_assoc, append-nil}
+use Rattle.std.specs.Prelude.{map}
+use Rattle.std.specs.List.{join_with_byte, AllByRecursion}
+use Rattle.std.proofs.lemmas.List.{map-append}
+use Rattle.net_types.specs.Marks.{Lacks}
+use Rattle.net_types.specs.Cutting.{split_at_byte}
+use Rattle.net_types.proofs.ReadsLaws.{split_sound, split_whole}
+use Rattle.net_types.proofs.ListLaws.{split_smaller}
+use Rattle.replay_text.specs.Blocks.{parts_of}
+use Rattle.replay_text.specs.ScriptContent.{unless_last, lines_within, conf_lines}
+use Rattle.replay_text.proofs.BlockLaws.{parts_line, parts_joined, parts_lack}
+use Rattle.client_model.specs.Lines.{Line}
+use Rattle.client_model.specs.Lines as lines
+use Rattle.daemon.specs.Printing.{Prints}
+use Rattle.daemon.proofs.Printings.{prints_none, prints_then, prints_same}
+
+last_part : (text : List ℕ) → split_at_byte 10 text ≡ None → (parts : List (List ℕ)) → parts_of text ≡ parts → lines_within parts ≡ []
+last_part text none [] is = refl
+last_part text none (line ∷ []) is = refl
+last_part text none (line ∷ next ∷ parts) is =
+    let free : Lacks 10 line = (subst (AllByRecursion (Lacks 10)) is (parts_lack text)).0 in
+    let whole : text ≡ line ++ 10 ∷ join_with_byte 10 (next ∷ parts) = sym (parts_joined text) ∙ ap (join_with_byte 10) is in
+    let cut : split_at_byte 10 text ≡ Some (line, join_with_byte 10 (next ∷ parts)) = ap (split_at_byte 10) whole ∙ split_whole 10 line (join_with_byte 10 (next ∷ parts)) free in
+    absurd cc
+
+conf_none : (text : List ℕ) → split_at_byte 10 text ≡ None → conf_lines text ≡ []
+unfolding conf_lines
+conf_none text none = last_part text none (parts_of text) refl
+
+-- a text has at least one part
+within : (line : List ℕ) (parts : List (List ℕ)) → (parts ≡ [] → ⊥) → lines_within (line ∷ parts) ≡ line ∷ lines_within parts
+within line [] some = absurd (some refl)
+within line (next ∷ parts) some = refl
+
+some_parts : (text : List ℕ) → parts_of text ≡ [] → ⊥
+some_parts text none =
+    let empty : text ≡ [] = sym (parts_joined text) ∙ ap (join_with_byte 10) none in
+    let bad : parts_of [] ≡ [] = ap parts_of (sym empty) ∙ none in
+    let never : ⊥ = cc in never
+
+conf_some : (text line rest : List ℕ) → split_at_byte 10 text ≡ Some (line, rest) → conf_lines text ≡ line ∷ conf_lines rest
+unfolding conf_lines
+conf_some text line rest e =
+    let cut = split_sound 10 text line rest e in
+    ap lines_within (ap parts_of cut.0 ∙ parts_line line rest cut.1) ∙ within line (parts_of rest) (some_parts rest)
+
+-- what was printed of a configuration so far, and what is left of it
+pub record Prints_so_far (old new conf rest : List ℕ) : Type 0 where
+  pub front : List (List ℕ)
+  pub printed : Prints old new (map lines.Conf front)
+  pub left : conf_lines conf ≡ front ++ conf_lines rest
+
+pub printed_none : (text conf : List ℕ) → Prints_so_far text text conf conf
+printed_none text conf = record { front = []; printed = prints_none text; left = refl }
+
+pub printed_more : (old mid new conf rest line after : List ℕ) → split_at_byte 10 rest ≡ Some (line, after) → Prints_so_far old mid conf rest → Prints mid new (lines.Conf line ∷ []) → Prints_so_far old new conf after
+printed_more old mid new conf rest line after e p q = record {
+  front = p.front ++ line ∷ [];
+  printed = prints_same (prints_then p.printed q) (sym (map-append lines.Conf p.front (line ∷ [])));
+  left = p.left ∙ ap (λ (ls : List (List ℕ)). p.front ++ ls) (conf_some rest line after e) ∙ sym (append_assoc p.front (line ∷ []) (conf_lines after));
+}
+
+pub printed_all : (old new conf rest : List ℕ) → split_at_byte 10 rest ≡ None → Prints_so_far old new conf rest → Prints old new (map lines.Conf (conf_lines conf))
+printed_all old new conf rest none p =
+    prints_same p.printed (ap (map lines.Conf) (sym (p.left ∙ ap (λ (ls : List (List ℕ)). p.front ++ ls) (conf_none rest none) ∙ append-nil p.front)))
+
+pub rest_smaller : (rest line after : List ℕ) → split_at_byte 10 rest ≡ Some (line, after) → length after < length rest
+rest_smaller rest line after e = split_smaller 10 rest line after e

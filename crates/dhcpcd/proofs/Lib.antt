@@ -1,0 +1,5 @@
+pub mod HeadLines
+pub mod Inputs
+pub mod OneWord
+pub mod Refusals
+pub mod WholeLife

@@ -1,0 +1,116 @@
+-- Why bytes are no script.
+use Rattle.std.proofs.Common.{ℕ, ◌≡◌, List, All, Option, Some, None, Result, Ok, Err, IfErr, sym, ap, subst, ◌∙◌}
+use Rattle.std.specs.Prelude.{flat_map, option_map, IsErrAnd}
+use Rattle.std.proofs.lemmas.List.Elements.{All-weaker}
+use Rattle.net_types.specs.declared.interface.IfSpec.{IfSpec}
+use Rattle.net_types.proofs.ReadsLaws.{texts_apart}
+use Rattle.world.specs.Rows.{IsRow}
+use Rattle.world.specs.RowText.{IsBuiltRow}
+use Rattle.client_model.specs.declared.interfaces.Managed.{Managed}
+use Rattle.client_model.specs.Fitting.{AreManaged}
+use Rattle.client_model.specs.Scripts.{ScriptLines, FitsScript, script_text, ended}
+use Rattle.replay_text.specs.declared.script.Script.{Script}
+use Rattle.replay_text.specs.declared.script.ScriptFault.{ScriptFault}
+use Rattle.replay_text.specs.ScriptContent.{script_of, conf_lines, HoldsLines}
+use Rattle.replay_text.proofs.ScriptLaws.{script_reads}
+use Rattle.conf_text.specs.ConfLines.{said_by}
+use Rattle.conf_text.specs.declared.conf.Conf.{Conf}
+use Rattle.conf_text.specs.Settings.{Configuration, configuration, configured, managed_of}
+use Rattle.conf_text.specs.Reading.{IsConfigurationOf, IsNoConfiguration, ConfigurationIsOne}
+use Rattle.conf_text.proofs.ManagedFit.{managed_fit}
+use Rattle.dhcpcd.specs.declared.status.Status.{Status}
+use Rattle.dhcpcd.specs.declared.status.Status.TheVariants as status
+use Rattle.dhcpcd.specs.Input.{IsInput}
+use Rattle.dhcpcd.specs.Replays.{IsScript}
+use Rattle.dhcpcd.specs.Statuses.{IsNoScript, IsUnspelled, IsRefused, IsAnswer}
+
+-- what was read of the bytes
+abbrev pub IsRead : List ℕ → Script → Type 0
+IsRead bytes script = (bytes ≡ script_text (script_of script)) × FitsScript (script_of script) × HoldsLines script.conf.items
+
+pub refused_on : (answer : Status) (why other : Type 0) → (why → other) → IsRefused answer why → IsRefused answer other
+refused_on status.Done why other f h = absurd h
+refused_on status.Usage why other f h = absurd h
+refused_on (status.Script fault) why other f h = f h
+refused_on status.ReadFault why other f h = absurd h
+refused_on status.WriteFault why other f h = absurd h
+refused_on status.TooLong why other f h = absurd h
+refused_on status.NoMemory why other f h = tt
+
+pub unspelled : (bytes : List ℕ) → IsUnspelled bytes → IsNoScript bytes
+unspelled bytes none script managed is = none script is.fits is.spelled
+
+-- bytes spell one script
+one_script : (bytes : List ℕ) (script : Script) (other : ScriptLines) → IsRead bytes script → FitsScript other → bytes ≡ script_text other → script_of script ≡ other
+one_script bytes script other read fits spelled = texts_apart script_reads (script_of script) other read.1 fits (sym read.0 ∙ spelled)
+
+pub text_of : (conf : List ℕ) → HoldsLines conf → conf ≡ flat_map ended (conf_lines conf)
+unfolding HoldsLines
+text_of conf holds = holds
+
+-- the configuration of a script that spells the bytes is that of the text read
+configured_text : (bytes : List ℕ) (script : Script) (other : ScriptLines) → IsRead bytes script → FitsScript other → bytes ≡ script_text other → script.conf.items ≡ flat_map ended other.conf
+configured_text bytes script other read fits spelled =
+    text_of script.conf.items read.2 ∙ ap (λ (s : ScriptLines). flat_map ended s.conf) (one_script bytes script other read fits spelled)
+
+some_none : {X : Type 0} {x : X} → Some x ≡ None → ⊥
+some_none e = cc
+
+none_said : {X Y : Type 0} (f : X → Y) (said : Option X) (y : Y) → said ≡ None → option_map f said ≡ Some y → ⊥
+none_said f None y none some = some_none (sym some)
+none_said f (Some x) y none some = some_none none
+
+pub conf_refused : (bytes : List ℕ) (script : Script) → IsRead bytes script → IsNoConfiguration script.conf.items → IsNoScript bytes
+conf_refused bytes script read none other managed is =
+    let lines = is.configured.lines in
+    none_said configured (said_by lines) is.conf
+    (none lines is.configured.fit (configured_text bytes script other read is.fits is.spelled ∙ is.configured.spelled)) is.configured.says
+
+pub settings_refused : (bytes : List ℕ) (script : Script) (conf : Configuration) → ConfigurationIsOne → IsRead bytes script → IsConfigurationOf script.conf.items conf
+    → managed_of conf script.ifaces.items ≡ None → IsNoScript bytes
+settings_refused bytes script conf one read configured none other managed is =
+    let text = configured_text bytes script other read is.fits is.spelled in
+    let same = one script.conf.items conf is.conf configured (subst (λ (t : List ℕ). IsConfigurationOf t is.conf) (sym text) is.configured) in
+    let ifaces = ap (λ (s : ScriptLines). s.ifaces) (one_script bytes script other read is.fits is.spelled) in
+    let there : managed_of conf script.ifaces.items ≡ Some managed = ap (λ (c : Configuration). managed_of c script.ifaces.items) same ∙ ap (λ (i : List IfSpec). managed_of is.conf i) ifaces ∙ is.settings in
+    some_none (sym there ∙ none)
+
+pub settled : (bytes : List ℕ) (script : Script) (conf : Configuration) (managed : List Managed) → IsRead bytes script → IsConfigurationOf script.conf.items conf
+    → managed_of conf script.ifaces.items ≡ Some managed → IsScript bytes (script_of script) managed
+settled bytes script conf managed read configured some =
+    record { spelled = read.0; fits = read.1; conf = conf; configured = subst (λ (t : List ℕ). IsConfigurationOf t conf) (text_of script.conf.items read.2) configured; settings = some }
+
+pub settled_fit : (bytes : List ℕ) (script : ScriptLines) (managed : List Managed) → IsScript bytes script managed → AreManaged managed
+settled_fit bytes script managed is = managed_fit (flat_map ended script.conf) is.conf script.ifaces managed is.configured is.fits.ifaces.counted is.fits.ifaces.few is.settings
+
+pub settled_rows : (bytes : List ℕ) (script : ScriptLines) (managed : List Managed) → IsScript bytes script managed → All IsRow script.rows
+settled_rows bytes script managed is = All-weaker IsBuiltRow IsRow (λ r b. b.is_row) script.rows is.fits.rows
+
+pub refused_for_configuration : (answer : Status) (bytes : List ℕ) (script : Script) → IsRead bytes script → IsRefused answer (IsNoConfiguration script.conf.items) → IsRefused answer (IsNoScript bytes)
+refused_for_configuration answer bytes script read refused = refused_on answer (IsNoConfiguration script.conf.items) (IsNoScript bytes) (conf_refused bytes script read) refused
+
+pub error_is : {A : Type 0} (r : Result A Status) (answer : Status) (P : Status → Type 0) → IsErrAnd r (λ e. e ≡ answer) → P answer → IfErr r P
+error_is (Ok a) answer P is p = tt
+error_is (Err e) answer P is p = subst P (sym is) p
+
+none_of : {A B : Type 0} (f : A → B) (found : Option A) (made : Option B) → found ≡ None → option_map f found ≡ made → made ≡ None
+none_of f found made none same = sym same ∙ ap (option_map f) none
+
+pub refused_for_settings : {V : Type 0} (items : V → List Managed) (found : Option V) (fault : ScriptFault) (answer : Status) (bytes : List ℕ) (script : Script) (conf : Conf) → found ≡ None → answer ≡ status.Script fault → ConfigurationIsOne → IsRead bytes script
+    → IsConfigurationOf script.conf.items (configuration conf) → option_map items found ≡ managed_of (configuration conf) script.ifaces.items → IsRefused answer (IsNoScript bytes)
+refused_for_settings {V} items found fault answer bytes script conf none is one read says same =
+    subst (λ (s : Status). IsRefused s (IsNoScript bytes)) (sym is)
+    (settings_refused bytes script (configuration conf) one read says (none_of items found (managed_of (configuration conf) script.ifaces.items) none same))
+
+pub refused_answer : (answer : Status) (input old new : Option (List ℕ)) (bytes : List ℕ) → IsInput input bytes → new ≡ old → IsRefused answer (IsNoScript bytes) → IsAnswer answer input old new
+refused_answer status.Done input old new bytes read same refused = absurd refused
+refused_answer status.Usage input old new bytes read same refused = absurd refused
+refused_answer (status.Script fault) None old new bytes read same refused = (tt, same)
+refused_answer (status.Script fault) (Some input) old new bytes read same refused = (subst IsNoScript (sym read) refused, same)
+refused_answer status.ReadFault input old new bytes read same refused = absurd refused
+refused_answer status.WriteFault input old new bytes read same refused = absurd refused
+refused_answer status.TooLong input old new bytes read same refused = absurd refused
+refused_answer status.NoMemory input old new bytes read same refused = tt
+
+pub some_of : {A B : Type 0} (f : A → B) (found : Option A) (made : Option B) (x : A) → found ≡ Some x → option_map f found ≡ made → made ≡ Some (f x)
+some_of f found made x some same = sym same ∙ ap (option_map f) some

@@ -1,0 +1,14 @@
+use Rattle.std.proofs.Common.{◌≡◌, ◌≤◌, ◌-◌, ◌+◌, vec_len}
+use Rattle.dhcpcd.specs.Input.{HasRead}
+use Rattle.dhcpcd.proofs.input.read_all.Given as goal
+
+abbrev pub invariant-pieces : goal.invariant-pieces
+invariant-pieces g l = record {
+  read : HasRead (g.I.Source.left l.fn.input) l.all.items (g.I.Source.left l.input);
+  length : vec_len l.all ≤ 16777217;
+  room : vec_len l.buf ≡ 65536;
+  faults : g.I.Source.faults l.fn.input ≤ g.I.Source.faults l.input;
+}
+
+abbrev pub decreases-pieces : goal.decreases-pieces
+decreases-pieces g l = 16777217 - vec_len l.all

@@ -1,0 +1,5 @@
+pub mod Input
+pub mod Memory
+pub mod Replays
+pub mod Statuses
+pub mod Words

@@ -1,0 +1,17 @@
+-- What the devices of a script hold before their first call. No call fails.
+use Rattle.std.specs.Prelude.{List, []}
+use Rattle.world.specs.declared.rows.HostRow.{HostRow}
+use Rattle.world.specs.RowOrder.{in_row_order}
+use Rattle.world_mem.specs.LinkRecord.{LinkState}
+use Rattle.world_mem.specs.StoreRecord.{StoreState}
+use Rattle.world_mem.specs.HostRecord.{HostState}
+use Rattle.client_model.specs.Scripts.{LifeScript}
+
+abbrev pub link_of : LifeScript → LinkState
+link_of life = record { told = record { begin = life.begin; coming = life.turns; waits = 0; sends = 0; calls = [] }; failing_waits = []; failing_sends = [] }
+
+abbrev pub empty_store : StoreState
+empty_store = record { told = record { files = []; calls = [] }; failing = [] }
+
+abbrev pub host_of : List HostRow → HostState
+host_of rows = record { told = record { rows = in_row_order rows; calls = [] }; failing = [] }

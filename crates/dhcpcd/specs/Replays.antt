@@ -1,0 +1,32 @@
+-- The transcript of a script.
+use Rattle.std.specs.Prelude.{ℕ, ◌≡◌, List, [], ◌∷◌, ◌++◌, map, flat_map, Option, Some, None}
+use Rattle.client_model.specs.declared.interfaces.Managed.{Managed}
+use Rattle.client_model.specs.Scripts.{ScriptLines, LifeScript, FitsScript, script_text, ended}
+use Rattle.client_model.specs.Opening.{opened_life}
+use Rattle.client_model.specs.Lives.{life_lines}
+use Rattle.client_model.specs.Lines.{Line}
+use Rattle.client_model.specs.Lines as lines
+use Rattle.client_model.specs.ToldDevices.{told_opening, told_turns}
+use Rattle.dhcpcd.specs.Memory.{host_of}
+use Rattle.conf_text.specs.Settings.{Configuration, managed_of}
+use Rattle.conf_text.specs.Reading.{IsConfigurationOf}
+
+-- the life of the abstract client over the script's host, link and store, in which no call fails
+unfoldable pub life_of_script : List Managed → ScriptLines → List Line
+life_of_script managed script =
+    let opening = told_opening managed [] script.life.begin (host_of script.rows).told in
+    life_lines managed opening.answer (told_turns managed [] (opened_life managed opening.answer) opening.told script.life.turns)
+
+unfoldable pub head_lines : ScriptLines → List Line
+head_lines script = lines.Head ∷ (map lines.Conf script.conf ++ (map lines.Interface script.ifaces ++ lines.Life 1 ∷ []))
+
+abbrev pub transcript : List Managed → ScriptLines → List Line
+transcript managed script = head_lines script ++ life_of_script managed script
+
+-- the bytes spell this script, and its configuration is built for each of its interfaces
+pub record IsScript (bytes : List ℕ) (script : ScriptLines) (managed : List Managed) : Type 0 where
+  pub spelled : bytes ≡ script_text script
+  pub fits : FitsScript script
+  pub conf : Configuration
+  pub configured : IsConfigurationOf (flat_map ended script.conf) conf
+  pub settings : managed_of conf script.ifaces ≡ Some managed

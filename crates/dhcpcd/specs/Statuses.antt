@@ -1,0 +1,76 @@
+-- What the answers of the top call mean.
+use Rattle.std.specs.Prelude.{ℕ, ◌≡◌, ◌≢◌, ◌<◌, ◌≤◌, List, [], ◌∷◌, ◌++◌, codes, Option, Some, None}
+use Rattle.replay_text.specs.declared.script.ScriptFault.{ScriptFault}
+use Rattle.client_model.specs.declared.interfaces.Managed.{Managed}
+use Rattle.client_model.specs.Scripts.{ScriptLines, FitsScript, script_text}
+use Rattle.daemon.specs.Serving.{WritesLines}
+use Rattle.dhcpcd.specs.declared.status.Status.{Status}
+use Rattle.dhcpcd.specs.declared.status.Status.TheVariants as status
+use Rattle.dhcpcd.specs.Input.{IsInput, IsTooLong}
+use Rattle.dhcpcd.specs.Replays.{IsScript, transcript}
+
+-- the exit status
+abbrev pub status_number : Status → ℕ
+status_number status.Done = 0
+status_number status.Usage = 2
+status_number (status.Script fault) = 3
+status_number status.ReadFault = 5
+status_number status.WriteFault = 6
+status_number status.TooLong = 9
+status_number status.NoMemory = 10
+
+-- the input was a script, and its transcript was written
+pub record IsReplayed (input : Option (List ℕ)) (old new : Option (List ℕ)) : Type 0 where
+  pub bytes : List ℕ
+  pub script : ScriptLines
+  pub managed : List Managed
+  pub read : IsInput input bytes
+  pub is_script : IsScript bytes script managed
+  pub written : WritesLines old new (transcript managed script)
+
+-- no script spells the input, where it is told
+abbrev pub IsNoScript : List ℕ → Type 0
+IsNoScript bytes = (script : ScriptLines) (managed : List Managed) → IsScript bytes script managed → ⊥
+
+abbrev pub SpellsNoScript : Option (List ℕ) → Type 0
+SpellsNoScript None = Unit {0}
+SpellsNoScript (Some input) = IsNoScript input
+
+-- what replay answers, by the input and by what is written before and after
+abbrev pub IsAnswer : Status → Option (List ℕ) → Option (List ℕ) → Option (List ℕ) → Type 0
+IsAnswer status.Done input old new = IsReplayed input old new
+IsAnswer status.Usage input old new = ⊥
+IsAnswer (status.Script fault) input old new = SpellsNoScript input × (new ≡ old)
+IsAnswer status.ReadFault input old new = new ≡ old
+IsAnswer status.WriteFault input old new = Unit {0}
+IsAnswer status.TooLong input old new = IsTooLong input × (new ≡ old)
+IsAnswer status.NoMemory input old new = Unit {0}
+
+-- faults come only where the count of that stream rose
+abbrev pub HasStatusCause : Status → ℕ → ℕ → ℕ → ℕ → Type 0
+HasStatusCause status.ReadFault input input' out out' = (input < input') × (out ≤ out')
+HasStatusCause status.WriteFault input input' out out' = (input ≤ input') × (out < out')
+HasStatusCause other input input' out out' = (input ≤ input') × (out ≤ out')
+
+-- the answers that reading can end in
+abbrev pub StopsReading : Status → Type 0
+StopsReading status.ReadFault = Unit {0}
+StopsReading status.TooLong = Unit {0}
+StopsReading status.NoMemory = Unit {0}
+StopsReading other = ⊥
+
+-- the answers that writing can end in
+abbrev pub StopsWriting : Status → Type 0
+StopsWriting status.WriteFault = Unit {0}
+StopsWriting status.NoMemory = Unit {0}
+StopsWriting other = ⊥
+
+-- no fitting lines of a script spell the bytes
+abbrev pub IsUnspelled : List ℕ → Type 0
+IsUnspelled bytes = (script : ScriptLines) → FitsScript script → bytes ≢ script_text script
+
+-- a refusal of the input, and why; want of memory is free
+abbrev pub IsRefused : Status → Type 0 → Type 0
+IsRefused (status.Script fault) why = why
+IsRefused status.NoMemory why = Unit {0}
+IsRefused other why = ⊥

@@ -1,0 +1,55 @@
+ghost use Rattle.std.specs.Prelude.{◌≡◌, ◌≢◌, ◌≤◌, ◌<◌, ◌+◌, Ok, Err, IfOk, IfErr, length, vec_len};
+ghost use Rattle.dhcpcd.specs.Input.{Moves, IsInput, IsTooLong, limit};
+ghost use Rattle.dhcpcd.specs.Statuses.{HasStatusCause, StopsReading};
+
+use crate::status::Status;
+use std::alloc::Global;
+use world::{Failed, NoMemory, Source};
+
+/// The most bytes that an input may have.
+const LIMIT: usize = 16_777_216;
+
+/// How many bytes are read at once.
+const PIECE: usize = 65_536;
+
+/// Reads some bytes, at most as many as the piece has room for, and appends them.
+fn read_some<I: Source>(input: &mut I, piece: &mut [u8], all: &mut Vec<u8>) -> Result<usize, Status>
+    requires { 0 < length piece.old }
+    ensures moved { IfOk result (λ n. Moves (I.left input.old) (I.left input.new) all.old.items all.new.items n) }
+    ensures count { IfOk result (λ n. (vec_len all.new ≡ vec_len all.old + n) × (n ≤ length piece.old) × (I.faults input.old ≤ I.faults input.new)) }
+    ensures cause { IfErr result (λ status. HasStatusCause status (I.faults input.old) (I.faults input.new) 0 0 × StopsReading status) }
+    ensures any_length { result ≢ Err Status.TooLong }
+{
+    match input.read(piece) {
+        Ok(n) => {
+            let (front, _rest) = piece.split_at(n);
+            all.extend_from_slice(front).map_err(|_| NoMemory)?;
+            Ok(n)
+        }
+        Err(Failed) => Err(Status::ReadFault),
+    }
+}
+
+fn piece_buffer(alloc: Global) -> Result<Vec<u8>, NoMemory>
+    ensures { IfOk result (λ buf. vec_len buf ≡ 65536) }
+{
+    Ok(vec![in alloc; 0u8; PIECE]?)
+}
+
+/// Reads all of the input, up to its limit.
+pub fn read_all<I: Source>(alloc: Global, input: &mut I) -> Result<Vec<u8>, Status>
+    ensures ok { IfOk result (λ all. IsInput (I.left input.old) all.items × (I.faults input.old ≤ I.faults input.new)) }
+    ensures cause { IfErr result (λ status. HasStatusCause status (I.faults input.old) (I.faults input.new) 0 0 × StopsReading status) }
+    ensures too_long { result ≡ Err Status.TooLong → IsTooLong (I.left input.old) }
+{
+    let mut all = Vec::new(alloc);
+    let mut buf = piece_buffer(alloc)?;
+    'pieces: while all.len() <= LIMIT {
+        let room = PIECE.min(LIMIT + 1 - all.len());
+        let n = read_some(input, &mut buf[..room], &mut all)?;
+        if n == 0 {
+            return Ok(all);
+        }
+    }
+    Err(Status::TooLong)
+}

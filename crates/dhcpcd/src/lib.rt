@@ -1,0 +1,12 @@
+//! The top call: what the words of the program ask for.
+#![tactic(auto)]
+
+mod heads;
+mod input;
+mod memory;
+mod replaying;
+mod running;
+mod status;
+
+pub use running::run;
+pub use status::Status;

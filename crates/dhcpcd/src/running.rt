@@ -1,0 +1,47 @@
+ghost use Rattle.std.specs.Prelude.{◌≡◌, true, codes, map};
+ghost use Rattle.std.specs.String.{string_bytes};
+ghost use Rattle.dhcpcd.specs.Statuses.{HasStatusCause, IsAnswer};
+ghost use Rattle.dhcpcd.specs.Words.{AskReplay};
+
+use crate::replaying::replay;
+use crate::status::Status;
+use std::alloc::Global;
+use world::{Sink, Source};
+
+fn is_replay(word: &str) -> bool
+    ensures yes { result ≡ true → word.now ≡ codes "replay" }
+    ensures no { word.now ≡ codes "replay" → result ≡ true }
+{
+    word == "replay"
+}
+
+#[tactic(auto, using(crate::proofs::OneWord::one_word))]
+fn ask_replay(words: &[String]) -> bool
+    ensures yes { result ≡ true → AskReplay (map string_bytes words.now) }
+    ensures no { AskReplay (map string_bytes words.now) → result ≡ true }
+{
+    match words {
+        [word] => is_replay(word.as_str()),
+        _ => false,
+    }
+}
+
+/// Does what the words after the program's name ask for: `replay` reads a script from the input, and writes its transcript.
+pub fn run<I: Source, O: Sink>(
+    alloc: Global,
+    words: &[String],
+    input: &mut I,
+    out: &mut O,
+) -> Status
+    ensures answer { AskReplay (map string_bytes words.now) → IsAnswer result (I.left input.old) (O.written out.old) (O.written out.new) }
+    ensures usage { (AskReplay (map string_bytes words.now) → ⊥) → (result ≡ Status.Usage) × (I.left input.new ≡ I.left input.old) × (O.written out.new ≡ O.written out.old) }
+    ensures cause { HasStatusCause result (I.faults input.old) (I.faults input.new) (O.faults out.old) (O.faults out.new) }
+{
+    if !ask_replay(words) {
+        return Status::Usage;
+    }
+    match replay(alloc, input, out) {
+        Ok(()) => Status::Done,
+        Err(status) => status,
+    }
+}

@@ -1,0 +1,44 @@
+use replay_text::ScriptFault;
+use world::NoMemory;
+
+/// The answer of the top call.
+#[derive(Clone, Copy, Debug, PartialEq, Eq)]
+pub enum Status {
+    /// All was read, and all was written.
+    Done,
+    /// The words are of no form.
+    Usage,
+    /// The input is no script.
+    Script(ScriptFault),
+    ReadFault,
+    WriteFault,
+    /// The input is longer than its limit.
+    TooLong,
+    NoMemory,
+}
+
+impl From<NoMemory> for Status {
+    ghost use Rattle.std.specs.Prelude.{◌≡◌};
+    ghost use Rattle.dhcpcd.specs.declared.status.Status.TheVariants.{NoMemory as no_memory};
+
+    ghost from_gives = { λ _ status. status ≡ no_memory };
+
+    fn from(_error: NoMemory) -> Status {
+        Status::NoMemory
+    }
+}
+
+impl Status {
+    /// The exit status of the program.
+    pub fn number(self) -> u8 {
+        match self {
+            Status::Done => 0,
+            Status::Usage => 2,
+            Status::Script(_) => 3,
+            Status::ReadFault => 5,
+            Status::WriteFault => 6,
+            Status::TooLong => 9,
+            Status::NoMemory => 10,
+        }
+    }
+}

@@ -1,0 +1,23 @@
+use dhcpcd::Status;
+use replay_text::ScriptFault;
+use std::io::Result;
+
+fn line(rt: &HostRuntime, status: Status) -> Result<()> {
+    match status {
+        Status::Done => Ok(()),
+        Status::Usage => eprintln!(rt; "dhcpcd: usage: replay"),
+        Status::Script(ScriptFault { line, cause }) => {
+            eprintln!(rt; "dhcpcd: script line {line}: {cause:?}")
+        }
+        Status::ReadFault => eprintln!(rt; "dhcpcd: read failed"),
+        Status::WriteFault => eprintln!(rt; "dhcpcd: write failed"),
+        Status::TooLong => eprintln!(rt; "dhcpcd: input too long"),
+        Status::NoMemory => eprintln!(rt; "dhcpcd: no memory"),
+    }
+}
+
+/// Says on standard error why the program ends otherwise than `Done`. A line that can't be written is lost: the exit
+/// status says it too.
+pub fn say(rt: &HostRuntime, status: Status) {
+    let _ = line(rt, status);
+}
