@@ -7,6 +7,8 @@ mod memory;
 mod replaying;
 mod running;
 mod status;
+#[cfg(test)]
+mod tests;
 
 pub use running::run;
 pub use status::Status;
