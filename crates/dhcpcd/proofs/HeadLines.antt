@@ -1,5 +1,5 @@
 -- The lines of a configuration, cut one after another.
-use Rattle.std.proofs.Common.{ℕ, ◌≡◌, ◌<◌, List, [], ◌∷◌, ◌++◌, length, Option, Some, None, refl, sym, ap, subst, ◌∙◌, append_assoc, append-nil}
+use Rattle.std.proofs.Common.{ℕ, ◌≡◌, ◌<◌, List, [], ◌∷◌, ◌++◌, length, Some, None, refl, sym, ap, subst, ◌∙◌, append_assoc, append-nil}
 use Rattle.std.specs.Prelude.{map}
 use Rattle.std.specs.List.{join_with_byte, AllByRecursion}
 use Rattle.std.proofs.lemmas.List.{map-append}
@@ -8,7 +8,7 @@ use Rattle.net_types.specs.Cutting.{split_at_byte}
 use Rattle.net_types.proofs.ReadsLaws.{split_sound, split_whole}
 use Rattle.net_types.proofs.ListLaws.{split_smaller}
 use Rattle.replay_text.specs.Blocks.{parts_of}
-use Rattle.replay_text.specs.ScriptContent.{unless_last, lines_within, conf_lines}
+use Rattle.replay_text.specs.ScriptContent.{lines_within, conf_lines}
 use Rattle.replay_text.proofs.BlockLaws.{parts_line, parts_joined, parts_lack}
 use Rattle.client_model.specs.Lines.{Line}
 use Rattle.client_model.specs.Lines as lines

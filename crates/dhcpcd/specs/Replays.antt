@@ -1,7 +1,7 @@
 -- The transcript of a script.
-use Rattle.std.specs.Prelude.{ℕ, ◌≡◌, List, [], ◌∷◌, ◌++◌, map, flat_map, Option, Some, None}
+use Rattle.std.specs.Prelude.{ℕ, ◌≡◌, List, [], ◌∷◌, ◌++◌, map, flat_map, Some}
 use Rattle.client_model.specs.declared.interfaces.Managed.{Managed}
-use Rattle.client_model.specs.Scripts.{ScriptLines, LifeScript, FitsScript, script_text, ended}
+use Rattle.client_model.specs.Scripts.{ScriptLines, FitsScript, script_text, ended}
 use Rattle.client_model.specs.Opening.{opened_life}
 use Rattle.client_model.specs.Lives.{life_lines}
 use Rattle.client_model.specs.Lines.{Line}

@@ -1,6 +1,5 @@
 -- What the answers of the top call mean.
-use Rattle.std.specs.Prelude.{ℕ, ◌≡◌, ◌≢◌, ◌<◌, ◌≤◌, List, [], ◌∷◌, ◌++◌, codes, Option, Some, None}
-use Rattle.replay_text.specs.declared.script.ScriptFault.{ScriptFault}
+use Rattle.std.specs.Prelude.{ℕ, ◌≡◌, ◌≢◌, ◌<◌, ◌≤◌, List, Option, Some, None}
 use Rattle.client_model.specs.declared.interfaces.Managed.{Managed}
 use Rattle.client_model.specs.Scripts.{ScriptLines, FitsScript, script_text}
 use Rattle.daemon.specs.Serving.{WritesLines}

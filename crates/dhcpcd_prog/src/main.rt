@@ -24,8 +24,8 @@ fn main(rt: HostRuntime) -> ExitCode {
         Ok(words) => run(
             rt.alloc(),
             &words,
-            &mut StdSource::new(rt, rt.stdin()),
-            &mut StdSink::new(rt, rt.stdout()),
+            &mut StdSource::new(rt.stdin()),
+            &mut StdSink::new(rt.stdout()),
         ),
         Err(_) => Status::NoMemory,
     };

@@ -1,4 +1,4 @@
-use Rattle.std.proofs.Common.{◌≡◌, ◌≤◌, ◌-◌, ◌+◌, vec_len}
+use Rattle.std.proofs.Common.{◌≡◌, ◌≤◌, ◌-◌, vec_len}
 use Rattle.dhcpcd.specs.Input.{HasRead}
 use Rattle.dhcpcd.proofs.input.read_all.Given as goal
 

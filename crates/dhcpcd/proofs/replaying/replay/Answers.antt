@@ -1,4 +1,4 @@
-use Rattle.std.proofs.Common.{◌≡◌, refl, subst}
+use Rattle.std.proofs.Common.{refl, subst}
 use Rattle.dhcpcd.specs.Statuses.{IsAnswer, IsRefused, IsNoScript}
 use Rattle.dhcpcd.proofs.Refusals.{error_is, refused_answer}
 use Rattle.dhcpcd.proofs.replaying.replay.Goals as goal
