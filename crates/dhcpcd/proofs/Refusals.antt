@@ -1,5 +1,5 @@
 -- Why bytes are no script.
-use Rattle.std.proofs.Common.{ℕ, ◌≡◌, List, All, Option, Some, None, Result, Ok, Err, IfErr, sym, ap, subst, ◌∙◌}
+use Rattle.std.proofs.Common.{ℕ, ◌≡◌, ◌≤◌, List, length, All, Option, Some, None, Result, Ok, Err, IfErr, sym, ap, subst, ◌∙◌}
 use Rattle.std.specs.Prelude.{flat_map, option_map, IsErrAnd}
 use Rattle.std.proofs.lemmas.List.Elements.{All-weaker}
 use Rattle.net_types.specs.declared.interface.IfSpec.{IfSpec}
@@ -20,7 +20,7 @@ use Rattle.conf_text.specs.Reading.{IsConfigurationOf, IsNoConfiguration, Config
 use Rattle.conf_text.proofs.ManagedFit.{managed_fit}
 use Rattle.dhcpcd.specs.declared.status.Status.{Status}
 use Rattle.dhcpcd.specs.declared.status.Status.TheVariants as status
-use Rattle.dhcpcd.specs.Input.{IsInput}
+use Rattle.dhcpcd.specs.Input.{limit, IsInput}
 use Rattle.dhcpcd.specs.Replays.{IsScript}
 use Rattle.dhcpcd.specs.Statuses.{IsNoScript, IsUnspelled, IsRefused, IsAnswer}
 
@@ -102,15 +102,15 @@ refused_for_settings {V} items found fault answer bytes script conf none is one 
     subst (λ (s : Status). IsRefused s (IsNoScript bytes)) (sym is)
     (settings_refused bytes script (configuration conf) one read says (none_of items found (managed_of (configuration conf) script.ifaces.items) none same))
 
-pub refused_answer : (answer : Status) (input old new : Option (List ℕ)) (bytes : List ℕ) → IsInput input bytes → new ≡ old → IsRefused answer (IsNoScript bytes) → IsAnswer answer input old new
-refused_answer status.Done input old new bytes read same refused = absurd refused
-refused_answer status.Usage input old new bytes read same refused = absurd refused
-refused_answer (status.Script fault) None old new bytes read same refused = (tt, same)
-refused_answer (status.Script fault) (Some input) old new bytes read same refused = (subst IsNoScript (sym read) refused, same)
-refused_answer status.ReadFault input old new bytes read same refused = absurd refused
-refused_answer status.WriteFault input old new bytes read same refused = absurd refused
-refused_answer status.TooLong input old new bytes read same refused = absurd refused
-refused_answer status.NoMemory input old new bytes read same refused = tt
+pub refused_answer : (answer : Status) (input old new : Option (List ℕ)) (bytes : List ℕ) → IsInput input bytes → length bytes ≤ limit → new ≡ old → IsRefused answer (IsNoScript bytes) → IsAnswer answer input old new
+refused_answer status.Done input old new bytes read within same refused = absurd refused
+refused_answer status.Usage input old new bytes read within same refused = absurd refused
+refused_answer (status.Script fault) None old new bytes read within same refused = (tt, tt, same)
+refused_answer (status.Script fault) (Some input) old new bytes read within same refused = (subst IsNoScript (sym read) refused, subst (λ (b : List ℕ). length b ≤ limit) (sym read) within, same)
+refused_answer status.ReadFault input old new bytes read within same refused = absurd refused
+refused_answer status.WriteFault input old new bytes read within same refused = absurd refused
+refused_answer status.TooLong input old new bytes read within same refused = absurd refused
+refused_answer status.NoMemory input old new bytes read within same refused = tt
 
 pub some_of : {A B : Type 0} (f : A → B) (found : Option A) (made : Option B) (x : A) → found ≡ Some x → option_map f found ≡ made → made ≡ Some (f x)
 some_of f found made x some same = sym same ∙ ap (option_map f) some

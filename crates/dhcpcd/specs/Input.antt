@@ -28,3 +28,8 @@ IsInput (Some input) read = input ≡ read
 abbrev pub IsTooLong : Option (List ℕ) → Type 0
 IsTooLong None = Unit {0}
 IsTooLong (Some input) = limit < length input
+
+-- where the input is told, it isn't longer than the limit
+abbrev pub IsInLimit : Option (List ℕ) → Type 0
+IsInLimit None = Unit {0}
+IsInLimit (Some input) = length input ≤ limit

@@ -1,11 +1,11 @@
 -- What the answers of the top call mean.
-use Rattle.std.specs.Prelude.{ℕ, ◌≡◌, ◌≢◌, ◌<◌, ◌≤◌, List, Option, Some, None}
+use Rattle.std.specs.Prelude.{ℕ, ◌≡◌, ◌≢◌, ◌<◌, ◌≤◌, List, length, Option, Some, None}
 use Rattle.client_model.specs.declared.interfaces.Managed.{Managed}
 use Rattle.client_model.specs.Scripts.{ScriptLines, FitsScript, script_text}
 use Rattle.daemon.specs.Serving.{WritesLines}
 use Rattle.dhcpcd.specs.declared.status.Status.{Status}
 use Rattle.dhcpcd.specs.declared.status.Status.TheVariants as status
-use Rattle.dhcpcd.specs.Input.{IsInput, IsTooLong}
+use Rattle.dhcpcd.specs.Input.{limit, IsInput, IsInLimit, IsTooLong}
 use Rattle.dhcpcd.specs.Replays.{IsScript, transcript}
 
 -- the exit status
@@ -24,6 +24,7 @@ pub record IsReplayed (input : Option (List ℕ)) (old new : Option (List ℕ)) 
   pub script : ScriptLines
   pub managed : List Managed
   pub read : IsInput input bytes
+  pub in_limit : length bytes ≤ limit
   pub is_script : IsScript bytes script managed
   pub written : WritesLines old new (transcript managed script)
 
@@ -39,7 +40,7 @@ SpellsNoScript (Some input) = IsNoScript input
 abbrev pub IsAnswer : Status → Option (List ℕ) → Option (List ℕ) → Option (List ℕ) → Type 0
 IsAnswer status.Done input old new = IsReplayed input old new
 IsAnswer status.Usage input old new = ⊥
-IsAnswer (status.Script fault) input old new = SpellsNoScript input × (new ≡ old)
+IsAnswer (status.Script fault) input old new = SpellsNoScript input × IsInLimit input × (new ≡ old)
 IsAnswer status.ReadFault input old new = new ≡ old
 IsAnswer status.WriteFault input old new = Unit {0}
 IsAnswer status.TooLong input old new = IsTooLong input × (new ≡ old)

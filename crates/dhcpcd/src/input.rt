@@ -39,6 +39,7 @@ fn piece_buffer(alloc: Global) -> Result<Vec<u8>, NoMemory>
 /// Reads all of the input, up to its limit.
 pub fn read_all<I: Source>(alloc: Global, input: &mut I) -> Result<Vec<u8>, Status>
     ensures ok { IfOk result (λ all. IsInput (I.left input.old) all.items × (I.faults input.old ≤ I.faults input.new)) }
+    ensures in_limit { IfOk result (λ all. length all.items ≤ limit) }
     ensures cause { IfErr result (λ status. HasStatusCause status (I.faults input.old) (I.faults input.new) 0 0 × StopsReading status) }
     ensures too_long { result ≡ Err Status.TooLong → IsTooLong (I.left input.old) }
 {

@@ -21,8 +21,8 @@ use replay_text::{Script, ScriptAnswer, ScriptCause, ScriptFault, read_script};
 use std::alloc::Global;
 use world::{DeviceAnswer, Sink, Source};
 
-#[tactic(auto, using(crate::proofs::WholeLife::lived, crate::proofs::WholeLife::all_come))]
 /// Lives the script's life over devices in memory, and writes its lines.
+#[tactic(auto, using(crate::proofs::WholeLife::lived, crate::proofs::WholeLife::all_come))]
 fn replay_life<O: Sink>(
     alloc: Global,
     managed: &[Managed],
@@ -129,8 +129,8 @@ fn write_transcript<O: Sink>(alloc: Global, settled: Settled, out: &mut O) -> Re
     Ok(())
 }
 
-#[tactic(auto, using(crate::proofs::Refusals::settled_fit, crate::proofs::Refusals::settled_rows, crate::proofs::Refusals::refused_answer))]
 /// Replays the script that the input spells, and writes its transcript.
+#[tactic(auto, using(crate::proofs::Refusals::settled_fit, crate::proofs::Refusals::settled_rows, crate::proofs::Refusals::refused_answer))]
 pub fn replay<I: Source, O: Sink>(alloc: Global, input: &mut I, out: &mut O) -> Result<(), Status>
     ensures ok { IfOk result (λ _. IsReplayed (I.left input.old) (O.written out.old) (O.written out.new) × (I.faults input.old ≤ I.faults input.new) × (O.faults out.old ≤ O.faults out.new)) }
     ensures err { IfErr result (λ status. IsAnswer status (I.left input.old) (O.written out.old) (O.written out.new)) }

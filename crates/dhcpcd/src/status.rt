@@ -1,3 +1,6 @@
+ghost use Rattle.std.specs.Prelude.{◌≡◌};
+ghost use Rattle.dhcpcd.specs.Statuses.{status_number};
+
 use replay_text::ScriptFault;
 use world::NoMemory;
 
@@ -18,7 +21,6 @@ pub enum Status {
 }
 
 impl From<NoMemory> for Status {
-    ghost use Rattle.std.specs.Prelude.{◌≡◌};
     ghost use Rattle.dhcpcd.specs.declared.status.Status.TheVariants.{NoMemory as no_memory};
 
     ghost from_gives = { λ _ status. status ≡ no_memory };
@@ -30,7 +32,9 @@ impl From<NoMemory> for Status {
 
 impl Status {
     /// The exit status of the program.
-    pub fn number(self) -> u8 {
+    pub fn number(self) -> u8
+        ensures { result ≡ status_number self }
+    {
         match self {
             Status::Done => 0,
             Status::Usage => 2,
