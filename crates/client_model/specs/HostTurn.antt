@@ -6,7 +6,7 @@ use Rattle.world.specs.declared.rows.HostRow.{HostRow}
 use Rattle.world.specs.RowOrder.{in_row_order, rows_beyond, with_row, without_row}
 use Rattle.world.specs.HostCalls.{HostCall, Listed, Added, Removed}
 use Rattle.client_model.specs.declared.interfaces.Managed.{Managed}
-use Rattle.client_model.specs.Interfaces.{is_managed}
+use Rattle.client_model.specs.Clients.{is_managed}
 
 pub data Change : Type 0 where
   Remove : (row : HostRow) → Change

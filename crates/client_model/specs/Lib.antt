@@ -1,11 +1,13 @@
-pub mod StaticRows
 pub mod Interfaces
+pub mod WantedRows
+pub mod Clients
+pub mod Runs
 pub mod Fitting
-pub mod StaticBasis
 pub mod HostTurn
+pub mod Sends
 pub mod Turns
 pub mod Opening
 pub mod Lines
 pub mod Lives
-pub mod ToldDevices
 pub mod Scripts
+pub mod ToldDevices

@@ -27,6 +27,7 @@ pub data Line : Type 0 where
   Settled : (done : Bool) → Line
   Read : (name : List ℕ) → (reading : Reading) → Line
   Turn : (at salt : ℕ) → (event : Event) → (bytes : List ℕ) → Line
+  Send : (iface : IfIndex) → (bytes : List ℕ) → (taken : Bool) → Line
   HostListed : (count : ℕ) → Line
   Row : (row : HostRow) → Line
   HostListFailed : Line
@@ -102,6 +103,7 @@ line_words (Removed name done) = codes "store remove " ++ name ++ codes " " ++ o
 line_words (Settled done) = codes "store settle " ++ outcome_text done
 line_words (Read name reading) = codes "store read " ++ name ++ codes " " ++ reading_text reading
 line_words (Turn at salt event bytes) = turn_text at salt event bytes
+line_words (Send iface bytes taken) = codes "send " ++ decimal iface.number ++ codes " " ++ hex_text bytes ++ codes " " ++ outcome_text taken
 line_words (HostListed count) = codes "host list ok " ++ decimal count
 line_words (Row row) = codes "row " ++ row_text row
 line_words HostListFailed = codes "host list failed"

@@ -1,13 +1,14 @@
 -- The lines of a life, from what it met.
-use Rattle.std.specs.Prelude.{ℕ, Bool, List, [], ◌∷◌, ◌++◌, map, flat_map, length, Option, Some, None}
+use Rattle.std.specs.Prelude.{ℕ, ◌≡◌, Bool, List, [], ◌∷◌, ◌++◌, map, flat_map, length, Option, Some, None}
 use Rattle.world.specs.declared.rows.HostRow.{HostRow}
 use Rattle.world.specs.declared.rows.HostRow.TheVariants.{Addr, Route}
 use Rattle.world.specs.StoreCalls.{Reading}
 use Rattle.world.specs.HostCalls as calls
 use Rattle.client_model.specs.declared.interfaces.Managed.{Managed}
-use Rattle.client_model.specs.Interfaces.{stepped, rows_of}
+use Rattle.client_model.specs.Clients.{Sending, rows_of}
 use Rattle.client_model.specs.HostTurn.{AnswersAll, host_calls}
-use Rattle.client_model.specs.Turns.{Life, Met, moment_of, turned, until, life_after}
+use Rattle.client_model.specs.Sends.{AnswersSends}
+use Rattle.client_model.specs.Turns.{Life, Met, moment_of, step_of, wanted_in, turned, until, life_after}
 use Rattle.client_model.specs.Opening.{Aside, OpeningMet, file_names, opened_client, opened_life}
 use Rattle.client_model.specs.Lines as lines
 use Rattle.client_model.specs.Lines.{Line}
@@ -21,23 +22,32 @@ call_lines (calls.Removed row done) = lines.HostDel row done ∷ []
 abbrev pub host_lines : List calls.HostCall → List Line
 host_lines made = flat_map call_lines made
 
--- one turn: what came, the host calls, and what the next wait is asked
+-- each frame that was offered
+abbrev pub send_lines : List Sending → List Bool → List Line
+send_lines [] taken = []
+send_lines (sending ∷ sends) [] = []
+send_lines (sending ∷ sends) (ok ∷ taken) = lines.Send sending.iface sending.bytes ok ∷ send_lines sends taken
+
+-- one turn: what came, the frames offered, the host calls, and what the next wait is asked
 abbrev pub turn_lines : List Managed → Life → Met → List Line
 turn_lines managed life met =
     lines.Turn (moment_of life met.wake) met.wake.salt met.wake.event met.bytes
-    ∷ (host_lines (host_calls managed life.known (rows_of (stepped met.wake.event life.client)) met.host)
-    ++ lines.Until (until (turned managed life met)) ∷ [])
+    ∷ (send_lines (step_of life met.wake met.bytes).sends met.taken
+    ++ (host_lines (host_calls managed life.known (wanted_in life met.wake met.bytes) met.host)
+    ++ lines.Until (until (turned managed life met)) ∷ []))
 
 abbrev pub turns_lines : List Managed → Life → List Met → List Line
 turns_lines managed life [] = []
 turns_lines managed life (met ∷ mets) = turn_lines managed life met ++ turns_lines managed (turned managed life met) mets
 
--- each host change of each turn has an answer
+-- each call of a turn has its answer
+pub record Answers (managed : List Managed) (life : Life) (met : Met) : Type 0 where
+  pub sends : AnswersSends (step_of life met.wake met.bytes).sends met.taken
+  pub host : AnswersAll managed life.known (wanted_in life met.wake met.bytes) met.host
+
 abbrev pub AllAnswered : List Managed → Life → List Met → Type 0
 AllAnswered managed life [] = Unit {0}
-AllAnswered managed life (met ∷ mets) =
-    AnswersAll managed life.known (rows_of (stepped met.wake.event life.client)) met.host
-    × AllAnswered managed (turned managed life met) mets
+AllAnswered managed life (met ∷ mets) = Answers managed life met × AllAnswered managed (turned managed life met) mets
 
 abbrev pub removal_line : Aside → Line
 removal_line aside = lines.Removed aside.name aside.removed

@@ -3,7 +3,7 @@ use Rattle.std.specs.Prelude.{ℕ, ◌≡◌, Bool, List, [], ◌∷◌, length,
 use Rattle.world.specs.declared.wakes.Begin.{Begin}
 use Rattle.world.specs.StoreCalls.{Reading}
 use Rattle.client_model.specs.declared.interfaces.Managed.{Managed}
-use Rattle.client_model.specs.Interfaces.{Client, opening, rows_of}
+use Rattle.client_model.specs.Clients.{Client, opening, rows_of}
 use Rattle.client_model.specs.HostTurn.{HostMet, AnswersAll, known_after}
 use Rattle.client_model.specs.Turns.{Life, capped}
 
@@ -34,12 +34,12 @@ SettlesIfAny (Some (aside ∷ asides)) None = ⊥
 SettlesIfAny (Some (aside ∷ asides)) (Some done) = Unit {0}
 
 abbrev pub opened_client : List Managed → OpeningMet → Client
-opened_client managed met = opening managed met.begin.up
+opened_client managed met = opening managed met.begin.up (capped met.begin.at)
 
 abbrev pub opened_life : List Managed → OpeningMet → Life
 opened_life managed met =
     let client = opened_client managed met in
-    record { client = client; known = known_after managed None (rows_of client) met.host; now = capped met.begin.at; stop = None }
+    record { client = client; known = known_after managed None (rows_of client) met.host; now = capped met.begin.at; stop = None; unsent = 0 }
 
 -- each call has its answer
 pub record Opens (managed : List Managed) (met : OpeningMet) : Type 0 where

@@ -8,10 +8,12 @@ use Rattle.world.specs.HostCalls.{HostTold, Listed, host_answered}
 use Rattle.world.specs.LinkCalls.{Given, cut_wake, frame_len}
 use Rattle.world.specs.StoreCalls.{Missing}
 use Rattle.client_model.specs.declared.interfaces.Managed.{Managed}
-use Rattle.client_model.specs.Interfaces.{stepped, rows_of, opening}
+use Rattle.client_model.specs.Clients.{rows_of, opening}
 use Rattle.client_model.specs.HostTurn.{Change, HostMet, change_call, applied, changes_from, learnt}
-use Rattle.client_model.specs.Turns.{Life, Met, turned, is_over, is_end}
+use Rattle.client_model.specs.Sends.{sends_taken}
+use Rattle.client_model.specs.Turns.{Life, Met, step_of, wanted_in, turned, capped, is_over, is_end}
 use Rattle.client_model.specs.Opening.{OpeningMet, file_names}
+use Rattle.client_model.specs.Scripts.{frame_room}
 
 -- whether the host's next call fails
 abbrev pub fails_next : List ℕ → HostTold → Bool
@@ -59,30 +61,46 @@ told_host managed failing known wanted told =
 abbrev pub told_host_for : List Managed → Option (List HostRow) → List HostRow → List ℕ → HostTold → HostStep HostMet
 told_host_for managed known wanted failing told = told_host managed failing known wanted told
 
--- the room for a frame
-abbrev pub frame_room : ℕ
-frame_room = 2048
-
 abbrev pub told_wake : Given → Wake
 told_wake given = cut_wake given frame_room
 
-abbrev pub told_turn : List Managed → List ℕ → Life → HostTold → Given → HostStep Met
+abbrev pub told_bytes : Given → List ℕ
+told_bytes given = take (frame_len (told_wake given).event) given.bytes
+
+-- which calls fail, by their numbers from 1
+pub record Failing : Type 0 where
+  pub sends : List ℕ
+  pub host : List ℕ
+
+-- what the devices tell between two turns: how many frames were offered, and the host
+pub record Told : Type 0 where
+  pub sent : ℕ
+  pub host : HostTold
+
+pub record TurnStep : Type 0 where
+  pub met : Met
+  pub told : Told
+
+abbrev pub told_turn : List Managed → Failing → Life → Told → Given → TurnStep
 told_turn managed failing life told given =
-    let wake = told_wake given in
-    let host = told_host managed failing life.known (rows_of (stepped wake.event life.client)) told in
-    record { answer = record { wake = wake; bytes = take (frame_len wake.event) given.bytes; host = host.answer }; told = host.told }
+    let sends = (step_of life (told_wake given) (told_bytes given)).sends in
+    let host = told_host managed failing.host life.known (wanted_in life (told_wake given) (told_bytes given)) told.host in
+    record {
+      met = record { wake = told_wake given; bytes = told_bytes given; taken = sends_taken failing.sends told.sent sends; host = host.answer };
+      told = record { sent = told.sent + length sends; host = host.told };
+    }
 
 -- the turns of a life, up to the one that ends it
-abbrev pub told_turns : List Managed → List ℕ → Life → HostTold → List Given → List Met
+abbrev pub told_turns : List Managed → Failing → Life → Told → List Given → List Met
 told_turns managed failing life told [] = []
 told_turns managed failing life told (given ∷ coming) =
     let turn = told_turn managed failing life told given in
-    if is_over life || is_end given.wake.event then [] else turn.answer ∷ told_turns managed failing (turned managed life turn.answer) turn.told coming
+    if is_over life || is_end given.wake.event then [] else turn.met ∷ told_turns managed failing (turned managed life turn.met) turn.told coming
 
 -- an opening over a store without files and without failures
 abbrev pub told_opening : List Managed → List ℕ → Begin → HostTold → HostStep OpeningMet
 told_opening managed failing begin told =
-    let host = told_host managed failing None (rows_of (opening managed begin.up)) told in
+    let host = told_host managed failing None (rows_of (opening managed begin.up (capped begin.at))) told in
     record {
       answer = record { begin = begin; asides = Some []; settled = None; readings = map (λ name. Missing) file_names; host = host.answer };
       told = host.told;

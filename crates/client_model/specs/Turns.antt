@@ -1,12 +1,15 @@
--- One turn of a life: a wake, the client's step, the host calls, and the moment that the next wait is asked for.
+-- One turn of a life: a wake, the client's step, the frames offered, the host calls, and the moment that the next wait is
+-- asked for.
 use Rattle.std.specs.Prelude.{ℕ, ◌+◌, ◌-◌, ◌^◌, Bool, true, false, min, max, nat_le, List, [], ◌∷◌, Option, Some, None}
 use Rattle.world.specs.declared.wakes.Event.{Event}
 use Rattle.world.specs.declared.wakes.Event.TheVariants.{Stop, End}
 use Rattle.world.specs.declared.wakes.Wake.{Wake}
 use Rattle.world.specs.declared.rows.HostRow.{HostRow}
 use Rattle.client_model.specs.declared.interfaces.Managed.{Managed}
-use Rattle.client_model.specs.Interfaces.{Client, stepped, rows_of}
+use Rattle.client_model.specs.Interfaces.{TurnInput}
+use Rattle.client_model.specs.Clients.{Client, ClientStep, client_turned, client_due, earlier, rows_of}
 use Rattle.client_model.specs.HostTurn.{HostMet, known_after}
+use Rattle.client_model.specs.Sends.{unsent_after}
 
 -- a life between two turns
 pub record Life : Type 0 where
@@ -17,11 +20,14 @@ pub record Life : Type 0 where
   pub now : ℕ
   -- the moment of the stop, once it came
   pub stop : Option ℕ
+  -- the set of interfaces on which a send failed in the last turn
+  pub unsent : ℕ
 
--- what a turn met: its wake with the bytes of the frame, and what the host answered
+-- what a turn met: its wake with the bytes of the frame, which of its frames the link took, and what the host answered
 pub record Met : Type 0 where
   pub wake : Wake
   pub bytes : List ℕ
+  pub taken : List Bool
   pub host : HostMet
 
 -- moments end below 10 ^ 15 and don't go back
@@ -42,17 +48,25 @@ stop_after (Some at) event now = Some at
 stop_after None Stop now = Some now
 stop_after None event now = None
 
-abbrev pub turned : List Managed → Life → Met → Life
-turned managed life met =
-    let client = stepped met.wake.event life.client in
-    let now = moment_of life met.wake in
-    record { client = client; known = known_after managed life.known (rows_of client) met.host; now = now; stop = stop_after life.stop met.wake.event now }
+-- the turn as the interfaces meet it
+abbrev pub input_of : Life → Wake → List ℕ → TurnInput
+input_of life wake bytes = record { at = moment_of life wake; salt = wake.salt; unsent = life.unsent; event = wake.event; bytes = bytes }
 
--- the earlier of two moments, where there are any
-abbrev pub earlier : Option ℕ → Option ℕ → Option ℕ
-earlier None b = b
-earlier (Some a) None = Some a
-earlier (Some a) (Some b) = Some (min a b)
+abbrev pub step_of : Life → Wake → List ℕ → ClientStep
+step_of life wake bytes = client_turned (input_of life wake bytes) life.client
+
+-- the rows that are wanted then
+abbrev pub wanted_in : Life → Wake → List ℕ → List HostRow
+wanted_in life wake bytes = rows_of (step_of life wake bytes).client
+
+abbrev pub turned : List Managed → Life → Met → Life
+turned managed life met = record {
+  client = (step_of life met.wake met.bytes).client;
+  known = known_after managed life.known (wanted_in life met.wake met.bytes) met.host;
+  now = moment_of life met.wake;
+  stop = stop_after life.stop met.wake.event (moment_of life met.wake);
+  unsent = unsent_after (step_of life met.wake met.bytes).sends met.taken;
+}
 
 -- an unknown table is looked at again after a second
 abbrev pub retry_at : Option (List HostRow) → ℕ → Option ℕ
@@ -66,7 +80,7 @@ end_at (Some at) = Some (at + 5000)
 
 -- the moment that the next wait is asked for
 abbrev pub until : Life → Option ℕ
-until life = earlier (retry_at life.known life.now) (end_at life.stop)
+until life = earlier (client_due life.client.ifaces) (earlier (retry_at life.known life.now) (end_at life.stop))
 
 abbrev pub is_past : Option ℕ → ℕ → Bool
 is_past None now = false

@@ -1,3 +1,4 @@
+use ipv4ll::LinkLocal;
 use net_types::{IfSpec, Ip4, Net4};
 
 /// What the `static` lines of an interface give it.
@@ -9,11 +10,22 @@ pub struct StaticLine {
     pub router: Option<Ip4>,
 }
 
-/// A managed interface and its configuration, as far as it is built.
+/// What the configuration says of an interface, as far as it is built.
+#[derive(Clone, Copy, Debug, PartialEq, Eq)]
+pub struct IfConf {
+    /// `nodhcp`: no DHCPv4 runs.
+    pub nodhcp: bool,
+    /// `noipv4ll`: no link-local address is chosen.
+    pub noipv4ll: bool,
+    /// `static ip_address` with `static routers`.
+    pub line: Option<StaticLine>,
+}
+
+/// A managed interface and its configuration.
 #[derive(Clone, Copy, Debug, PartialEq, Eq)]
 pub struct Managed {
     pub spec: IfSpec,
-    pub line: StaticLine,
+    pub conf: IfConf,
 }
 
 /// A managed interface in a life.
@@ -22,4 +34,8 @@ pub struct Iface {
     pub managed: Managed,
     /// Whether it has carrier.
     pub up: bool,
+    /// Whether the daemon was told to stop.
+    pub stopped: bool,
+    /// Its link-local address.
+    pub local: LinkLocal,
 }

@@ -1,12 +1,14 @@
-ghost use Rattle.std.specs.Prelude.{◌≡◌, true};
-ghost use Rattle.net_types.specs.declared.address.Net.{Net};
-ghost use Rattle.net_types.specs.declared.interface.IfIndex.{IfIndex};
-ghost use Rattle.world.specs.declared.rows.HostRow.TheVariants.{Addr};
-ghost use Rattle.world.specs.RowOrder.{has_row};
-ghost use Rattle.client_model.specs.Interfaces.{Client, rows_of};
-ghost use Rattle.client_model.specs.StaticBasis.{StaticBasis};
+ghost use Rattle.std.specs.Prelude.{List};
+ghost use Rattle.client_model.specs.Interfaces.{TurnInput};
+ghost use Rattle.client_model.specs.Clients.{Client};
+ghost use Rattle.client_model.specs.Runs.{RunsApart, IsQuietElsewhere};
 
-/// No address is wanted without a cause: the static line of an interface that is up gives it.
-pub fn addresses_have_a_basis()
-    ensures { (client : Client) (index : IfIndex) (net : Net) → has_row (rows_of client) (Addr index net) ≡ true → StaticBasis client index net }
+/// Law: over every list of turns each interface runs as it would alone, and the client's frames are theirs, one interface after another.
+pub fn interfaces_run_apart()
+    ensures { (client : Client) (turn : TurnInput) (before : List TurnInput) → RunsApart client turn before }
+{}
+
+/// Law: an input that names one interface changes nothing in another's run.
+pub fn other_inputs_are_quiet()
+    ensures { IsQuietElsewhere }
 {}

@@ -1,8 +1,10 @@
 //! What the daemon is: the abstract client that several crates speak of. Definitions, and the laws about them.
 #![tactic(auto)]
 
+mod failing;
 mod interfaces;
 mod laws;
 
-pub use interfaces::{Iface, Managed, StaticLine};
-pub use laws::addresses_have_a_basis;
+pub use failing::{FailDevice, FailLine};
+pub use interfaces::{IfConf, Iface, Managed, StaticLine};
+pub use laws::{interfaces_run_apart, other_inputs_are_quiet};

@@ -1,5 +1,5 @@
--- The rows that static lines give, computed from scratch.
-use Rattle.std.specs.Prelude.{ℕ, ◌+◌, ◌-◌, ◌/◌, ◌%◌, ◌^◌, Bool, false, not, ◌&&◌, ◌||◌, ◌==◌, nat_lt, if◌then◌else◌, List, [], ◌∷◌, ◌++◌, filter, flat_map, Option, Some, None}
+-- The rows that the interfaces' addresses give, computed from scratch.
+use Rattle.std.specs.Prelude.{ℕ, ◌+◌, ◌-◌, ◌/◌, ◌%◌, ◌^◌, Bool, true, false, not, ◌&&◌, ◌||◌, ◌==◌, nat_lt, if◌then◌else◌, List, [], ◌∷◌, ◌++◌, filter, flat_map, Option, Some, None}
 use Rattle.std.specs.List.{list_any}
 use Rattle.std.specs.Ordering.{is_lt}
 use Rattle.net_types.specs.declared.address.Ip4.{Ip4}
@@ -11,6 +11,7 @@ use Rattle.world.specs.declared.rows.HostRow.{HostRow}
 use Rattle.world.specs.declared.rows.HostRow.TheVariants.{Addr, Route}
 use Rattle.world.specs.declared.rows.Via.TheVariants.{OnLink, Gate4}
 use Rattle.world.specs.RowOrder.{family, net_number, net_len, row_iface, row_cmp, in_row_order}
+use Rattle.ipv4ll.specs.Table.{held_in}
 use Rattle.client_model.specs.declared.interfaces.StaticLine.{StaticLine}
 use Rattle.client_model.specs.declared.interfaces.Iface.{Iface}
 
@@ -51,13 +52,31 @@ router_routes iface net (Some router) =
     Route iface (Family.V4 (record { ip = record { number = 0 }; len = 0 })) (Gate4 router) (metric_of iface)
     ∷ gateway_routes iface net router
 
-abbrev pub line_rows : IfIndex → StaticLine → List HostRow
-line_rows iface line =
-    Addr iface (Family.V4 line.address) ∷ (network_routes iface line.address ++ router_routes iface line.address line.router)
+-- an address with its network
+abbrev pub address_rows : IfIndex → Net4 → List HostRow
+address_rows iface net = Addr iface (Family.V4 net) ∷ network_routes iface net
 
--- static lines are in force while the carrier is up
+abbrev pub line_rows : IfIndex → StaticLine → List HostRow
+line_rows iface line = address_rows iface line.address ++ router_routes iface line.address line.router
+
+-- static lines are in force while the carrier is up and no stop came
+abbrev pub static_rows : IfIndex → Bool → Option StaticLine → List HostRow
+static_rows iface false line = []
+static_rows iface true None = []
+static_rows iface true (Some line) = line_rows iface line
+
+-- a link-local address is one of 169.254/16 (RFC 3927, section 2.1)
+abbrev pub local_net : Ip4 → Net4
+local_net ip = record { ip = ip; len = 16 }
+
+abbrev pub local_rows : IfIndex → Option Ip4 → List HostRow
+local_rows iface None = []
+local_rows iface (Some ip) = address_rows iface (local_net ip)
+
 abbrev pub iface_rows : Iface → List HostRow
-iface_rows f = if f.up then line_rows f.managed.spec.index f.managed.line else []
+iface_rows f =
+    static_rows f.managed.spec.index (f.up && not f.stopped) f.managed.conf.line
+    ++ local_rows f.managed.spec.index (held_in f.local.state)
 
 abbrev pub same_net : Net → Net → Bool
 same_net a b = (family a == family b) && ((net_number a == net_number b) && (net_len a == net_len b))
