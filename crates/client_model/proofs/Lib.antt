@@ -1,1 +1,4 @@
-
+mod HostTableRows
+mod HostTableChanges
+mod HostTableTurns
+mod HostTableWanted
