@@ -4,7 +4,7 @@ use Rattle.std.specs.Prelude.{filter, All}
 use Rattle.std.specs.List.{AllPass, list_all}
 use Rattle.std.specs.Option.{is_some}
 use Rattle.std.proofs.lemmas.Bool.{false≢true, and_parts, cond_both, not_from_true}
-use Rattle.std.proofs.lemmas.List.Elements.{All-head, All-tail, filter_passes}
+use Rattle.std.proofs.lemmas.List.Elements.{filter_passes}
 use Rattle.std.proofs.lemmas.List.Folds.{list_all-append}
 use Rattle.std.proofs.lemmas.List.Sums.{AllPass-from_list_all, list_all-from_AllPass}
 use Rattle.world.specs.declared.rows.HostRow.{HostRow}
@@ -14,7 +14,7 @@ use Rattle.client_model.specs.declared.interfaces.Managed.{Managed}
 use Rattle.client_model.specs.Clients.{is_managed}
 use Rattle.client_model.specs.HostTurn.{changes, changes_from, change_calls, listing_calls, learnt, after_changes, known_from}
 use Rattle.client_model.specs.ToldDevices.{fails_next, listing_from, told_listing, told_changes}
-use Rattle.client_model.specs.HostTable.{InRowOrder, managed_rows, other_rows, Wantable, KnownTruly, Table, TrueTable, table_turned, table_after, unknown_table, is_done, NoneFails, AllPast, Holds}
+use Rattle.client_model.specs.HostTable.{InRowOrder, managed_rows, other_rows, Wantable, KnownTruly, Table, TrueTable, table_turned, is_done, NoneFails, AllPast, Holds}
 use Rattle.client_model.proofs.HostTableRows.{filter_in_order}
 use Rattle.client_model.proofs.HostTableChanges.{changes_reach, filter_after, each_change, told_in_order, told_stays, told_done, calls_done, fails_no_more, all_done}
 
@@ -150,34 +150,3 @@ module _ (failing : List ℕ) where
       AllPass-from_list_all is_done (asked ++ made)
       (list_all-append is_done asked made
       ∙ ap₂ (λ a b. a && b) (asked_done table.known table.told past) (calls_done failing cs listing.told ∙ all_done failing cs listing.told (asked_past table.known table.told past)))
-
-  -- ---- turns
-
-  module _ (managed : List Managed) where
-    turns_true : (turns : List (List HostRow)) (table : Table) → All (Wantable managed) turns → TrueTable managed table → TrueTable managed (table_after managed failing turns table)
-    turns_true [] table w t = t
-    turns_true (wanted ∷ coming) table w t =
-        turns_true coming (table_turned managed failing wanted table) (All-tail (Wantable managed) wanted coming w) (turn_true managed wanted (All-head (Wantable managed) wanted coming w) table t)
-
-    turns_leave_others : (turns : List (List HostRow)) (table : Table) → All (Wantable managed) turns → TrueTable managed table
-        → other_rows managed (table_after managed failing turns table).told.rows ≡ other_rows managed table.told.rows
-    turns_leave_others [] table w t = refl
-    turns_leave_others (wanted ∷ coming) table w t =
-        let first : Wantable managed wanted = All-head (Wantable managed) wanted coming w in
-        turns_leave_others coming (table_turned managed failing wanted table) (All-tail (Wantable managed) wanted coming w) (turn_true managed wanted first table t)
-        ∙ turn_leaves_others managed wanted first table t
-
-    pub life_true : (turns : List (List HostRow)) (told : HostTold) → All (Wantable managed) turns → InRowOrder told.rows → TrueTable managed (table_after managed failing turns (unknown_table told))
-    life_true turns told w s = turns_true turns (unknown_table told) w (record { in_order = s; known = tt })
-
-    pub life_leaves_others : (turns : List (List HostRow)) (told : HostTold) → All (Wantable managed) turns → InRowOrder told.rows
-        → other_rows managed (table_after managed failing turns (unknown_table told)).told.rows ≡ other_rows managed told.rows
-    life_leaves_others turns told w s = turns_leave_others turns (unknown_table told) w (record { in_order = s; known = tt })
-
-    pub life_holds : (earlier : List (List HostRow)) (wanted : List HostRow) (told : HostTold) → All (Wantable managed) earlier → Wantable managed wanted → InRowOrder told.rows
-        → NoneFails managed failing wanted (table_after managed failing earlier (unknown_table told))
-        → Holds managed wanted told.rows (table_turned managed failing wanted (table_after managed failing earlier (unknown_table told))).told.rows
-    life_holds earlier wanted told w first s none =
-        let before = table_after managed failing earlier (unknown_table told) in
-        let holds = turn_holds managed wanted first before (life_true earlier told w s) none in
-        record { as_wanted = holds.as_wanted; others_stay = holds.others_stay ∙ life_leaves_others earlier told w s }

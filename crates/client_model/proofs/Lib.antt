@@ -2,3 +2,4 @@ mod HostTableRows
 mod HostTableChanges
 mod HostTableTurns
 mod HostTableWanted
+mod HostInLifeTurns

@@ -1,5 +1,5 @@
--- What a host that tells its table holds after turns, each turn given by the rows that are wanted in it.
-use Rattle.std.specs.Prelude.{ℕ, ◌≡◌, ◌≤◌, Bool, true, false, not, List, [], ◌∷◌, length, filter, All, Option, Some, None}
+-- What a host that tells its rows and which calls fail holds after a turn, given the rows that are wanted in it.
+use Rattle.std.specs.Prelude.{ℕ, ◌≡◌, ◌≤◌, Bool, true, false, not, List, length, filter, All, Option, Some, None}
 use Rattle.std.specs.List.{AllPass}
 use Rattle.std.specs.List.Sorted.{IsStrictlySortedBy}
 use Rattle.world.specs.declared.rows.HostRow.{HostRow}
@@ -51,11 +51,6 @@ table_turned managed failing wanted table = record {
   known = known_after managed table.known wanted (table_met managed failing wanted table);
   told = (told_host managed failing table.known wanted table.told).told;
 }
-
--- the table after turns, one for each list of wanted rows
-abbrev pub table_after : List Managed → List ℕ → List (List HostRow) → Table → Table
-table_after managed failing [] table = table
-table_after managed failing (wanted ∷ coming) table = table_after managed failing coming (table_turned managed failing wanted table)
 
 -- the table of a client that begins: nothing is known
 abbrev pub unknown_table : HostTold → Table

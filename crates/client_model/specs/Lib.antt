@@ -12,3 +12,4 @@ pub mod Lives
 pub mod Scripts
 pub mod ToldDevices
 pub mod HostTable
+pub mod HostInLife

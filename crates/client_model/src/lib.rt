@@ -8,7 +8,7 @@ mod laws;
 
 pub use failing::{FailDevice, FailLine};
 pub use host_law::{
-    a_turn_brings_the_wanted_rows, the_host_holds_the_wanted_rows, wanted_rows_can_be_wanted,
+    a_life_holds_the_wanted_rows, a_turn_brings_the_wanted_rows, wanted_rows_can_be_wanted,
 };
 pub use interfaces::{IfConf, Iface, Managed, StaticLine};
 pub use laws::{interfaces_run_apart, other_inputs_are_quiet};
