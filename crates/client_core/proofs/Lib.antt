@@ -1,3 +1,5 @@
 pub mod Fit
 pub mod Order
 pub mod RowsFit
+pub mod SameRows
+pub mod InPlace
