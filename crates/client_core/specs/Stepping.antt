@@ -1,6 +1,8 @@
 -- A turn of the client, and of its interfaces one after another.
 use Rattle.std.specs.Prelude.{◌≡◌, List, ◌++◌, map, flat_map}
+use Rattle.std.specs.List.{AllByRecursion}
 use Rattle.net_types.specs.declared.address.Mac.{Mac}
+use Rattle.world.specs.Rows.{IsInterface}
 use Rattle.client_model.specs.declared.interfaces.Iface.{Iface}
 use Rattle.client_model.specs.Interfaces.{TurnInput, iface_turned}
 use Rattle.client_model.specs.Clients.{Client, ClientStep, Sending, sends_of}
@@ -9,6 +11,10 @@ use Rattle.client_model.specs.Clients.{Client, ClientStep, Sending, sends_of}
 pub record Steps (step : ClientStep) (client : Client) (sends : List Sending) : Type 0 where
   pub goes_on : client ≡ step.client
   pub offers : sends ≡ step.sends
+
+-- each frame is offered on an interface
+abbrev pub AreOnInterfaces : List Sending → Type 0
+AreOnInterfaces sends = AllByRecursion (λ s. IsInterface s.iface.number) sends
 
 -- how an interface goes on
 abbrev pub goes_on : List Mac → TurnInput → Iface → Iface

@@ -13,8 +13,9 @@ use Rattle.client_model.specs.WantedRows.{wanted_rows}
 use Rattle.client_model.specs.Fitting.{AreIfaces}
 use Rattle.iface_core.specs.Inputs.{turn_of}
 use Rattle.iface_core.specs.Outcomes.{sends_in}
-use Rattle.client_core.specs.Stepping.{GoAll, Steps, goes_on, offers}
+use Rattle.client_core.specs.Stepping.{AreOnInterfaces, GoAll, Steps, goes_on, offers}
 use Rattle.client_core.proofs.Fit.{turned_fit}
+use Rattle.client_core.proofs.SendsFit.{turned_on}
 use Rattle.client_core.proofs.clients.step.Goals as goal
 
 -- the interfaces once each has gone on in its place
@@ -52,8 +53,8 @@ invariant_of-core c = (
   c.in_ok-wanted.ensures ∙ ap wanted_rows c.deref-2.ensures.value,
 )
 
-pub returns : goal.returns
-returns c =
+pub returns-clause-steps : goal.returns-clause-steps
+returns-clause-steps c =
     let own : List Mac = c.core.inside.own.items in
     let turn : TurnInput = turn_of c.args.turn in
     let ifaces : Vec Iface = c.core.inside.ifaces in
@@ -65,3 +66,15 @@ returns c =
     ∙ ap (λ (sends : List Sending). sends ++ flat_map (offers c.deref.result.now turn) c.deref_mut.result.now) c.new-outs.ensures
     ∙ ap (λ (o : List Mac). flat_map (offers o turn) c.deref_mut.result.now) c.deref.ensures.value
     ∙ ap (flat_map (offers own turn)) c.deref_mut.ensures.value)
+
+pub returns-clause-on_interfaces : goal.returns-clause-on_interfaces
+returns-clause-on_interfaces c =
+    let own : List Mac = c.core.inside.own.items in
+    let turn : TurnInput = turn_of c.args.turn in
+    let ifaces : Vec Iface = c.core.inside.ifaces in
+    subst AreOnInterfaces
+    (sym (c.in_ok-changed.ensures.goes.offer
+    ∙ ap (λ (sends : List Sending). sends ++ flat_map (offers c.deref.result.now turn) c.deref_mut.result.now) c.new-outs.ensures
+    ∙ ap (λ (o : List Mac). flat_map (offers o turn) c.deref_mut.result.now) c.deref.ensures.value
+    ∙ ap (flat_map (offers own turn)) c.deref_mut.ensures.value))
+    (turned_on own turn ifaces.items c.core.invariant.0)
