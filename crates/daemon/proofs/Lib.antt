@@ -8,3 +8,4 @@ pub mod OpeningsMade
 pub mod Wakings
 pub mod Causes
 pub mod Whole
+pub mod CutOffs

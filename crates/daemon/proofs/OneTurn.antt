@@ -18,7 +18,7 @@ use Rattle.daemon.specs.TurnsMade.{met_with, MakesTurn}
 use Rattle.daemon.specs.Serving.{WritesLines, IsRest, AreForetold, AreWhole, Passes, Goes, Ends}
 use Rattle.daemon.specs.Waking.{WritesBytes}
 
-abbrev woke : Wake → Result Wake DeviceAnswer
+abbrev pub woke : Wake → Result Wake DeviceAnswer
 woke wake = Ok wake
 
 -- the text of a turn was written

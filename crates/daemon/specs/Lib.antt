@@ -6,3 +6,4 @@ pub mod Serving
 pub mod Waking
 pub mod Openings
 pub mod Served
+pub mod Cuts
