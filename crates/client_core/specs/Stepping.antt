@@ -1,6 +1,7 @@
 -- A turn of the client, and of its interfaces one after another.
 use Rattle.std.specs.Prelude.{◌≡◌, List, ◌++◌, map, flat_map}
 use Rattle.net_types.specs.declared.address.Mac.{Mac}
+use Rattle.world.specs.Rows.{IsInterface}
 use Rattle.client_model.specs.declared.interfaces.Iface.{Iface}
 use Rattle.client_model.specs.Interfaces.{TurnInput, iface_turned}
 use Rattle.client_model.specs.Clients.{Client, ClientStep, Sending, sends_of}
@@ -9,6 +10,9 @@ use Rattle.client_model.specs.Clients.{Client, ClientStep, Sending, sends_of}
 pub record Steps (step : ClientStep) (client : Client) (sends : List Sending) : Type 0 where
   pub goes_on : client ≡ step.client
   pub offers : sends ≡ step.sends
+
+abbrev pub IsOnInterface : Sending → Type 0
+IsOnInterface sending = IsInterface sending.iface.number
 
 -- how an interface goes on
 abbrev pub goes_on : List Mac → TurnInput → Iface → Iface
