@@ -1,5 +1,5 @@
 -- Causes after calls that were done.
-use Rattle.std.proofs.Common.{ℕ, ◌≡◌, ◌≤◌, Result, Ok, Err, IfErr, sym, subst, arith}
+use Rattle.std.proofs.Common.{ℕ, ◌≡◌, ◌≤◌, Result, Ok, Err, IfErr, sym, ap, subst, arith}
 use Rattle.std.specs.Prelude.{IsErrAnd}
 use Rattle.daemon.specs.declared.serving.ServeEnd.{ServeEnd}
 use Rattle.daemon.specs.declared.serving.ServeEnd.TheVariants as ends
@@ -30,3 +30,10 @@ not_turns_over ends.NoMemory a b p q h e = absurd cc
 pub error_is : {A E : Type 0} (r : Result A E) (error : E) (P : E → Type 0) → IsErrAnd r (λ e. e ≡ error) → P error → IfErr r P
 error_is (Ok a) error P is p = tt
 error_is (Err e) error P is p = subst P (sym is) p
+
+abbrev pub failed : {B E : Type 0} → E → Result B E
+failed e = Err e
+
+-- the error that `?` handed on is the one that came
+pub error_was : {A B E : Type 0} (r : Result A E) (error other : E) → IsErrAnd r (λ e. e ≡ error) → r ≡ Err other → failed {B} {E} error ≡ failed {B} {E} other
+error_was {A} {B} {E} r error other is same = ap (λ (e : E). failed {B} {E} e) (sym (subst (λ (x : Result A E). IsErrAnd x (λ e. e ≡ error)) same is))

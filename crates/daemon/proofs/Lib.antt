@@ -4,6 +4,7 @@ pub mod Calls
 pub mod Printings
 pub mod Stretches
 pub mod Offers
+pub mod TurnSteps
 pub mod OneTurn
 pub mod OpeningsMade
 pub mod Wakings

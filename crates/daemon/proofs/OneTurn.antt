@@ -114,7 +114,7 @@ module _ (managed : List Managed) (failing : Failing) (from : Life) (link : Link
       (rest_of given coming wake_is (bytes_are ∙ comes.1)
           ∙ ap (λ (t : Told). met_with wake bytes taken met ∷ told_turns managed failing (turned managed from (met_with wake bytes taken met)) t coming) (sym told_after)
           ∙ ap (λ (c : List Given). met_with wake bytes taken met ∷ told_turns managed failing (turned managed from (met_with wake bytes taken met)) (told_by link_after after_told) c) (sym comes_on),
-        ap (λ (c : List Given). 1 + length c) (sym comes_on)) in
+        omega (arith, ap length comes_on)) in
       subst (λ (l : Option LinkTold). IsRest managed failing (told_turns managed failing from (told_by link host) (given ∷ coming)) (length (given ∷ coming)) (met_with wake bytes taken met ∷ []) (turned managed from (met_with wake bytes taken met)) host_to l) (sym (offers ∙ ap (option_map (offered_all sends taken)) comes.2))
       (subst (λ (h : Option HostTold). IsRest managed failing (told_turns managed failing from (told_by link host) (given ∷ coming)) (length (given ∷ coming)) (met_with wake bytes taken met ∷ []) (turned managed from (met_with wake bytes taken met)) h (Some link_after)) (sym told.1) base)
 

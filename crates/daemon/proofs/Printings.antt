@@ -69,10 +69,9 @@ send_lines-more : (sent : List Sent) (one : Sent)
 send_lines-more [] one = refl
 send_lines-more (s ∷ sent) one = ap (λ (ls : List Line). lines.Send s.sending.iface s.sending.bytes.items s.taken ∷ ls) (send_lines-more sent one)
 
-pub sends_more : (sent : List Sent) (i : ℕ) (d : Sent) (bytes t u v : List ℕ) → i < length sent → bytes ≡ (get_or sent i d).sending.bytes.items
-    → Prints t u (send_lines (sendings_of (take i sent)) (taken_of (take i sent))) → Prints u v (lines.Send (get_or sent i d).sending.iface bytes (get_or sent i d).taken ∷ [])
+pub sends_more : (sent : List Sent) (i : ℕ) (d : Sent) (t u v : List ℕ) → i < length sent
+    → Prints t u (send_lines (sendings_of (take i sent)) (taken_of (take i sent))) → Prints u v (send_lines (sendings_of (get_or sent i d ∷ [])) (taken_of (get_or sent i d ∷ [])))
     → Prints t v (send_lines (sendings_of (take (i + 1) sent)) (taken_of (take (i + 1) sent)))
-sends_more sent i d bytes t u v lt same p q =
-    let one : Sent = get_or sent i d in
-    prints_same (prints_then p (prints_same q (ap (λ (bs : List ℕ). lines.Send one.sending.iface bs one.taken ∷ []) same)))
-    (sym (send_lines-more (take i sent) one) ∙ ap (λ (ss : List Sent). send_lines (sendings_of ss) (taken_of ss)) (sym (take_more sent i d lt)))
+sends_more sent i d t u v lt p q =
+    prints_same (prints_then p q)
+    (sym (send_lines-more (take i sent) (get_or sent i d)) ∙ ap (λ (ss : List Sent). send_lines (sendings_of ss) (taken_of ss)) (sym (take_more sent i d lt)))

@@ -88,7 +88,7 @@ pub whole_then : (managed : List Managed) (failing : Option Failing) (a b : List
 whole_then managed None a b from mid host host_mid link link_mid p q = tt
 whole_then managed (Some f) a b from mid None host_mid link link_mid p q = tt
 whole_then managed (Some f) a b from mid (Some h) host_mid None link_mid p q = tt
-whole_then managed (Some f) a b from mid (Some h) host_mid (Some l) link_mid p q = whole_rest managed f (told_turns managed f from h l.coming) (length l.coming) a b mid host_mid link_mid p q
+whole_then managed (Some f) a b from mid (Some h) host_mid (Some l) link_mid p q = whole_rest managed f (told_turns managed f from (told_by l h) l.coming) (length l.coming) a b mid host_mid link_mid p q
 
 pub ends_then : (managed : List Managed) (failing : Option Failing) (from mid to : Life) (host host_mid : Option HostTold) (link link_mid : Option LinkTold) (out out_mid out_to : Option (List ℕ)) (a b : List Met)
     → Goes managed failing from host link out mid host_mid link_mid out_mid a → Ends managed failing mid host_mid link_mid out_mid to out_to b

@@ -14,7 +14,7 @@ use Rattle.client_model.specs.Lines.{Line}
 use Rattle.client_model.specs.ToldDevices.{Failing, Determined, told_host, told_host_for, told_opening, told_turns}
 use Rattle.daemon.specs.Printing.{Prints}
 use Rattle.daemon.specs.Openings.{FindsNothing, MakesOpening}
-use Rattle.daemon.specs.Serving.{WritesLines, failing_of, told_by, AreWhole}
+use Rattle.daemon.specs.Serving.{WritesLines, failing_of, told_by, AreWhole, AreManyTurns}
 use Rattle.daemon.specs.Waking.{WritesBytes, EndsThere}
 use Rattle.daemon.specs.Served.{OpensForetold, Served}
 use Rattle.daemon.proofs.Stretches.{lines_then}
@@ -87,3 +87,19 @@ serves managed sends failing here host host_mid link link_mid store_failing stor
           (lines_then out_one out_two out_three (turns_lines managed (opened_life managed made.met) mets) (closing_lines (life_after managed (opened_life managed made.met) mets)) turns_are closing_is);
       foretold = λ quiet. opens_foretold managed sends failing here host host_mid link link_mid begin made.met mets life same made.begins (made.quiet quiet) made.told starts life_is ends.ends.whole;
     }
+
+-- as many wakes come as were allowed, from the beginning on
+pub many_before : (managed : List Managed) (sends failing : Option (List ℕ)) (here : Option Failing) (host host_mid : Option HostTold) (link link_mid : Option LinkTold) (begin : Begin) (met : OpeningMet) (turns : ℕ)
+    → here ≡ failing_of sends failing
+    → Determined (told_host_for managed None (rows_of (opened_client managed met))) failing host met.host host_mid
+    → Begins link link_mid (begun begin) → AreManyTurns here host_mid link_mid turns → AreManyTurns (failing_of sends failing) host link turns
+many_before managed None failing here host host_mid link link_mid begin met turns same told starts many = tt
+many_before managed (Some s) None here host host_mid link link_mid begin met turns same told starts many = tt
+many_before managed (Some s) (Some f) here None host_mid link link_mid begin met turns same told starts many = tt
+many_before managed (Some s) (Some f) here (Some h) host_mid None link_mid begin met turns same told starts many = tt
+many_before managed (Some s) (Some f) here (Some h) host_mid (Some l) link_mid begin met turns same told starts many =
+    let failing : Failing = record { sends = s; host = f } in
+    let told_then : HostTold = (told_host managed f None (rows_of (opened_client managed met)) h).told in
+    subst (λ (k : Option LinkTold). AreManyTurns (Some failing) (Some told_then) k turns) starts.1
+    (subst (λ (m : Option HostTold). AreManyTurns (Some failing) m link_mid turns) told.1
+    (subst (λ (f : Option Failing). AreManyTurns f host_mid link_mid turns) same many))

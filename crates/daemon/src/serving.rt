@@ -104,7 +104,7 @@ fn live_on<O: Sink, L: Link, S: Store, H: Host, K: Hooks>(
     ensures later { IfOk result (λ _. (O.faults out.old ≤ O.faults out.new) × (L.faults live.old.link ≤ L.faults live.new.link)) }
     ensures cause { IfErr result (λ end. HasLifeCause end (O.faults out.old) (O.faults out.new) (L.faults live.old.link) (L.faults live.new.link)) }
     ensures foretold { L.failing_waits live.old.link ≡ Some [] → result ≢ Err ServeEnd.LinkFault }
-    ensures many { IfSome (L.failing_sends live.old.link) (λ _. H.failing live.old.host ≡ Some []) → result ≡ Err ServeEnd.TurnsOver → IfSome (H.told live.old.host) (λ _. IfSome (L.told live.old.link) (λ link. turns ≤ length link.coming)) }
+    ensures many { result ≡ Err ServeEnd.TurnsOver → AreManyTurns (failing_of (L.failing_sends live.old.link) (H.failing live.old.host)) (H.told live.old.host) (L.told live.old.link) turns }
 {
     let start = begin(&mut live.link)?;
     let mut text = Vec::new(alloc);
@@ -135,7 +135,7 @@ pub fn serve<O: Sink, L: Link, S: Store, H: Host, K: Hooks>(
     ensures cut { Leaves result managed.now (failing_of (L.failing_sends live.old.link) (H.failing live.old.host)) (H.told live.old.host) (L.told live.old.link) (S.failing live.old.store) (S.told live.old.store) (O.written out.old) (O.written out.new) }
     ensures cause { HasEndCause result (O.faults out.old) (O.faults out.new) (L.faults live.old.link) (L.faults live.new.link) }
     ensures foretold { L.failing_waits live.old.link ≡ Some [] → result ≢ ServeEnd.LinkFault }
-    ensures many { IfSome (L.failing_sends live.old.link) (λ _. H.failing live.old.host ≡ Some []) → result ≡ ServeEnd.TurnsOver → IfSome (H.told live.old.host) (λ _. IfSome (L.told live.old.link) (λ link. turns ≤ length link.coming)) }
+    ensures many { result ≡ ServeEnd.TurnsOver → AreManyTurns (failing_of (L.failing_sends live.old.link) (H.failing live.old.host)) (H.told live.old.host) (L.told live.old.link) turns }
 {
     match live_on(alloc, managed, live, out, turns) {
         Ok(()) => ServeEnd::End,
