@@ -1,0 +1,6 @@
+pub mod Entries
+pub mod Inputs
+pub mod Probed
+pub mod LinkLocalBasis
+pub mod StaticBasis
+pub mod Laws

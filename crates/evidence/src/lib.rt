@@ -1,0 +1,7 @@
+//! Why an address may be held: what a life shows of an interface, and what of it is evidence. Definitions, and the laws
+//! about them.
+#![tactic(auto)]
+
+mod laws;
+
+pub use laws::addresses_have_a_basis;
