@@ -1,0 +1,6 @@
+use Rattle.evidence.proofs.Offers.{offered}
+use Rattle.evidence.proofs.Keeping.{Keeps}
+use Rattle.evidence.proofs.laws.addresses_have_a_basis.Goals as goal
+
+pub returns : goal.returns
+returns c = ?
