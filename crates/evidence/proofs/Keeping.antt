@@ -64,7 +64,7 @@ armed_bears site clean past at iface (Armed due waits_lease probes) b = b
 armed_bears site clean past at iface (Chosen conflicts acd) b = b
 armed_bears site clean past at iface (Waiting conflicts due) b = b
 
-begun_bears : (site : Site) (clean : Type 0) (past : List Entry) (conf : IfConf) (at : ℕ) (iface : IfIndex) (state : State)
+pub begun_bears : (site : Site) (clean : Type 0) (past : List Entry) (conf : IfConf) (at : ℕ) (iface : IfIndex) (state : State)
     → Bears site clean state past → Bears site clean (begun conf at (at_state iface state)).state past
 begun_bears site clean past conf at iface state b =
     gated (λ (local : LinkLocal). Bears site clean local.state past) (chooses_local conf) (ll_armed (at_state iface state) at false true) (at_state iface state)
@@ -196,7 +196,7 @@ module _ (own : List Mac) (start : Bool) (managed : Managed) (clean : Type 0) (a
 
 -- ---- a turn
 
-module _ (own : List Mac) (start : Bool) (clean clean_before : Type 0) (salt : ℕ) (e : Entry) (past : List Entry) where
+module _ (own : List Mac) (start : Bool) (clean : Type 0) (salt : ℕ) (e : Entry) (past : List Entry) where
   abbrev from_tick : Iface → IfaceStep
   from_tick f = then_step (ticked e.moment salt f) (input_step own e.moment salt e.event e.bytes)
 
@@ -218,7 +218,7 @@ module _ (own : List Mac) (start : Bool) (clean clean_before : Type 0) (salt : �
   choice P true x y p q = p refl
   choice P false x y p q = q refl
 
-  turn_keeps : (unsent : ℕ) (f : Iface) → Keeps (at_site own start f.managed) (is_in unsent (index_of f) ≡ false) f past
+  pub turn_keeps : (unsent : ℕ) (f : Iface) → Keeps (at_site own start f.managed) (is_in unsent (index_of f) ≡ false) f past
       → AfterTurn f.managed (from_tick (unsent_in unsent e.moment salt f))
   turn_keeps unsent f k =
       choice (λ g. AfterTurn f.managed (from_tick g)) (is_in unsent (index_of f)) (restarted e.moment salt f) f

@@ -3,3 +3,4 @@ pub mod Offers
 pub mod Phases
 pub mod Ticks
 pub mod Keeping
+pub mod Turns
