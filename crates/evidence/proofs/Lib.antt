@@ -4,3 +4,4 @@ pub mod Phases
 pub mod Ticks
 pub mod Keeping
 pub mod Turns
+pub mod Rows
