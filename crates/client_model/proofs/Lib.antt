@@ -1,1 +1,7 @@
-
+mod Apart
+mod Elsewhere
+mod HostTableRows
+mod HostTableChanges
+mod HostTableTurns
+mod HostTableWanted
+mod HostInLifeTurns

@@ -11,3 +11,5 @@ pub mod Lines
 pub mod Lives
 pub mod Scripts
 pub mod ToldDevices
+pub mod HostTable
+pub mod HostInLife

@@ -4,8 +4,8 @@ use Rattle.net_types.specs.declared.address.Mac.{Mac}
 use Rattle.world.specs.declared.wakes.Event.{Event}
 use Rattle.world.specs.declared.wakes.Event.TheVariants.{Frame, Carrier, Duplicate, Release, Rebind, Stop, Quiet, End}
 use Rattle.client_model.specs.declared.interfaces.Iface.{Iface}
-use Rattle.client_model.specs.Interfaces.{IfaceStep, TurnInput, index_of, iface_turned}
-use Rattle.client_model.specs.Clients.{Client, ClientStep, Sending, sends_of, client_turned}
+use Rattle.client_model.specs.Interfaces.{TurnInput, index_of, iface_turned}
+use Rattle.client_model.specs.Clients.{Client, sends_of, client_turned}
 
 abbrev pub iface_run : List Mac → Iface → List TurnInput → Iface
 iface_run own f [] = f

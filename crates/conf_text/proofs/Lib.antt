@@ -1,4 +1,3 @@
-pub mod WordChoice
 pub mod LineLaws
 pub mod ReadingLaws
 pub mod ManagedFit

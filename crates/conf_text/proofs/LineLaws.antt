@@ -1,147 +1,119 @@
 -- A line: what is read is spelled so, and what is spelled so is read.
-use Rattle.std.proofs.Common.{◌≡◌, ℕ, List, [], Option, Some, None, refl, ap, ◌∙◌, subst}
+use Rattle.std.proofs.Common.{◌≡◌, ℕ, List, [], ◌∷◌, ◌++◌, Bool, true, false, cond, Option, Some, None, option_map, refl, sym, ap, ◌∙◌, subst}
 use Rattle.std.specs.Prelude.{codes, bytes_eq}
-use Rattle.std.proofs.lemmas.Option.{cond_some}
+use Rattle.std.specs.List.{AllByRecursion}
 use Rattle.std.proofs.lemmas.Slice.Eq.{bytes_eq-Decides}
-use Rattle.net_types.specs.declared.interface.Name.{Name}
-use Rattle.net_types.specs.declared.address.Ip4.{Ip4}
-use Rattle.net_types.specs.declared.address.Net4.{Net4}
 use Rattle.net_types.specs.Reads.{Reads}
 use Rattle.net_types.specs.Marks.{Lacks}
-use Rattle.net_types.specs.Cutting.{strip_word}
-use Rattle.conf_text.proofs.WordChoice.{IsPart, part_or_others}
-use Rattle.net_types.specs.AddressText.{ip4_text, net4_text, FitsIp4, FitsNet4}
-use Rattle.net_types.specs.NameText.{name_text, FitsName}
-use Rattle.net_types.proofs.ReadsLaws.{some_same}
-use Rattle.net_types.proofs.ChoiceLaws.{words_apart}
+use Rattle.net_types.specs.Cutting.{split_at_byte}
+use Rattle.net_types.specs.AddressText.{ip4_text, net4_text}
+use Rattle.net_types.specs.NameText.{name_text}
+use Rattle.net_types.proofs.ReadsLaws.{some_same, passed, step, split_whole, split_sound}
+use Rattle.net_types.proofs.ChoiceLaws.{part_sound}
 use Rattle.net_types.proofs.AddressLaws.{ip4_reads, net4_reads}
 use Rattle.net_types.proofs.NameLaws.{name_reads, name_lacks}
 use Rattle.net_types.proofs.MarkLaws.{lacks-append, ip4_lacks, net4_lacks}
 use Rattle.conf_text.specs.declared.conf.ConfLine.{ConfLine}
-use Rattle.conf_text.specs.declared.conf.ConfLine.TheVariants.{NoScript, Interface, Address, Router}
+use Rattle.conf_text.specs.declared.conf.ConfLine.TheVariants.{NoScript, NoDhcp, NoIpv4ll, Interface, Address, Router}
 use Rattle.conf_text.specs.ConfLines.{conf_line_text, FitsConfLine}
-use Rattle.conf_text.specs.LineAt.{no_script_at, router_at, address_at, conf_line_at}
+use Rattle.conf_text.specs.LineAt.{Words, meaning, Readers, read_by, flags, flag_at, scripts, script_at, settings, setting_at, static_at, directives, directive_at, by_first_word, conf_line_at}
 
-abbrev interface_part : ConfLine → Option Name
-interface_part (Interface name) = Some name
-interface_part NoScript = None
-interface_part (Address net) = None
-interface_part (Router ip) = None
-
-abbrev address_part : ConfLine → Option Net4
-address_part (Address net) = Some net
-address_part NoScript = None
-address_part (Interface name) = None
-address_part (Router ip) = None
-
-abbrev router_part : ConfLine → Option Ip4
-router_part (Router ip) = Some ip
-router_part NoScript = None
-router_part (Interface name) = None
-router_part (Address net) = None
-
--- what fits and has none of the words that were looked for before
-abbrev FitsSecond : ConfLine → Type 0
-FitsSecond line = FitsConfLine line × (interface_part line ≡ None)
-
-abbrev FitsThird : ConfLine → Type 0
-FitsThird line = FitsSecond line × (address_part line ≡ None)
-
-abbrev FitsLast : ConfLine → Type 0
-FitsLast line = FitsThird line × (router_part line ≡ None)
-
-some_none : {A : Type 0} {x : A} → Some x ≡ None → ⊥
-some_none e = cc
-
-spelled_so : (line : ConfLine) → NoScript ≡ line → (codes "script /dev/null" ≡ conf_line_text line) × FitsLast line
-unfolding conf_line_text
-spelled_so line e = subst (λ l. (codes "script /dev/null" ≡ conf_line_text l) × FitsLast l) e (refl, (((tt, refl), refl), refl))
-
-no_script_sound : (text : List ℕ) (line : ConfLine) → no_script_at text ≡ Some line → (text ≡ conf_line_text line) × FitsLast line
-unfolding no_script_at
-no_script_sound text line e =
-    let parts = cond_some (bytes_eq text (codes "script /dev/null")) NoScript line e in
-    let same : text ≡ codes "script /dev/null" = (bytes_eq-Decides text (codes "script /dev/null")).0 parts.0 in
-    let s = spelled_so line parts.1 in
-    (same ∙ s.0, s.1)
-
-no_script_whole : (line : ConfLine) → FitsLast line → no_script_at (conf_line_text line) ≡ Some line
-unfolding no_script_at conf_line_text
-no_script_whole NoScript fits = refl
-no_script_whole (Interface name) fits = absurd (some_none fits.0.0.1)
-no_script_whole (Address net) fits = absurd (some_none fits.0.1)
-no_script_whole (Router ip) fits = absurd (some_none fits.1)
-
-no_script_reads : Reads conf_line_text FitsLast no_script_at
-no_script_reads = record { sound = no_script_sound; whole = no_script_whole }
-
-router_is : IsPart (codes "static routers=") (λ ip. Router ip) router_part ip4_text FitsIp4 conf_line_text FitsThird
-unfolding conf_line_text
-router_is = record { told = told; spelled = λ ip. refl; to = λ ip fits. ((fits, refl), refl); from = λ ip fits. fits.0.0 }
+-- what holds of each word and its meaning holds of a word that was found
+meant : {A : Type 0} (P : List ℕ → A → Type 0) (words : Words A) (word : List ℕ) (value : A) → AllByRecursion (λ known. P known.0 known.1) words → meaning words word ≡ Some value → P word value
+meant P [] word value all e = cc
+meant {A} P (known ∷ words) word value all e = of_test (meant P words word value all.1) (bytes_eq word known.0) refl e
   where
-    told : (line : ConfLine) (ip : Ip4) → router_part line ≡ Some ip → line ≡ Router ip
-    told (Router other) ip e = ap (λ i. Router i) (some_same e)
-    told NoScript ip e = cc
-    told (Interface name) ip e = cc
-    told (Address net) ip e = cc
+    of_test : (meaning words word ≡ Some value → P word value) → (same : Bool) → bytes_eq word known.0 ≡ same → cond same (Some known.1) (meaning words word) ≡ Some value → P word value
+    of_test later true was q =
+        let spelled : word ≡ known.0 = (bytes_eq-Decides word known.0).0 was in
+        subst (λ w. P w value) (sym spelled) (subst (λ v. P known.0 v) (some_same q) all.0)
+    of_test later false was q = later q
 
-router_apart : (line : ConfLine) → router_part line ≡ None → strip_word (codes "static routers=") (conf_line_text line) ≡ None
+-- ---- what is read is spelled so
+
+abbrev Spells : List ℕ → ConfLine → Type 0
+Spells text line = (text ≡ conf_line_text line) × FitsConfLine line
+
+-- what is read after a word, where `line_text` gives the whole line
+abbrev Sound : (List ℕ → List ℕ) → (List ℕ → Option ConfLine) → Type 0
+Sound line_text read = (rest : List ℕ) (line : ConfLine) → read rest ≡ Some line → Spells (line_text rest) line
+
+flag_sound : (word : List ℕ) (line : ConfLine) → flag_at word ≡ Some line → Spells word line
+unfolding flag_at conf_line_text
+flag_sound word line e = meant Spells flags word line ((refl, tt), ((refl, tt), tt)) e
+
+script_sound : Sound (λ path. codes "script " ++ path) script_at
+unfolding script_at conf_line_text
+script_sound path line e = meant (λ path line. Spells (codes "script " ++ path) line) scripts path line ((refl, tt), tt) e
+
+settings_sound : AllByRecursion (λ known. Sound (λ value. codes "static " ++ (known.0 ++ 61 ∷ value)) known.1) settings
 unfolding conf_line_text
-router_apart NoScript e = words_apart (codes "static routers=") (codes "script /dev/null") [] refl
-router_apart (Interface name) e = words_apart (codes "static routers=") (codes "interface ") (name_text name) refl
-router_apart (Address net) e = words_apart (codes "static routers=") (codes "static ip_address=") (net4_text net) refl
-router_apart (Router ip) e = absurd (some_none e)
+settings_sound = (
+  part_sound conf_line_text FitsConfLine (codes "static ip_address=") (λ net. Address net) net4_reads (λ net. refl) (λ net fits. fits),
+  (part_sound conf_line_text FitsConfLine (codes "static routers=") (λ ip. Router ip) ip4_reads (λ ip. refl) (λ ip fits. fits), tt),
+)
 
-router_reads : Reads conf_line_text FitsThird router_at
-unfolding router_at
-router_reads = part_or_others (codes "static routers=") (λ ip. Router ip) router_part ip4_reads no_script_reads router_is router_apart
+static_sound : Sound (λ rest. codes "static " ++ rest) static_at
+unfolding static_at setting_at
+static_sound rest line e =
+    let cut = passed (split_at_byte 61 rest) _ line e in
+    let name = cut.value.0 in
+    let found = passed (meaning settings name) (λ read. read cut.value.1) line cut.gives in
+    let spelled : rest ≡ name ++ 61 ∷ cut.value.1 = (split_sound 61 rest name cut.value.1 cut.was).0 in
+    let sound = meant (λ name read. Sound (λ value. codes "static " ++ (name ++ 61 ∷ value)) read) settings name found.value settings_sound found.was in
+    subst (λ text. Spells (codes "static " ++ text) line) (sym spelled) (sound cut.value.1 line found.gives)
 
-address_is : IsPart (codes "static ip_address=") (λ net. Address net) address_part net4_text FitsNet4 conf_line_text FitsSecond
+directives_sound : AllByRecursion (λ known. Sound (λ rest. known.0 ++ 32 ∷ rest) known.1) directives
 unfolding conf_line_text
-address_is = record { told = told; spelled = λ net. refl; to = λ net fits. (fits, refl); from = λ net fits. fits.0 }
+directives_sound = (
+  part_sound conf_line_text FitsConfLine (codes "interface ") (λ name. Interface name) name_reads (λ name. refl) (λ name fits. fits),
+  (script_sound, (static_sound, tt)),
+)
+
+directive_sound : (word rest : List ℕ) (line : ConfLine) → directive_at word rest ≡ Some line → Spells (word ++ 32 ∷ rest) line
+unfolding directive_at
+directive_sound word rest line e =
+    let found = passed (meaning directives word) (λ read. read rest) line e in
+    meant (λ word read. Sound (λ rest. word ++ 32 ∷ rest) read) directives word found.value directives_sound found.was rest line found.gives
+
+line_sound : (text : List ℕ) (line : ConfLine) → conf_line_at text ≡ Some line → Spells text line
+unfolding conf_line_at
+line_sound text line e = of_cut (split_at_byte 32 text) refl e
   where
-    told : (line : ConfLine) (net : Net4) → address_part line ≡ Some net → line ≡ Address net
-    told (Address other) net e = ap (λ n. Address n) (some_same e)
-    told NoScript net e = cc
-    told (Interface name) net e = cc
-    told (Router ip) net e = cc
+    of_cut : (cut : Option (List ℕ × List ℕ)) → split_at_byte 32 text ≡ cut → by_first_word cut text ≡ Some line → Spells text line
+    of_cut None was q = flag_sound text line q
+    of_cut (Some p) was q = subst (λ t. Spells t line) (sym (split_sound 32 text p.0 p.1 was).0) (directive_sound p.0 p.1 line q)
 
-address_apart : (line : ConfLine) → address_part line ≡ None → strip_word (codes "static ip_address=") (conf_line_text line) ≡ None
-unfolding conf_line_text
-address_apart NoScript e = words_apart (codes "static ip_address=") (codes "script /dev/null") [] refl
-address_apart (Interface name) e = words_apart (codes "static ip_address=") (codes "interface ") (name_text name) refl
-address_apart (Address net) e = absurd (some_none e)
-address_apart (Router ip) e = words_apart (codes "static ip_address=") (codes "static routers=") (ip4_text ip) refl
+-- ---- what is spelled so is read
 
-address_reads : Reads conf_line_text FitsSecond address_at
-unfolding address_at
-address_reads = part_or_others (codes "static ip_address=") (λ net. Address net) address_part net4_reads router_reads address_is address_apart
+static_whole : (name value : List ℕ) (read : List ℕ → Option ConfLine) (line : ConfLine) → Lacks 61 name → meaning settings name ≡ Some read → read value ≡ Some line → static_at (name ++ 61 ∷ value) ≡ Some line
+unfolding static_at setting_at
+static_whole name value read line free known e = rw (split_whole 61 name value free, known) e
 
-interface_is : IsPart (codes "interface ") (λ name. Interface name) interface_part name_text FitsName conf_line_text FitsConfLine
-unfolding conf_line_text
-interface_is = record { told = told; spelled = λ name. refl; to = λ name fits. fits; from = λ name fits. fits }
-  where
-    told : (line : ConfLine) (name : Name) → interface_part line ≡ Some name → line ≡ Interface name
-    told (Interface other) name e = ap (λ n. Interface n) (some_same e)
-    told NoScript name e = cc
-    told (Address net) name e = cc
-    told (Router ip) name e = cc
+directive_whole : (word rest : List ℕ) (read : List ℕ → Option ConfLine) (line : ConfLine) → Lacks 32 word → meaning directives word ≡ Some read → read rest ≡ Some line → conf_line_at (word ++ 32 ∷ rest) ≡ Some line
+unfolding conf_line_at directive_at
+directive_whole word rest read line free known e = rw (split_whole 32 word rest free, known) e
 
-interface_apart : (line : ConfLine) → interface_part line ≡ None → strip_word (codes "interface ") (conf_line_text line) ≡ None
-unfolding conf_line_text
-interface_apart NoScript e = words_apart (codes "interface ") (codes "script /dev/null") [] refl
-interface_apart (Interface name) e = absurd (some_none e)
-interface_apart (Address net) e = words_apart (codes "interface ") (codes "static ip_address=") (net4_text net) refl
-interface_apart (Router ip) e = words_apart (codes "interface ") (codes "static routers=") (ip4_text ip) refl
+line_whole : (line : ConfLine) → FitsConfLine line → conf_line_at (conf_line_text line) ≡ Some line
+unfolding conf_line_at conf_line_text split_at_byte flag_at directive_at script_at
+line_whole NoScript fits = refl
+line_whole NoDhcp fits = refl
+line_whole NoIpv4ll fits = refl
+line_whole (Interface name) fits = directive_whole (codes "interface") (name_text name) _ (Interface name) refl refl (ap (option_map Interface) (name_reads.whole name fits))
+line_whole (Address net) fits = directive_whole (codes "static") (codes "ip_address=" ++ net4_text net) static_at (Address net) refl refl
+    (static_whole (codes "ip_address") (net4_text net) _ (Address net) refl refl (ap (option_map Address) (net4_reads.whole net fits)))
+line_whole (Router ip) fits = directive_whole (codes "static") (codes "routers=" ++ ip4_text ip) static_at (Router ip) refl refl
+    (static_whole (codes "routers") (ip4_text ip) _ (Router ip) refl refl (ap (option_map Router) (ip4_reads.whole ip fits)))
 
 pub conf_line_reads : Reads conf_line_text FitsConfLine conf_line_at
-unfolding conf_line_at
-conf_line_reads = part_or_others (codes "interface ") (λ name. Interface name) interface_part name_reads address_reads interface_is interface_apart
+conf_line_reads = record { sound = line_sound; whole = line_whole }
 
 -- a line has no line feed
 pub conf_line_lacks : (line : ConfLine) → FitsConfLine line → Lacks 10 (conf_line_text line)
 unfolding conf_line_text
 conf_line_lacks NoScript fits = refl
+conf_line_lacks NoDhcp fits = refl
+conf_line_lacks NoIpv4ll fits = refl
 conf_line_lacks (Interface name) fits = lacks-append 10 (codes "interface ") (name_text name) refl (name_lacks name 10 fits refl)
 conf_line_lacks (Address net) fits = lacks-append 10 (codes "static ip_address=") (net4_text net) refl (net4_lacks net 10 fits refl)
 conf_line_lacks (Router ip) fits = lacks-append 10 (codes "static routers=") (ip4_text ip) refl (ip4_lacks ip 10 fits refl)

@@ -1,6 +1,6 @@
 -- The interfaces that a configuration has built can be named by it.
 use Rattle.std.proofs.Common.{ℕ, ◌+◌, ◌≤◌, Bool, true, false, cond, List, [], ◌∷◌, ◌++◌, length, ◌≡◌, Option, Some, None, option_map, subst, arith}
-use Rattle.std.specs.Prelude.{IfSome, if◌then◌else◌, find, option_and_then}
+use Rattle.std.specs.Prelude.{IfSome, if◌then◌else◌, find, option_and_then, is_some, unwrap_or}
 use Rattle.std.specs.List.{AllByRecursion}
 use Rattle.std.proofs.lemmas.List.Elements.{recursion_from_All}
 use Rattle.net_types.specs.declared.address.Ip4.{Ip4}
@@ -10,13 +10,13 @@ use Rattle.net_types.specs.declared.interface.Name.{Name}
 use Rattle.net_types.specs.AddressText.{FitsIp4, FitsNet4}
 use Rattle.world.specs.Rows.{IsInterface}
 use Rattle.client_model.specs.declared.interfaces.Managed.{Managed}
-use Rattle.client_model.specs.Fitting.{FitsManaged, AreManaged}
+use Rattle.client_model.specs.Fitting.{FitsLine, FitsManaged, AreManaged}
 use Rattle.client_model.specs.Scripts.{CountsFrom}
 use Rattle.conf_text.specs.declared.conf.Block.{Block}
 use Rattle.conf_text.specs.declared.conf.ConfLine.{ConfLine}
-use Rattle.conf_text.specs.declared.conf.ConfLine.TheVariants.{NoScript, Interface, Address, Router}
-use Rattle.conf_text.specs.ConfLines.{FitsConfLine, Said, nothing, blocks_with, blocks_of, is_block_of, has_room, begin_block, say_globally, put_address, put_router, say_address, say_router, say, say_next, said_by}
-use Rattle.conf_text.specs.Settings.{Configuration, configured, managed_by, managed_one, managed_each, managed_of}
+use Rattle.conf_text.specs.declared.conf.ConfLine.TheVariants.{NoScript, NoDhcp, NoIpv4ll, Interface, Address, Router}
+use Rattle.conf_text.specs.ConfLines.{FitsConfLine, once, globals_after, block_after, empty_block, Said, nothing, blocks_with, blocks_of, is_block_of, has_room, begin_block, say_here, say, say_next, said_by}
+use Rattle.conf_text.specs.Settings.{Configuration, configured, block_for, in_force, is_built, managed_one, managed_each, managed_of}
 use Rattle.conf_text.specs.Reading.{IsConfigurationOf}
 
 -- ---- what the lines say
@@ -44,36 +44,43 @@ if_so false x P p = tt
 
 begin_fits : (name : Name) (said : Said) → FitsSaid said → IfSome (begin_block name said) FitsSaid
 begin_fits name said fits =
-    if_so (has_room name (blocks_of said)) (record { no_script = said.no_script; over = blocks_of said; current = Some (record { name = name; address = None; router = None }) }) FitsSaid
+    if_so (has_room name (blocks_of said)) (record { globals = said.globals; over = blocks_of said; current = Some (empty_block name) }) FitsSaid
     (with_fit said.over said.current fits.0 fits.1, (tt, tt))
 
-globally_fits : (said : Said) (no_script : Bool) (current : Option Block) → FitsSaid said → IfSome (say_globally said no_script current) FitsSaid
-globally_fits said false None fits = fits
-globally_fits said false (Some block) fits = tt
-globally_fits said true current fits = tt
+once_fits : (is_said : Bool) (block : Block) → FitsBlock block → IfSome (once is_said block) FitsBlock
+once_fits true block fits = tt
+once_fits false block fits = fits
 
-put_address_fits : (net : Net4) (said : Said) (block : Block) (earlier : Option Net4) → FitsNet4 net → FitsSaid said → FitsBlock block → IfSome (put_address net said block earlier) FitsSaid
-put_address_fits net said block None net_fits fits block_fits = (fits.0, (net_fits, block_fits.1))
-put_address_fits net said block (Some earlier) net_fits fits block_fits = tt
+block_fits : (block : Block) (line : ConfLine) → FitsConfLine line → FitsBlock block → IfSome (block_after block line) FitsBlock
+block_fits block NoScript line_fits fits = tt
+block_fits block NoDhcp line_fits fits = once_fits block.nodhcp (record block { nodhcp = true }) fits
+block_fits block NoIpv4ll line_fits fits = once_fits block.noipv4ll (record block { noipv4ll = true }) fits
+block_fits block (Interface name) line_fits fits = tt
+block_fits block (Address net) line_fits fits = once_fits (is_some block.address) (record block { address = Some net }) (line_fits, fits.1)
+block_fits block (Router ip) line_fits fits = once_fits (is_some block.router) (record block { router = Some ip }) (fits.0, line_fits)
 
-put_router_fits : (ip : Ip4) (said : Said) (block : Block) (earlier : Option Ip4) → FitsIp4 ip → FitsSaid said → FitsBlock block → IfSome (put_router ip said block earlier) FitsSaid
-put_router_fits ip said block None ip_fits fits block_fits = (fits.0, (block_fits.0, ip_fits))
-put_router_fits ip said block (Some earlier) ip_fits fits block_fits = tt
+mapped_fits : {A B : Type 0} (f : A → B) (o : Option A) (P : A → Type 0) (Q : B → Type 0) → ((a : A) → P a → Q (f a)) → IfSome o P → IfSome (option_map f o) Q
+mapped_fits f None P Q each fits = tt
+mapped_fits f (Some a) P Q each fits = each a fits
 
-address_fits : (net : Net4) (said : Said) (current : Option Block) → FitsNet4 net → FitsSaid said → IfSome current FitsBlock → IfSome (say_address net said current) FitsSaid
-address_fits net said None net_fits fits current_fits = tt
-address_fits net said (Some block) net_fits fits current_fits = put_address_fits net said block block.address net_fits fits current_fits
+any_fits : {A : Type 0} (o : Option A) → IfSome o (λ a. Unit {0})
+any_fits None = tt
+any_fits (Some a) = tt
 
-router_fits : (ip : Ip4) (said : Said) (current : Option Block) → FitsIp4 ip → FitsSaid said → IfSome current FitsBlock → IfSome (say_router ip said current) FitsSaid
-router_fits ip said None ip_fits fits current_fits = tt
-router_fits ip said (Some block) ip_fits fits current_fits = put_router_fits ip said block block.router ip_fits fits current_fits
+here_fits : (line : ConfLine) (said : Said) (current : Option Block) → FitsConfLine line → AreBlocks said.over → IfSome current FitsBlock → IfSome (say_here line said current) FitsSaid
+here_fits line said None line_fits over_fit fits =
+    mapped_fits _ (globals_after said.globals line) (λ g. Unit {0}) FitsSaid (λ g any. (over_fit, tt)) (any_fits (globals_after said.globals line))
+here_fits line said (Some block) line_fits over_fit fits =
+    mapped_fits _ (block_after block line) FitsBlock FitsSaid (λ b b_fits. (over_fit, b_fits)) (block_fits block line line_fits fits)
 
 say_fits : (said : Said) (line : ConfLine) → FitsConfLine line → FitsSaid said → IfSome (say said line) FitsSaid
 unfolding say
-say_fits said NoScript line_fits fits = globally_fits said said.no_script said.current fits
 say_fits said (Interface name) line_fits fits = begin_fits name said fits
-say_fits said (Address net) line_fits fits = address_fits net said said.current line_fits fits fits.1
-say_fits said (Router ip) line_fits fits = router_fits ip said said.current line_fits fits fits.1
+say_fits said NoScript line_fits fits = here_fits NoScript said said.current line_fits fits.0 fits.1
+say_fits said NoDhcp line_fits fits = here_fits NoDhcp said said.current line_fits fits.0 fits.1
+say_fits said NoIpv4ll line_fits fits = here_fits NoIpv4ll said said.current line_fits fits.0 fits.1
+say_fits said (Address net) line_fits fits = here_fits (Address net) said said.current line_fits fits.0 fits.1
+say_fits said (Router ip) line_fits fits = here_fits (Router ip) said said.current line_fits fits.0 fits.1
 
 lines_fit : (lines : List ConfLine) (said : Option Said) → AllByRecursion FitsConfLine lines → IfSome said FitsSaid → IfSome (say_next lines said) FitsSaid
 lines_fit [] said fit fits = fits
@@ -99,16 +106,23 @@ find_fits : (test : Block → Bool) (blocks : List Block) → AreBlocks blocks �
 find_fits test [] fit = tt
 find_fits test (block ∷ blocks) fit = first_or (test block) block (find test blocks) fit.0 (find_fits test blocks fit.1)
 
-by_fits : (spec : IfSpec) (block : Block) (address : Option Net4) → IsInterface spec.index.number → IfSome address FitsNet4 → IfSome block.router FitsIp4 → IfSome (managed_by spec block address) FitsManaged
-by_fits spec block None index address_fits router_fits = tt
-by_fits spec block (Some address) index address_fits router_fits = record { index = index; address = address_fits; router = router_fits }
+found_fits : (name : Name) (found : Option Block) → IfSome found FitsBlock → FitsBlock (unwrap_or found (empty_block name))
+found_fits name None fits = (tt, tt)
+found_fits name (Some block) fits = fits
 
-found_fits : (spec : IfSpec) (found : Option Block) → IsInterface spec.index.number → IfSome found FitsBlock → IfSome (option_and_then (λ block. managed_by spec block block.address) found) FitsManaged
-found_fits spec None index fits = tt
-found_fits spec (Some block) index fits = by_fits spec block block.address index fits.0 fits.1
+block_for_fits : (blocks : List Block) (name : Name) → AreBlocks blocks → FitsBlock (block_for blocks name)
+block_for_fits blocks name fit = found_fits name (find (is_block_of name) blocks) (find_fits (is_block_of name) blocks fit)
 
-one_fits : (blocks : List Block) (spec : IfSpec) → AreBlocks blocks → IsInterface spec.index.number → IfSome (managed_one blocks spec) FitsManaged
-one_fits blocks spec fit index = found_fits spec (find (is_block_of spec.name) blocks) index (find_fits (is_block_of spec.name) blocks fit)
+static_fits : (address : Option Net4) (router : Option Ip4) → IfSome address FitsNet4 → IfSome router FitsIp4 → IfSome (option_map (λ net. record { address = net; router = router }) address) FitsLine
+static_fits address router address_fits router_fits = mapped_fits _ address FitsNet4 FitsLine (λ net fits. record { address = fits; router = router_fits }) address_fits
+
+one_fits : (conf : Configuration) (spec : IfSpec) → AreBlocks conf.blocks → IsInterface spec.index.number → IfSome (managed_one conf spec) FitsManaged
+one_fits conf spec fit index =
+    let block = block_for conf.blocks spec.name in
+    let fits = block_for_fits conf.blocks spec.name fit in
+    let settled = in_force conf.globals block in
+    if_so (is_built settled) (record { spec = spec; conf = settled }) FitsManaged
+    (record { index = index; line = static_fits block.address block.router fits.0 fits.1 })
 
 joined_fit : (first : Option Managed) (rest : Option (List Managed)) → IfSome first FitsManaged → IfSome rest AreManaged
     → IfSome (option_and_then (λ f. option_map (λ r. f ∷ r) rest) first) AreManaged
@@ -116,13 +130,13 @@ joined_fit None rest fits fit = tt
 joined_fit (Some first) None fits fit = tt
 joined_fit (Some first) (Some rest) fits fit = (fits, fit)
 
-each_fits : (blocks : List Block) (index : ℕ) (specs : List IfSpec) → AreBlocks blocks → 1 ≤ index → index + length specs ≤ 65 → CountsFrom index specs → IfSome (managed_each blocks specs) AreManaged
-each_fits blocks index [] fit low high counts = tt
-each_fits blocks index (spec ∷ specs) fit low high counts =
+each_fits : (conf : Configuration) (index : ℕ) (specs : List IfSpec) → AreBlocks conf.blocks → 1 ≤ index → index + length specs ≤ 65 → CountsFrom index specs → IfSome (managed_each conf specs) AreManaged
+each_fits conf index [] fit low high counts = tt
+each_fits conf index (spec ∷ specs) fit low high counts =
     let number : spec.index.number ≡ index = counts.0 in
-    joined_fit (managed_one blocks spec) (managed_each blocks specs)
-    (one_fits blocks spec fit (omega arith, omega arith))
-    (each_fits blocks (index + 1) specs fit (omega arith) (omega arith) counts.3)
+    joined_fit (managed_one conf spec) (managed_each conf specs)
+    (one_fits conf spec fit (omega arith, omega arith))
+    (each_fits conf (index + 1) specs fit (omega arith) (omega arith) counts.3)
 
 where_no_script : (no_script : Bool) (managed : Option (List Managed)) → IfSome managed AreManaged → IfSome (if no_script then managed else None) AreManaged
 where_no_script true managed fit = fit
@@ -131,7 +145,7 @@ where_no_script false managed fit = tt
 of_fits : (conf : Configuration) (specs : List IfSpec) → AreBlocks conf.blocks → CountsFrom 1 specs → length specs ≤ 64 → IfSome (managed_of conf specs) AreManaged
 of_fits conf [] fit counts few = tt
 of_fits conf (spec ∷ specs) fit counts few =
-    where_no_script conf.no_script (managed_each conf.blocks (spec ∷ specs)) (each_fits conf.blocks 1 (spec ∷ specs) fit (omega arith) (omega arith) counts)
+    where_no_script conf.globals.no_script (managed_each conf (spec ∷ specs)) (each_fits conf 1 (spec ∷ specs) fit (omega arith) (omega arith) counts)
 
 pub managed_fit : (text : List ℕ) (conf : Configuration) (specs : List IfSpec) (managed : List Managed)
     → IsConfigurationOf text conf → CountsFrom 1 specs → length specs ≤ 64 → managed_of conf specs ≡ Some managed → AreManaged managed

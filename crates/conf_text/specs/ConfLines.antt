@@ -1,24 +1,27 @@
 -- The lines of a configuration, and what they say one after another. Global lines come first, then the blocks
 -- of unlike interfaces, at most 64; each line stands at most once in its place.
-use Rattle.std.specs.Prelude.{ℕ, Bool, true, false, not, ◌&&◌, nat_lt, if◌then◌else◌, List, [], ◌∷◌, ◌++◌, flat_map, length, codes, Option, Some, None, bytes_eq}
+use Rattle.std.specs.Prelude.{ℕ, Bool, true, false, not, ◌&&◌, nat_lt, if◌then◌else◌, List, [], ◌∷◌, ◌++◌, flat_map, length, codes, Option, Some, None, is_some, option_map, bytes_eq}
 use Rattle.std.specs.List.{list_any}
 use Rattle.net_types.specs.declared.interface.Name.{Name}
-use Rattle.net_types.specs.declared.address.Ip4.{Ip4}
-use Rattle.net_types.specs.declared.address.Net4.{Net4}
 use Rattle.net_types.specs.AddressText.{ip4_text, net4_text, FitsIp4, FitsNet4}
 use Rattle.net_types.specs.NameText.{name_text, FitsName}
 use Rattle.conf_text.specs.declared.conf.ConfLine.{ConfLine}
-use Rattle.conf_text.specs.declared.conf.ConfLine.TheVariants.{NoScript, Interface, Address, Router}
+use Rattle.conf_text.specs.declared.conf.ConfLine.TheVariants.{NoScript, NoDhcp, NoIpv4ll, Interface, Address, Router}
+use Rattle.conf_text.specs.declared.conf.Globals.{Globals}
 use Rattle.conf_text.specs.declared.conf.Block.{Block}
 
 unfoldable pub conf_line_text : ConfLine → List ℕ
 conf_line_text NoScript = codes "script /dev/null"
+conf_line_text NoDhcp = codes "nodhcp"
+conf_line_text NoIpv4ll = codes "noipv4ll"
 conf_line_text (Interface name) = codes "interface " ++ name_text name
 conf_line_text (Address net) = codes "static ip_address=" ++ net4_text net
 conf_line_text (Router ip) = codes "static routers=" ++ ip4_text ip
 
 abbrev pub FitsConfLine : ConfLine → Type 0
 FitsConfLine NoScript = Unit {0}
+FitsConfLine NoDhcp = Unit {0}
+FitsConfLine NoIpv4ll = Unit {0}
 FitsConfLine (Interface name) = FitsName name
 FitsConfLine (Address net) = FitsNet4 net
 FitsConfLine (Router ip) = FitsIp4 ip
@@ -27,14 +30,39 @@ FitsConfLine (Router ip) = FitsIp4 ip
 abbrev pub conf_text : List ConfLine → List ℕ
 conf_text lines = flat_map (λ line. conf_line_text line ++ 10 ∷ []) lines
 
+-- a line stands at most once in its place
+abbrev pub once : {A : Type 0} → Bool → A → Option A
+once is_said value = if is_said then None else Some value
+
+-- what the global lines say with one more
+abbrev pub globals_after : Globals → ConfLine → Option Globals
+globals_after g NoScript = once g.no_script (record g { no_script = true })
+globals_after g NoDhcp = once g.nodhcp (record g { nodhcp = true })
+globals_after g NoIpv4ll = once g.noipv4ll (record g { noipv4ll = true })
+globals_after g (Interface name) = None
+globals_after g (Address net) = None
+globals_after g (Router ip) = None
+
+abbrev pub empty_block : Name → Block
+empty_block name = record { name = name; nodhcp = false; noipv4ll = false; address = None; router = None }
+
+-- what a block says with one line more
+abbrev pub block_after : Block → ConfLine → Option Block
+block_after b NoScript = None
+block_after b NoDhcp = once b.nodhcp (record b { nodhcp = true })
+block_after b NoIpv4ll = once b.noipv4ll (record b { noipv4ll = true })
+block_after b (Interface name) = None
+block_after b (Address net) = once (is_some b.address) (record b { address = Some net })
+block_after b (Router ip) = once (is_some b.router) (record b { router = Some ip })
+
 -- what was said so far: globally, in the blocks that are over, and in the one that lines now go to
 pub record Said : Type 0 where
-  pub no_script : Bool
+  pub globals : Globals
   pub over : List Block
   pub current : Option Block
 
 abbrev pub nothing : Said
-nothing = record { no_script = false; over = []; current = None }
+nothing = record { globals = record { no_script = false; nodhcp = false; noipv4ll = false }; over = []; current = None }
 
 abbrev pub blocks_with : List Block → Option Block → List Block
 blocks_with over None = over
@@ -52,35 +80,18 @@ has_room name blocks = nat_lt (length blocks) 64 && not (list_any (is_block_of n
 abbrev pub begin_block : Name → Said → Option Said
 begin_block name said =
     if has_room name (blocks_of said)
-    then Some (record { no_script = said.no_script; over = blocks_of said; current = Some (record { name = name; address = None; router = None }) })
+    then Some (record { globals = said.globals; over = blocks_of said; current = Some (empty_block name) })
     else None
 
-abbrev pub say_globally : Said → Bool → Option Block → Option Said
-say_globally said false None = Some (record said { no_script = true })
-say_globally said no_script current = None
-
-abbrev pub put_address : Net4 → Said → Block → Option Net4 → Option Said
-put_address net said block None = Some (record said { current = Some (record block { address = Some net }) })
-put_address net said block (Some earlier) = None
-
-abbrev pub put_router : Ip4 → Said → Block → Option Ip4 → Option Said
-put_router ip said block None = Some (record said { current = Some (record block { router = Some ip }) })
-put_router ip said block (Some earlier) = None
-
-abbrev pub say_address : Net4 → Said → Option Block → Option Said
-say_address net said None = None
-say_address net said (Some block) = put_address net said block block.address
-
-abbrev pub say_router : Ip4 → Said → Option Block → Option Said
-say_router ip said None = None
-say_router ip said (Some block) = put_router ip said block block.router
+-- a line goes to the block that began last, and is global where none began
+abbrev pub say_here : ConfLine → Said → Option Block → Option Said
+say_here line said None = option_map (λ g. record { globals = g; over = said.over; current = None }) (globals_after said.globals line)
+say_here line said (Some block) = option_map (λ b. record { globals = said.globals; over = said.over; current = Some b }) (block_after block line)
 
 -- one line more, where it may stand there
 unfoldable pub say : Said → ConfLine → Option Said
-say said NoScript = say_globally said said.no_script said.current
 say said (Interface name) = begin_block name said
-say said (Address net) = say_address net said said.current
-say said (Router ip) = say_router ip said said.current
+say said line = say_here line said said.current
 
 abbrev pub say_next : List ConfLine → Option Said → Option Said
 say_next [] said = said

@@ -1,19 +1,66 @@
--- How a line is read, by the words in front of it.
-use Rattle.std.specs.Prelude.{ℕ, List, Option, Some, None, option_map, codes, bytes_eq, if◌then◌else◌}
+-- How a line is read: by its first word, which ends at a blank or with the line.
+use Rattle.std.specs.Prelude.{ℕ, List, [], ◌∷◌, Option, Some, None, option_map, option_and_then, codes, bytes_eq, if◌then◌else◌}
 use Rattle.net_types.specs.AddressText.{ip4_at, net4_at}
 use Rattle.net_types.specs.NameText.{name_at}
-use Rattle.net_types.specs.Cutting.{choice_at}
+use Rattle.net_types.specs.Cutting.{split_at_byte}
 use Rattle.conf_text.specs.declared.conf.ConfLine.{ConfLine}
-use Rattle.conf_text.specs.declared.conf.ConfLine.TheVariants.{NoScript, Interface, Address, Router}
+use Rattle.conf_text.specs.declared.conf.ConfLine.TheVariants.{NoScript, NoDhcp, NoIpv4ll, Interface, Address, Router}
 
-unfoldable pub no_script_at : List ℕ → Option ConfLine
-no_script_at text = if bytes_eq text (codes "script /dev/null") then Some NoScript else None
+-- words, and what each means
+abbrev pub Words : Type 0 → Type 0
+Words A = List (List ℕ × A)
 
-unfoldable pub router_at : List ℕ → Option ConfLine
-router_at text = choice_at (codes "static routers=") (λ rest. option_map (λ ip. Router ip) (ip4_at rest)) no_script_at text
+abbrev pub meaning : {A : Type 0} → Words A → List ℕ → Option A
+meaning [] word = None
+meaning (known ∷ words) word = if bytes_eq word known.0 then Some known.1 else meaning words word
 
-unfoldable pub address_at : List ℕ → Option ConfLine
-address_at text = choice_at (codes "static ip_address=") (λ rest. option_map (λ net. Address net) (net4_at rest)) router_at text
+-- words, and how what follows each is read
+abbrev pub Readers : Type 0
+Readers = Words (List ℕ → Option ConfLine)
+
+abbrev pub read_by : Readers → List ℕ → List ℕ → Option ConfLine
+read_by readers word rest = option_and_then (λ read. read rest) (meaning readers word)
+
+-- lines of one word
+abbrev pub flags : Words ConfLine
+flags = (codes "nodhcp", NoDhcp) ∷ (codes "noipv4ll", NoIpv4ll) ∷ []
+
+unfoldable pub flag_at : List ℕ → Option ConfLine
+flag_at word = meaning flags word
+
+abbrev pub scripts : Words ConfLine
+scripts = (codes "/dev/null", NoScript) ∷ []
+
+unfoldable pub script_at : List ℕ → Option ConfLine
+script_at path = meaning scripts path
+
+-- static NAME=VALUE
+abbrev pub settings : Readers
+settings =
+    (codes "ip_address", λ value. option_map (λ net. Address net) (net4_at value))
+    ∷ (codes "routers", λ value. option_map (λ ip. Router ip) (ip4_at value))
+    ∷ []
+
+unfoldable pub setting_at : List ℕ → List ℕ → Option ConfLine
+setting_at name value = read_by settings name value
+
+unfoldable pub static_at : List ℕ → Option ConfLine
+static_at text = option_and_then (λ p. setting_at p.0 p.1) (split_at_byte 61 text)
+
+-- lines of a word and what it speaks of
+abbrev pub directives : Readers
+directives =
+    (codes "interface", λ rest. option_map (λ name. Interface name) (name_at rest))
+    ∷ (codes "script", script_at)
+    ∷ (codes "static", static_at)
+    ∷ []
+
+unfoldable pub directive_at : List ℕ → List ℕ → Option ConfLine
+directive_at word rest = read_by directives word rest
+
+abbrev pub by_first_word : Option (List ℕ × List ℕ) → List ℕ → Option ConfLine
+by_first_word (Some p) text = directive_at p.0 p.1
+by_first_word None text = flag_at text
 
 unfoldable pub conf_line_at : List ℕ → Option ConfLine
-conf_line_at text = choice_at (codes "interface ") (λ rest. option_map (λ name. Interface name) (name_at rest)) address_at text
+conf_line_at text = by_first_word (split_at_byte 32 text) text

@@ -3,4 +3,4 @@ use Rattle.conf_text.specs.declared.saying.Saying.{Saying}
 use Rattle.conf_text.specs.ConfLines.{Said}
 
 abbrev pub said_of : Saying → Said
-said_of saying = record { no_script = saying.no_script; over = saying.over.items; current = saying.current }
+said_of saying = record { globals = saying.globals; over = saying.over.items; current = saying.current }

@@ -1,3 +1,6 @@
+ghost use Rattle.std.specs.Prelude.{◌≡◌};
+ghost use Rattle.conf_text.specs.ConfLines.{empty_block, once, block_after, globals_after};
+
 use net_types::{Ip4, Name, Net4};
 
 /// A line of the configuration, as dhcpcd.conf(5) has them.
@@ -5,6 +8,10 @@ use net_types::{Ip4, Name, Net4};
 pub enum ConfLine {
     /// `script /dev/null`: no hook jobs are made.
     NoScript,
+    /// `nodhcp`: no DHCPv4 runs.
+    NoDhcp,
+    /// `noipv4ll`: no link-local address is chosen.
+    NoIpv4ll,
     /// `interface NAME` begins the block of an interface.
     Interface(Name),
     /// `static ip_address=ADDRESS/LEN`.
@@ -13,10 +20,21 @@ pub enum ConfLine {
     Router(Ip4),
 }
 
+/// What the lines before the first block say.
+#[derive(Clone, Copy, Debug, PartialEq, Eq)]
+pub struct Globals {
+    /// Whether hook jobs are turned off.
+    pub no_script: bool,
+    pub nodhcp: bool,
+    pub noipv4ll: bool,
+}
+
 /// What the block of an interface says.
 #[derive(Clone, Copy, Debug, PartialEq, Eq)]
 pub struct Block {
     pub name: Name,
+    pub nodhcp: bool,
+    pub noipv4ll: bool,
     pub address: Option<Net4>,
     pub router: Option<Ip4>,
 }
@@ -24,7 +42,96 @@ pub struct Block {
 /// A configuration.
 #[derive(Debug, Drop)]
 pub struct Conf {
-    /// Whether hook jobs are turned off.
-    pub no_script: bool,
+    pub globals: Globals,
     pub blocks: Vec<Block>,
+}
+
+fn once<T: Copy>(is_said: bool, value: T) -> Option<T>
+    ensures { result ≡ once is_said value }
+{
+    if is_said { None } else { Some(value) }
+}
+
+impl Globals {
+    /// With one line more, where it is a global one that wasn't said.
+    pub fn after(self, line: ConfLine) -> Option<Globals>
+        ensures { result ≡ globals_after self line }
+    {
+        match line {
+            ConfLine::NoScript => once(
+                self.no_script,
+                Globals {
+                    no_script: true,
+                    ..self
+                },
+            ),
+            ConfLine::NoDhcp => once(
+                self.nodhcp,
+                Globals {
+                    nodhcp: true,
+                    ..self
+                },
+            ),
+            ConfLine::NoIpv4ll => once(
+                self.noipv4ll,
+                Globals {
+                    noipv4ll: true,
+                    ..self
+                },
+            ),
+            ConfLine::Interface(_) | ConfLine::Address(_) | ConfLine::Router(_) => None,
+        }
+    }
+}
+
+impl Block {
+    /// A block that says nothing.
+    pub fn empty(name: Name) -> Block
+        ensures { result ≡ empty_block name }
+    {
+        Block {
+            name,
+            nodhcp: false,
+            noipv4ll: false,
+            address: None,
+            router: None,
+        }
+    }
+
+    /// With one line more, where it is one of a block that wasn't said.
+    pub fn after(self, line: ConfLine) -> Option<Block>
+        ensures { result ≡ block_after self line }
+    {
+        match line {
+            ConfLine::NoDhcp => once(
+                self.nodhcp,
+                Block {
+                    nodhcp: true,
+                    ..self
+                },
+            ),
+            ConfLine::NoIpv4ll => once(
+                self.noipv4ll,
+                Block {
+                    noipv4ll: true,
+                    ..self
+                },
+            ),
+            ConfLine::Address(net) => once(
+                self.address.is_some(),
+                Block {
+                    address: Some(net),
+                    ..self
+                },
+            ),
+            ConfLine::Router(ip) => once(
+                self.router.is_some(),
+                Block {
+                    router: Some(ip),
+                    ..self
+                },
+            ),
+            ConfLine::NoScript | ConfLine::Interface(_) => None,
+        }
+    }
 }

@@ -1,38 +1,69 @@
-//! One line of the configuration.
+//! One line of the configuration, read by its first word.
 ghost use Rattle.std.specs.Prelude.{◌≡◌};
-ghost use Rattle.conf_text.specs.LineAt.{no_script_at, router_at, address_at, conf_line_at};
+ghost use Rattle.conf_text.specs.LineAt.{flag_at, script_at, setting_at, static_at, directive_at, conf_line_at};
 
 use crate::conf::ConfLine;
-use net_types::{ip4_of, name_of, net4_of, strip_word};
+use net_types::{ip4_of, name_of, net4_of, split_at_byte};
 
-#[tactic(auto, unfolding(crate::specs::LineAt::no_script_at))]
-fn no_script_of(bytes: &[u8]) -> Option<ConfLine>
-    ensures { result ≡ no_script_at bytes.now }
+/// A line of one word.
+#[tactic(auto, unfolding(crate::specs::LineAt::flag_at))]
+fn flag_of(word: &[u8]) -> Option<ConfLine>
+    ensures { result ≡ flag_at word.now }
 {
-    if bytes == b"script /dev/null".as_slice() {
+    if word == b"nodhcp".as_slice() {
+        Some(ConfLine::NoDhcp)
+    } else if word == b"noipv4ll".as_slice() {
+        Some(ConfLine::NoIpv4ll)
+    } else {
+        None
+    }
+}
+
+#[tactic(auto, unfolding(crate::specs::LineAt::script_at))]
+fn script_of(path: &[u8]) -> Option<ConfLine>
+    ensures { result ≡ script_at path.now }
+{
+    if path == b"/dev/null".as_slice() {
         Some(ConfLine::NoScript)
     } else {
         None
     }
 }
 
-#[tactic(auto, unfolding(crate::specs::LineAt::router_at))]
-fn router_of(bytes: &[u8]) -> Option<ConfLine>
-    ensures { result ≡ router_at bytes.now }
+#[tactic(auto, unfolding(crate::specs::LineAt::setting_at))]
+fn setting_of(name: &[u8], value: &[u8]) -> Option<ConfLine>
+    ensures { result ≡ setting_at name.now value.now }
 {
-    match strip_word(bytes, b"static routers=") {
-        Some(rest) => Some(ConfLine::Router(ip4_of(rest)?)),
-        None => no_script_of(bytes),
+    if name == b"ip_address".as_slice() {
+        Some(ConfLine::Address(net4_of(value)?))
+    } else if name == b"routers".as_slice() {
+        Some(ConfLine::Router(ip4_of(value)?))
+    } else {
+        None
     }
 }
 
-#[tactic(auto, unfolding(crate::specs::LineAt::address_at))]
-fn address_of(bytes: &[u8]) -> Option<ConfLine>
-    ensures { result ≡ address_at bytes.now }
+#[tactic(auto, unfolding(crate::specs::LineAt::static_at))]
+fn static_of(bytes: &[u8]) -> Option<ConfLine>
+    ensures { result ≡ static_at bytes.now }
 {
-    match strip_word(bytes, b"static ip_address=") {
-        Some(rest) => Some(ConfLine::Address(net4_of(rest)?)),
-        None => router_of(bytes),
+    let (name, value) = split_at_byte(bytes, b'=')?;
+    setting_of(name, value)
+}
+
+/// A line of a word and what it speaks of.
+#[tactic(auto, unfolding(crate::specs::LineAt::directive_at))]
+fn directive_of(word: &[u8], about: &[u8]) -> Option<ConfLine>
+    ensures { result ≡ directive_at word.now about.now }
+{
+    if word == b"interface".as_slice() {
+        Some(ConfLine::Interface(name_of(about)?))
+    } else if word == b"script".as_slice() {
+        script_of(about)
+    } else if word == b"static".as_slice() {
+        static_of(about)
+    } else {
+        None
     }
 }
 
@@ -41,8 +72,8 @@ fn address_of(bytes: &[u8]) -> Option<ConfLine>
 pub fn conf_line_of(bytes: &[u8]) -> Option<ConfLine>
     ensures { result ≡ conf_line_at bytes.now }
 {
-    match strip_word(bytes, b"interface ") {
-        Some(rest) => Some(ConfLine::Interface(name_of(rest)?)),
-        None => address_of(bytes),
+    match split_at_byte(bytes, b' ') {
+        Some((word, about)) => directive_of(word, about),
+        None => flag_of(bytes),
     }
 }

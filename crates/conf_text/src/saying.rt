@@ -1,12 +1,12 @@
 //! What the lines of a configuration say, one after another.
 ghost use Rattle.std.specs.Prelude.{◌≡◌, ◌<◌, IfOk, option_map, []};
 ghost use Rattle.std.specs.List.{list_any};
-ghost use Rattle.conf_text.specs.ConfLines.{nothing, blocks_with, is_block_of, has_room, say, begin_block, say_globally, say_address, say_router};
+ghost use Rattle.conf_text.specs.ConfLines.{nothing, blocks_with, is_block_of, has_room, say, begin_block, say_here};
 ghost use Rattle.conf_text.specs.Settings.{configuration, configured};
 ghost use Rattle.conf_text.specs.Saying.{said_of};
 
-use crate::conf::{Block, Conf, ConfLine};
-use net_types::{Ip4, Name, Net4, NoMemory};
+use crate::conf::{Block, Conf, ConfLine, Globals};
+use net_types::{Name, NoMemory};
 use std::alloc::Global;
 
 /// The most blocks of a configuration.
@@ -15,7 +15,7 @@ const BLOCK_LIMIT: usize = 64;
 /// What was said so far.
 #[derive(Debug, Drop)]
 pub struct Saying {
-    no_script: bool,
+    globals: Globals,
     /// The blocks that are over.
     over: Vec<Block>,
     /// The block that lines now go to.
@@ -60,70 +60,45 @@ impl Saying {
         ensures { said_of result ≡ nothing }
     {
         Saying {
-            no_script: false,
+            globals: Globals {
+                no_script: false,
+                nodhcp: false,
+                noipv4ll: false,
+            },
             over: Vec::new(alloc),
             current: None,
-        }
-    }
-
-    fn say_globally(self) -> Option<Saying>
-        ensures { option_map said_of result ≡ say_globally (said_of self) self.no_script self.current }
-    {
-        match (self.no_script, self.current) {
-            (false, None) => Some(Saying {
-                no_script: true,
-                ..self
-            }),
-            _ => None,
         }
     }
 
     fn begin_block(self, name: Name) -> Result<Option<Saying>, NoMemory>
         ensures { IfOk result (λ o. option_map said_of o ≡ begin_block name (said_of self)) }
     {
-        let no_script = self.no_script;
+        let globals = self.globals;
         let over = with_block(self.over, self.current)?;
         if !has_room(&name, &over) {
             return Ok(None);
         }
-        let current = Some(Block {
-            name,
-            address: None,
-            router: None,
-        });
+        let current = Some(Block::empty(name));
         Ok(Some(Saying {
-            no_script,
+            globals,
             over,
             current,
         }))
     }
 
-    fn say_address(self, net: Net4) -> Option<Saying>
-        ensures { option_map said_of result ≡ say_address net (said_of self) self.current }
+    fn say_here(self, line: ConfLine) -> Option<Saying>
+        ensures { option_map said_of result ≡ say_here line (said_of self) self.current }
     {
-        let block = self.current?;
-        if block.address.is_some() {
-            return None;
+        match self.current {
+            None => {
+                let globals = self.globals.after(line)?;
+                Some(Saying { globals, ..self })
+            }
+            Some(block) => {
+                let current = Some(block.after(line)?);
+                Some(Saying { current, ..self })
+            }
         }
-        let current = Some(Block {
-            address: Some(net),
-            ..block
-        });
-        Some(Saying { current, ..self })
-    }
-
-    fn say_router(self, ip: Ip4) -> Option<Saying>
-        ensures { option_map said_of result ≡ say_router ip (said_of self) self.current }
-    {
-        let block = self.current?;
-        if block.router.is_some() {
-            return None;
-        }
-        let current = Some(Block {
-            router: Some(ip),
-            ..block
-        });
-        Some(Saying { current, ..self })
     }
 
     /// What was said with one line more, where it may stand there.
@@ -132,10 +107,12 @@ impl Saying {
         ensures { IfOk result (λ o. option_map said_of o ≡ say (said_of self) line) }
     {
         match line {
-            ConfLine::NoScript => Ok(self.say_globally()),
             ConfLine::Interface(name) => self.begin_block(name),
-            ConfLine::Address(net) => Ok(self.say_address(net)),
-            ConfLine::Router(ip) => Ok(self.say_router(ip)),
+            ConfLine::NoScript
+            | ConfLine::NoDhcp
+            | ConfLine::NoIpv4ll
+            | ConfLine::Address(_)
+            | ConfLine::Router(_) => Ok(self.say_here(line)),
         }
     }
 
@@ -143,8 +120,8 @@ impl Saying {
     pub fn finish(self) -> Result<Conf, NoMemory>
         ensures { IfOk result (λ conf. configuration conf ≡ configured (said_of self)) }
     {
-        let no_script = self.no_script;
+        let globals = self.globals;
         let blocks = with_block(self.over, self.current)?;
-        Ok(Conf { no_script, blocks })
+        Ok(Conf { globals, blocks })
     }
 }

@@ -2,11 +2,11 @@
 ghost use Rattle.std.specs.Prelude.{◌≡◌, IfOk, option_map, find};
 ghost use Rattle.std.specs.Option.{option_copied};
 ghost use Rattle.conf_text.specs.ConfLines.{is_block_of};
-ghost use Rattle.conf_text.specs.Settings.{configuration, managed_by, managed_one, managed_each, managed_of};
+ghost use Rattle.conf_text.specs.Settings.{configuration, block_for, line_of, in_force, is_built, managed_one, managed_each, managed_of};
 
-use crate::conf::{Block, Conf};
+use crate::conf::{Block, Conf, Globals};
 use crate::saying::is_block_of;
-use client_model::{Managed, StaticLine};
+use client_model::{IfConf, Managed, StaticLine};
 use net_types::{IfSpec, Name, NoMemory};
 use std::alloc::Global;
 
@@ -16,38 +16,66 @@ fn block_of<'a>(blocks: &'a [Block], name: &Name) -> Option<&'a Block>
     blocks.iter().find(|block| is_block_of(name, block))
 }
 
-fn managed_by(spec: &IfSpec, block: &Block) -> Option<Managed>
-    ensures { result ≡ managed_by spec.now block.now block.now.address }
+fn block_for(blocks: &[Block], name: &Name) -> Block
+    ensures { result ≡ block_for blocks.now name.now }
 {
-    match block.address {
-        None => None,
-        Some(address) => Some(Managed {
-            spec: *spec,
-            line: StaticLine {
-                address,
-                router: block.router,
-            },
-        }),
+    match block_of(blocks, name) {
+        Some(block) => *block,
+        None => Block::empty(*name),
     }
 }
 
-fn managed_one(blocks: &[Block], spec: &IfSpec) -> Option<Managed>
-    ensures { result ≡ managed_one blocks.now spec.now }
+fn line_of(block: &Block) -> Option<StaticLine>
+    ensures { result ≡ line_of block.now }
 {
-    let block = block_of(blocks, &spec.name)?;
-    managed_by(spec, block)
+    Some(StaticLine {
+        address: block.address?,
+        router: block.router,
+    })
+}
+
+/// What is in force for the interface of a block.
+fn in_force(globals: &Globals, block: &Block) -> IfConf
+    ensures { result ≡ in_force globals.now block.now }
+{
+    IfConf {
+        nodhcp: globals.nodhcp || block.nodhcp,
+        noipv4ll: globals.noipv4ll || block.noipv4ll,
+        line: line_of(block),
+    }
+}
+
+fn is_built(conf: &IfConf) -> bool
+    ensures { result ≡ is_built conf.now }
+{
+    conf.nodhcp || conf.line.is_some()
+}
+
+fn managed_one(conf: &Conf, spec: &IfSpec) -> Option<Managed>
+    ensures { result ≡ managed_one (configuration conf.now) spec.now }
+{
+    let block = block_for(&conf.blocks, &spec.name);
+    let settled = in_force(&conf.globals, &block);
+    if is_built(&settled) {
+        Some(Managed {
+            spec: *spec,
+            conf: settled,
+        })
+    } else {
+        None
+    }
 }
 
 fn managed_each(
     alloc: Global,
-    blocks: &[Block],
+    conf: &Conf,
     ifaces: &[IfSpec],
 ) -> Result<Option<Vec<Managed>>, NoMemory>
-    ensures { IfOk result (λ o. option_map (λ v. v.items) o ≡ managed_each blocks.now ifaces.now) }
+    ensures { IfOk result (λ o. option_map (λ v. v.items) o ≡ managed_each (configuration conf.now) ifaces.now) }
 {
     let mut all = Vec::new(alloc);
     'ifaces: for spec in ifaces {
-        let Some(one) = managed_one(blocks, spec) else {
+        let Some(one) = managed_one(conf, spec) else {
             return Ok(None);
         };
         all.push(one)?;
@@ -55,8 +83,8 @@ fn managed_each(
     Ok(Some(all))
 }
 
-/// The interfaces with what the configuration says of them, where each is built: by a block with a static address in
-/// a configuration without hooks.
+/// The interfaces with what is in force for each, where each is built: with a static address or without DHCP, in a
+/// configuration without hooks.
 pub fn managed(
     alloc: Global,
     conf: &Conf,
@@ -67,8 +95,8 @@ pub fn managed(
     if ifaces.is_empty() {
         return Ok(Some(Vec::new(alloc)));
     }
-    if conf.no_script {
-        managed_each(alloc, &conf.blocks, ifaces)
+    if conf.globals.no_script {
+        managed_each(alloc, conf, ifaces)
     } else {
         Ok(None)
     }

@@ -3,6 +3,7 @@ pub mod Makings
 pub mod Calls
 pub mod Printings
 pub mod Stretches
+pub mod Offers
 pub mod OneTurn
 pub mod OpeningsMade
 pub mod Wakings

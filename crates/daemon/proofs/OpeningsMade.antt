@@ -8,7 +8,7 @@ use Rattle.world.specs.declared.rows.HostRow.{HostRow}
 use Rattle.world.specs.HostCalls.{HostCall, HostTold}
 use Rattle.world.specs.StoreCalls.{Reading}
 use Rattle.client_model.specs.declared.interfaces.Managed.{Managed}
-use Rattle.client_model.specs.Interfaces.{Client, opening, rows_of}
+use Rattle.client_model.specs.Clients.{Client, opening, rows_of}
 use Rattle.client_model.specs.HostTurn.{HostMet, AnswersAll, host_calls, known_after}
 use Rattle.client_model.specs.Opening.{Aside, OpeningMet, SettlesIfAny, Opens, opened_life}
 use Rattle.client_model.specs.Turns.{capped, until}
@@ -42,15 +42,15 @@ abbrev pub opening_met : Begin → Option (List Aside) → Option Bool → Readi
 opening_met begin asides settled reading host = record { begin = begin; asides = asides; settled = settled; readings = reading ∷ []; host = host }
 
 module _ (managed : List Managed) (begin : Begin) (asides : Option (List Aside)) (settled : Option Bool) (reading : Reading) (asked : HostTurn)
-    (core : Client) (wanted : List HostRow) (core_is : core ≡ opening managed begin.up) (wanted_is : wanted ≡ rows_of core) where
-  wanted_here : wanted ≡ rows_of (opening managed begin.up)
+    (core : Client) (wanted : List HostRow) (core_is : core ≡ opening managed begin.up (capped begin.at)) (wanted_is : wanted ≡ rows_of core) where
+  wanted_here : wanted ≡ rows_of (opening managed begin.up (capped begin.at))
   wanted_here = wanted_is ∙ ap rows_of core_is
 
   pub after_is : (known : Option (List HostRow)) (moment : ℕ) → known ≡ known_after managed None wanted (met_of asked) → moment ≡ capped begin.at
-      → record { client = core; known = known; now = moment; stop = None } ≡ opened_life managed (opening_met begin asides settled reading (met_of asked))
+      → record { client = core; known = known; now = moment; stop = None; unsent = 0 } ≡ opened_life managed (opening_met begin asides settled reading (met_of asked))
   after_is known moment known_is moment_is =
-      let known_here : known ≡ known_after managed None (rows_of (opening managed begin.up)) (met_of asked) = known_is ∙ ap (λ (w : List HostRow). known_after managed None w (met_of asked)) wanted_here in
-      λ i. record { client = core_is i; known = known_here i; now = moment_is i; stop = None }
+      let known_here : known ≡ known_after managed None (rows_of (opening managed begin.up (capped begin.at))) (met_of asked) = known_is ∙ ap (λ (w : List HostRow). known_after managed None w (met_of asked)) wanted_here in
+      λ i. record { client = core_is i; known = known_here i; now = moment_is i; stop = None; unsent = 0 }
 
   pub opens_is : SettlesIfAny asides settled → AnswersAll managed None wanted (met_of asked) → Opens managed (opening_met begin asides settled reading (met_of asked))
   opens_is settles answers = record {
@@ -60,7 +60,7 @@ module _ (managed : List Managed) (begin : Begin) (asides : Option (List Aside))
   }
 
   pub told_is : (failing : Option (List ℕ)) (old new : Option HostTold) → Determined (told_host_for managed None wanted) failing old (met_of asked) new
-      → Determined (told_host_for managed None (rows_of (opening managed begin.up))) failing old (met_of asked) new
+      → Determined (told_host_for managed None (rows_of (opening managed begin.up (capped begin.at)))) failing old (met_of asked) new
   told_is failing old new told = subst (λ (w : List HostRow). Determined (told_host_for managed None w) failing old (met_of asked) new) wanted_here told
 
   pub opening_prints : (t u v w x y : List ℕ) (moment : Option ℕ)
@@ -69,7 +69,7 @@ module _ (managed : List Managed) (begin : Begin) (asides : Option (List Aside))
       → Prints x y (lines.Until moment ∷ []) → moment ≡ until (opened_life managed (opening_met begin asides settled reading (met_of asked)))
       → Prints t y (opening_lines managed (opening_met begin asides settled reading (met_of asked)))
   opening_prints t u v w x y moment p q r s calls z moment_is =
-      let calls_here : calls_of asked ≡ host_calls managed None (rows_of (opening managed begin.up)) (met_of asked) = calls ∙ ap (λ (k : List HostRow). host_calls managed None k (met_of asked)) wanted_here in
+      let calls_here : calls_of asked ≡ host_calls managed None (rows_of (opening managed begin.up (capped begin.at))) (met_of asked) = calls ∙ ap (λ (k : List HostRow). host_calls managed None k (met_of asked)) wanted_here in
       prints_same (prints_then p (prints_then q (prints_then r (prints_then s z))))
       (ap (λ (cs : List HostCall). lines.Start begin ∷ (aside_lines asides settled ++ (lines.Read (codes "resolv.conf") reading ∷ (host_lines cs ++ lines.Until moment ∷ [])))) calls_here
-      ∙ ap (λ (m : Option ℕ). lines.Start begin ∷ (aside_lines asides settled ++ (lines.Read (codes "resolv.conf") reading ∷ (host_lines (host_calls managed None (rows_of (opening managed begin.up)) (met_of asked)) ++ lines.Until m ∷ [])))) moment_is)
+      ∙ ap (λ (m : Option ℕ). lines.Start begin ∷ (aside_lines asides settled ++ (lines.Read (codes "resolv.conf") reading ∷ (host_lines (host_calls managed None (rows_of (opening managed begin.up (capped begin.at))) (met_of asked)) ++ lines.Until m ∷ [])))) moment_is)

@@ -8,8 +8,8 @@ use Rattle.client_model.specs.declared.interfaces.Managed.{Managed}
 use Rattle.client_model.specs.Turns.{Life, Met, life_after, turned}
 use Rattle.client_model.specs.Lives.{AllAnswered, turn_lines, turns_lines}
 use Rattle.client_model.specs.Lines.{Line, line_text, lines_text}
-use Rattle.client_model.specs.ToldDevices.{told_turns}
-use Rattle.daemon.specs.Serving.{WritesLines, IsRest, AreForetold, AreWhole, Passes, Goes, Ends}
+use Rattle.client_model.specs.ToldDevices.{Failing, told_turns}
+use Rattle.daemon.specs.Serving.{WritesLines, told_by, IsRest, AreForetold, AreWhole, Passes, Goes, Ends}
 
 life_after-append : (managed : List Managed) (from : Life) (a b : List Met) → life_after managed from (a ++ b) ≡ life_after managed (life_after managed from a) b
 life_after-append managed from [] b = refl
@@ -38,7 +38,7 @@ pub lines_none : (old : Option (List ℕ)) → WritesLines old old []
 lines_none None = refl
 lines_none (Some w) = ap (λ (x : List ℕ). Some x) (sym (append-nil w))
 
-rest_then : (managed : List Managed) (failing : List ℕ) (foretold : List Met) (count : ℕ) (a b : List Met) (mid to : Life) (host_mid host_to : Option HostTold) (link_mid link_to : Option LinkTold)
+rest_then : (managed : List Managed) (failing : Failing) (foretold : List Met) (count : ℕ) (a b : List Met) (mid to : Life) (host_mid host_to : Option HostTold) (link_mid link_to : Option LinkTold)
     → IsRest managed failing foretold count a mid host_mid link_mid → AreForetold managed (Some failing) mid host_mid link_mid b to host_to link_to
     → IsRest managed failing foretold count (a ++ b) to host_to link_to
 rest_then managed failing foretold count a b mid to None host_to link_mid link_to p q = absurd p
@@ -46,18 +46,18 @@ rest_then managed failing foretold count a b mid to (Some h) host_to None link_t
 rest_then managed failing foretold count a b mid to (Some h) None (Some l) link_to p q = absurd q
 rest_then managed failing foretold count a b mid to (Some h) (Some h') (Some l) None p q = absurd q
 rest_then managed failing foretold count a b mid to (Some h) (Some h') (Some l) (Some l') p q = (
-  p.0 ∙ ap (λ (ms : List Met). a ++ ms) q.0 ∙ sym (append_assoc a b (told_turns managed failing to h' l'.coming)),
+  p.0 ∙ ap (λ (ms : List Met). a ++ ms) q.0 ∙ sym (append_assoc a b (told_turns managed failing to (told_by l' h') l'.coming)),
   omega (arith, p.1, q.1, length-append a b),
 )
 
-foretold_then : (managed : List Managed) (failing : Option (List ℕ)) (a b : List Met) (from mid to : Life) (host host_mid host_to : Option HostTold) (link link_mid link_to : Option LinkTold)
+foretold_then : (managed : List Managed) (failing : Option Failing) (a b : List Met) (from mid to : Life) (host host_mid host_to : Option HostTold) (link link_mid link_to : Option LinkTold)
     → AreForetold managed failing from host link a mid host_mid link_mid → AreForetold managed failing mid host_mid link_mid b to host_to link_to
     → AreForetold managed failing from host link (a ++ b) to host_to link_to
 foretold_then managed None a b from mid to host host_mid host_to link link_mid link_to p q = tt
 foretold_then managed (Some f) a b from mid to None host_mid host_to link link_mid link_to p q = tt
 foretold_then managed (Some f) a b from mid to (Some h) host_mid host_to None link_mid link_to p q = tt
 foretold_then managed (Some f) a b from mid to (Some h) host_mid host_to (Some l) link_mid link_to p q =
-    rest_then managed f (told_turns managed f from h l.coming) (length l.coming) a b mid to host_mid host_to link_mid link_to p q
+    rest_then managed f (told_turns managed f from (told_by l h) l.coming) (length l.coming) a b mid to host_mid host_to link_mid link_to p q
 
 pub passes_then : (managed : List Managed) (from mid to : Life) (out out_mid out_to : Option (List ℕ)) (a b : List Met)
     → Passes managed from out mid out_mid a → Passes managed mid out_mid to out_to b → Passes managed from out to out_to (a ++ b)
@@ -69,7 +69,7 @@ passes_then managed from mid to out out_mid out_to a b p q = record {
       (subst (λ (life : Life). WritesLines out_mid out_to (turns_lines managed life b)) p.after q.written));
 }
 
-pub goes_then : (managed : List Managed) (failing : Option (List ℕ)) (from mid to : Life) (host host_mid host_to : Option HostTold) (link link_mid link_to : Option LinkTold) (out out_mid out_to : Option (List ℕ)) (a b : List Met)
+pub goes_then : (managed : List Managed) (failing : Option Failing) (from mid to : Life) (host host_mid host_to : Option HostTold) (link link_mid link_to : Option LinkTold) (out out_mid out_to : Option (List ℕ)) (a b : List Met)
     → Goes managed failing from host link out mid host_mid link_mid out_mid a → Goes managed failing mid host_mid link_mid out_mid to host_to link_to out_to b
     → Goes managed failing from host link out to host_to link_to out_to (a ++ b)
 goes_then managed failing from mid to host host_mid host_to link link_mid link_to out out_mid out_to a b p q = record {
@@ -77,20 +77,20 @@ goes_then managed failing from mid to host host_mid host_to link link_mid link_t
   foretold = foretold_then managed failing a b from mid to host host_mid host_to link link_mid link_to p.foretold q.foretold;
 }
 
-whole_rest : (managed : List Managed) (failing : List ℕ) (foretold : List Met) (count : ℕ) (a b : List Met) (mid : Life) (host_mid : Option HostTold) (link_mid : Option LinkTold)
+whole_rest : (managed : List Managed) (failing : Failing) (foretold : List Met) (count : ℕ) (a b : List Met) (mid : Life) (host_mid : Option HostTold) (link_mid : Option LinkTold)
     → IsRest managed failing foretold count a mid host_mid link_mid → AreWhole managed (Some failing) mid host_mid link_mid b → foretold ≡ a ++ b
 whole_rest managed failing foretold count a b mid None link_mid p q = absurd p
 whole_rest managed failing foretold count a b mid (Some h) None p q = absurd p
 whole_rest managed failing foretold count a b mid (Some h) (Some l) p q = p.0 ∙ ap (λ (ms : List Met). a ++ ms) q
 
-whole_then : (managed : List Managed) (failing : Option (List ℕ)) (a b : List Met) (from mid : Life) (host host_mid : Option HostTold) (link link_mid : Option LinkTold)
+whole_then : (managed : List Managed) (failing : Option Failing) (a b : List Met) (from mid : Life) (host host_mid : Option HostTold) (link link_mid : Option LinkTold)
     → AreForetold managed failing from host link a mid host_mid link_mid → AreWhole managed failing mid host_mid link_mid b → AreWhole managed failing from host link (a ++ b)
 whole_then managed None a b from mid host host_mid link link_mid p q = tt
 whole_then managed (Some f) a b from mid None host_mid link link_mid p q = tt
 whole_then managed (Some f) a b from mid (Some h) host_mid None link_mid p q = tt
 whole_then managed (Some f) a b from mid (Some h) host_mid (Some l) link_mid p q = whole_rest managed f (told_turns managed f from h l.coming) (length l.coming) a b mid host_mid link_mid p q
 
-pub ends_then : (managed : List Managed) (failing : Option (List ℕ)) (from mid to : Life) (host host_mid : Option HostTold) (link link_mid : Option LinkTold) (out out_mid out_to : Option (List ℕ)) (a b : List Met)
+pub ends_then : (managed : List Managed) (failing : Option Failing) (from mid to : Life) (host host_mid : Option HostTold) (link link_mid : Option LinkTold) (out out_mid out_to : Option (List ℕ)) (a b : List Met)
     → Goes managed failing from host link out mid host_mid link_mid out_mid a → Ends managed failing mid host_mid link_mid out_mid to out_to b
     → Ends managed failing from host link out to out_to (a ++ b)
 ends_then managed failing from mid to host host_mid link link_mid out out_mid out_to a b p q = record {
@@ -98,7 +98,7 @@ ends_then managed failing from mid to host host_mid link link_mid out out_mid ou
   whole = whole_then managed failing a b from mid host host_mid link link_mid p.foretold q.whole;
 }
 
-rest_here : (managed : List Managed) (failing : Option (List ℕ)) (life : Life) (host : Option HostTold) (link : Option LinkTold) → AreForetold managed failing life host link [] life host link
+rest_here : (managed : List Managed) (failing : Option Failing) (life : Life) (host : Option HostTold) (link : Option LinkTold) → AreForetold managed failing life host link [] life host link
 rest_here managed None life host link = tt
 rest_here managed (Some f) life None link = tt
 rest_here managed (Some f) life (Some h) None = tt
@@ -107,6 +107,6 @@ rest_here managed (Some f) life (Some h) (Some l) = (refl, omega arith)
 pub passes_none : (managed : List Managed) (life : Life) (out : Option (List ℕ)) → Passes managed life out life out []
 passes_none managed life out = record { after = refl; answers = tt; written = lines_none out }
 
-pub goes_nowhere : (managed : List Managed) (failing : Option (List ℕ)) (life : Life) (host : Option HostTold) (link : Option LinkTold) (out : Option (List ℕ))
+pub goes_nowhere : (managed : List Managed) (failing : Option Failing) (life : Life) (host : Option HostTold) (link : Option LinkTold) (out : Option (List ℕ))
     → Goes managed failing life host link out life host link out []
 goes_nowhere managed failing life host link out = record { passes = passes_none managed life out; foretold = rest_here managed failing life host link }

@@ -6,15 +6,15 @@ use Rattle.world.specs.HostCalls.{HostTold}
 use Rattle.world.specs.LinkCalls.{LinkTold, Begins}
 use Rattle.world.specs.StoreCalls.{StoreTold}
 use Rattle.client_model.specs.declared.interfaces.Managed.{Managed}
-use Rattle.client_model.specs.Interfaces.{opening, rows_of}
+use Rattle.client_model.specs.Clients.{opening, rows_of}
 use Rattle.client_model.specs.Opening.{OpeningMet, opened_client, opened_life}
-use Rattle.client_model.specs.Turns.{Life, Met, life_after}
+use Rattle.client_model.specs.Turns.{Life, Met, capped, life_after}
 use Rattle.client_model.specs.Lives.{AllAnswered, turns_lines, opening_lines, closing_lines}
 use Rattle.client_model.specs.Lines.{Line}
-use Rattle.client_model.specs.ToldDevices.{Determined, told_host, told_host_for, told_opening, told_turns}
+use Rattle.client_model.specs.ToldDevices.{Failing, Determined, told_host, told_host_for, told_opening, told_turns}
 use Rattle.daemon.specs.Printing.{Prints}
 use Rattle.daemon.specs.Openings.{FindsNothing, MakesOpening}
-use Rattle.daemon.specs.Serving.{WritesLines, AreWhole}
+use Rattle.daemon.specs.Serving.{WritesLines, failing_of, told_by, AreWhole}
 use Rattle.daemon.specs.Waking.{WritesBytes, EndsThere}
 use Rattle.daemon.specs.Served.{OpensForetold, Served}
 use Rattle.daemon.proofs.Stretches.{lines_then}
@@ -23,51 +23,52 @@ abbrev begun : Begin → Result Begin Failed
 begun begin = Ok begin
 
 met_is : (managed : List Managed) (failing : List ℕ) (host : HostTold) (begin : Begin) (met : OpeningMet) → met.begin ≡ begin → FindsNothing met
-    → met.host ≡ (told_host managed failing None (rows_of (opening managed met.begin.up)) host).answer → met ≡ (told_opening managed failing begin host).answer
+    → met.host ≡ (told_host managed failing None (rows_of (opening managed met.begin.up (capped met.begin.at))) host).answer → met ≡ (told_opening managed failing begin host).answer
 met_is managed failing host begin met begins nothing host_is =
-    let host_here : met.host ≡ (told_host managed failing None (rows_of (opening managed begin.up)) host).answer = host_is ∙ ap (λ (b : Begin). (told_host managed failing None (rows_of (opening managed b.up)) host).answer) begins in
+    let host_here : met.host ≡ (told_host managed failing None (rows_of (opening managed begin.up (capped begin.at))) host).answer = host_is ∙ ap (λ (b : Begin). (told_host managed failing None (rows_of (opening managed b.up (capped b.at))) host).answer) begins in
     λ i. record { begin = begins i; asides = nothing.asides i; settled = nothing.settled i; readings = nothing.readings i; host = host_here i }
 
-both_told : (managed : List Managed) (failing : List ℕ) (here : Option (List ℕ)) (host : HostTold) (host_mid : Option HostTold) (link : LinkTold) (link_mid : Option LinkTold) (begin : Begin) (met : OpeningMet) (mets : List Met) (life : Life)
+both_told : (managed : List Managed) (failing : Failing) (here : Option Failing) (host : HostTold) (host_mid : Option HostTold) (link : LinkTold) (link_mid : Option LinkTold) (begin : Begin) (met : OpeningMet) (mets : List Met) (life : Life)
     → here ≡ Some failing → met.begin ≡ begin → FindsNothing met
-    → Determined (told_host_for managed None (rows_of (opened_client managed met))) (Some failing) (Some host) met.host host_mid
+    → Determined (told_host_for managed None (rows_of (opened_client managed met))) (Some failing.host) (Some host) met.host host_mid
     → (begin ≡ link.begin) × (link_mid ≡ Some link) → life ≡ opened_life managed met → AreWhole managed here life host_mid link_mid mets
     → OpensForetold managed (Some failing) (Some host) (Some link) met mets
 both_told managed failing here host host_mid link link_mid begin met mets life same begins nothing told starts after whole =
     let begin_is : met.begin ≡ link.begin = begins ∙ starts.0 in
-    let told_here : host_mid ≡ Some (told_opening managed failing link.begin host).told =
-    told.1 ∙ ap (λ (b : Begin). Some (told_host managed failing None (rows_of (opening managed b.up)) host).told) begin_is in (
-      met_is managed failing host link.begin met begin_is nothing told.0,
-      subst (λ (l : Life). told_turns managed failing l (told_opening managed failing link.begin host).told link.coming ≡ mets) after
+    let told_here : host_mid ≡ Some (told_opening managed failing.host link.begin host).told =
+    told.1 ∙ ap (λ (b : Begin). Some (told_host managed failing.host None (rows_of (opening managed b.up (capped b.at))) host).told) begin_is in (
+      met_is managed failing.host host link.begin met begin_is nothing told.0,
+      subst (λ (l : Life). told_turns managed failing l (told_by link (told_opening managed failing.host link.begin host).told) link.coming ≡ mets) after
           (subst (λ (h : Option HostTold). AreWhole managed (Some failing) life h (Some link) mets) told_here
           (subst (λ (k : Option LinkTold). AreWhole managed (Some failing) life host_mid k mets) starts.1
-          (subst (λ (f : Option (List ℕ)). AreWhole managed f life host_mid link_mid mets) same whole))),
+          (subst (λ (f : Option Failing). AreWhole managed f life host_mid link_mid mets) same whole))),
     )
 
-opens_foretold : (managed : List Managed) (failing here : Option (List ℕ)) (host host_mid : Option HostTold) (link link_mid : Option LinkTold) (begin : Begin) (met : OpeningMet) (mets : List Met) (life : Life)
-    → here ≡ failing → met.begin ≡ begin → FindsNothing met
+opens_foretold : (managed : List Managed) (sends failing : Option (List ℕ)) (here : Option Failing) (host host_mid : Option HostTold) (link link_mid : Option LinkTold) (begin : Begin) (met : OpeningMet) (mets : List Met) (life : Life)
+    → here ≡ failing_of sends failing → met.begin ≡ begin → FindsNothing met
     → Determined (told_host_for managed None (rows_of (opened_client managed met))) failing host met.host host_mid
     → Begins link link_mid (begun begin) → life ≡ opened_life managed met → AreWhole managed here life host_mid link_mid mets
-    → OpensForetold managed failing host link met mets
-opens_foretold managed None here host host_mid link link_mid begin met mets life same begins nothing told starts after whole = tt
-opens_foretold managed (Some f) here None host_mid link link_mid begin met mets life same begins nothing told starts after whole = tt
-opens_foretold managed (Some f) here (Some h) host_mid None link_mid begin met mets life same begins nothing told starts after whole = tt
-opens_foretold managed (Some f) here (Some h) host_mid (Some l) link_mid begin met mets life same begins nothing told starts after whole =
-    both_told managed f here h host_mid l link_mid begin met mets life same begins nothing told starts after whole
+    → OpensForetold managed (failing_of sends failing) host link met mets
+opens_foretold managed None failing here host host_mid link link_mid begin met mets life same begins nothing told starts after whole = tt
+opens_foretold managed (Some s) None here host host_mid link link_mid begin met mets life same begins nothing told starts after whole = tt
+opens_foretold managed (Some s) (Some f) here None host_mid link link_mid begin met mets life same begins nothing told starts after whole = tt
+opens_foretold managed (Some s) (Some f) here (Some h) host_mid None link_mid begin met mets life same begins nothing told starts after whole = tt
+opens_foretold managed (Some s) (Some f) here (Some h) host_mid (Some l) link_mid begin met mets life same begins nothing told starts after whole =
+    both_told managed (record { sends = s; host = f }) here h host_mid l link_mid begin met mets life same begins nothing told starts after whole
 
 opening_written : (old new : Option (List ℕ)) (text : List ℕ) (lines : List Line) → WritesBytes old new text → Prints [] text lines → WritesLines old new lines
 opening_written None new text lines w p = w
 opening_written (Some written) new text lines w p = w ∙ ap (λ (x : List ℕ). Some (written ++ x)) p.appended
 
-pub serves : (managed : List Managed) (failing here : Option (List ℕ)) (host host_mid : Option HostTold) (link link_mid : Option LinkTold) (store_failing : Option (List ℕ)) (store : Option StoreTold) (begin : Begin) (life last : Life)
+pub serves : (managed : List Managed) (sends failing : Option (List ℕ)) (here : Option Failing) (host host_mid : Option HostTold) (link link_mid : Option LinkTold) (store_failing : Option (List ℕ)) (store : Option StoreTold) (begin : Begin) (life last : Life)
     (text_old text written : List ℕ) (out out_one out_two out_three : Option (List ℕ))
-    → here ≡ failing → Begins link link_mid (begun begin)
+    → here ≡ failing_of sends failing → Begins link link_mid (begun begin)
     → text_old ≡ [] → MakesOpening managed begin life failing host host_mid store_failing store text_old text
     → written ≡ text → WritesBytes out out_one written
     → EndsThere managed here life host_mid link_mid out_one last out_two
     → WritesLines out_two out_three (closing_lines last)
-    → Served managed failing host link store_failing store out out_three
-serves managed failing here host host_mid link link_mid store_failing store begin life last text_old text written out out_one out_two out_three same starts empty made text_is wrote ends closes =
+    → Served managed sends failing host link store_failing store out out_three
+serves managed sends failing here host host_mid link link_mid store_failing store begin life last text_old text written out out_one out_two out_three same starts empty made text_is wrote ends closes =
     let life_is : life ≡ opened_life managed made.met = made.after in
     let mets : List Met = ends.mets in
     let last_is : last ≡ life_after managed (opened_life managed made.met) mets = ends.ends.passes.after ∙ ap (λ (l : Life). life_after managed l mets) life_is in
@@ -84,5 +85,5 @@ serves managed failing here host host_mid link link_mid store_failing store begi
       answers = subst (λ (l : Life). AllAnswered managed l mets) life_is ends.ends.passes.answers;
       written = lines_then out out_one out_three (opening_lines managed made.met) (turns_lines managed (opened_life managed made.met) mets ++ closing_lines (life_after managed (opened_life managed made.met) mets)) opening_is
           (lines_then out_one out_two out_three (turns_lines managed (opened_life managed made.met) mets) (closing_lines (life_after managed (opened_life managed made.met) mets)) turns_are closing_is);
-      foretold = λ quiet. opens_foretold managed failing here host host_mid link link_mid begin made.met mets life same made.begins (made.quiet quiet) made.told starts life_is ends.ends.whole;
+      foretold = λ quiet. opens_foretold managed sends failing here host host_mid link link_mid begin made.met mets life same made.begins (made.quiet quiet) made.told starts life_is ends.ends.whole;
     }

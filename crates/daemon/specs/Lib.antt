@@ -1,6 +1,7 @@
 pub mod HostTurns
 pub mod Printing
 pub mod Lives
+pub mod Sends
 pub mod TurnsMade
 pub mod Serving
 pub mod Waking

@@ -5,7 +5,7 @@ use Rattle.daemon.specs.declared.lives.Life.{Life}
 use Rattle.daemon.specs.HostTurns.{keys_of}
 
 abbrev pub life_of : Life → model.Life
-life_of life = record { client = life.core; known = keys_of life.known; now = life.moment; stop = life.stop }
+life_of life = record { client = life.core; known = keys_of life.known; now = life.moment; stop = life.stop; unsent = life.unsent }
 
 abbrev pub IsBelowEnd : Option ℕ → Type 0
 IsBelowEnd None = Unit {0}

@@ -5,7 +5,7 @@ use Rattle.world.specs.declared.wakes.Begin.{Begin}
 use Rattle.world.specs.HostCalls.{HostTold}
 use Rattle.world.specs.StoreCalls.{StoreTold, Missing}
 use Rattle.client_model.specs.declared.interfaces.Managed.{Managed}
-use Rattle.client_model.specs.Interfaces.{rows_of}
+use Rattle.client_model.specs.Clients.{rows_of}
 use Rattle.client_model.specs.Opening.{Aside, OpeningMet, Opens, file_names, opened_client, opened_life}
 use Rattle.client_model.specs.Turns.{Life}
 use Rattle.client_model.specs.Lives.{opening_lines}

@@ -6,7 +6,7 @@ use Rattle.client_model.specs.declared.interfaces.Managed.{Managed}
 use Rattle.client_model.specs.Turns.{Life, Met, life_after}
 use Rattle.client_model.specs.Lives.{AllAnswered, turns_lines}
 use Rattle.client_model.specs.Lines.{Line, lines_text}
-use Rattle.client_model.specs.ToldDevices.{told_turns}
+use Rattle.client_model.specs.ToldDevices.{Failing, Told, told_turns}
 use Rattle.daemon.specs.declared.serving.ServeEnd.{ServeEnd}
 use Rattle.daemon.specs.declared.serving.ServeEnd.TheVariants as ends
 
@@ -15,26 +15,35 @@ abbrev pub WritesLines : Option (List ℕ) → Option (List ℕ) → List Line �
 WritesLines None new lines = new ≡ None
 WritesLines (Some written) new lines = new ≡ Some (written ++ lines_text lines)
 
+-- which calls fail, where both the link and the host tell it
+abbrev pub failing_of : (sends host : Option (List ℕ)) → Option Failing
+failing_of None host = None
+failing_of (Some sends) None = None
+failing_of (Some sends) (Some host) = Some (record { sends = sends; host = host })
+
+abbrev pub told_by : LinkTold → HostTold → Told
+told_by link host = record { sent = link.sends; host = host }
+
 -- The turns met are those that the devices foretold, and the rest is still to come.
-abbrev pub IsRest : List Managed → List ℕ → List Met → ℕ → List Met → Life → Option HostTold → Option LinkTold → Type 0
+abbrev pub IsRest : List Managed → Failing → List Met → ℕ → List Met → Life → Option HostTold → Option LinkTold → Type 0
 IsRest managed failing foretold count mets to None link = ⊥
 IsRest managed failing foretold count mets to (Some host) None = ⊥
 IsRest managed failing foretold count mets to (Some host) (Some link) =
-    (foretold ≡ mets ++ told_turns managed failing to host link.coming) × (count ≡ length mets + length link.coming)
+    (foretold ≡ mets ++ told_turns managed failing to (told_by link host) link.coming) × (count ≡ length mets + length link.coming)
 
-abbrev pub AreForetold : List Managed → Option (List ℕ) → Life → Option HostTold → Option LinkTold → List Met → Life → Option HostTold → Option LinkTold → Type 0
+abbrev pub AreForetold : List Managed → Option Failing → Life → Option HostTold → Option LinkTold → List Met → Life → Option HostTold → Option LinkTold → Type 0
 AreForetold managed None from host link mets to host_to link_to = Unit {0}
 AreForetold managed (Some failing) from None link mets to host_to link_to = Unit {0}
 AreForetold managed (Some failing) from (Some host) None mets to host_to link_to = Unit {0}
 AreForetold managed (Some failing) from (Some host) (Some link) mets to host_to link_to =
-    IsRest managed failing (told_turns managed failing from host link.coming) (length link.coming) mets to host_to link_to
+    IsRest managed failing (told_turns managed failing from (told_by link host) link.coming) (length link.coming) mets to host_to link_to
 
 -- The turns met are all that the devices foretold.
-abbrev pub AreWhole : List Managed → Option (List ℕ) → Life → Option HostTold → Option LinkTold → List Met → Type 0
+abbrev pub AreWhole : List Managed → Option Failing → Life → Option HostTold → Option LinkTold → List Met → Type 0
 AreWhole managed None from host link mets = Unit {0}
 AreWhole managed (Some failing) from None link mets = Unit {0}
 AreWhole managed (Some failing) from (Some host) None mets = Unit {0}
-AreWhole managed (Some failing) from (Some host) (Some link) mets = told_turns managed failing from host link.coming ≡ mets
+AreWhole managed (Some failing) from (Some host) (Some link) mets = told_turns managed failing from (told_by link host) link.coming ≡ mets
 
 -- turns were handled, and their lines were written
 pub record Passes (managed : List Managed) (from : Life) (out_from : Option (List ℕ)) (to : Life) (out_to : Option (List ℕ)) (mets : List Met) : Type 0 where
@@ -43,14 +52,14 @@ pub record Passes (managed : List Managed) (from : Life) (out_from : Option (Lis
   pub written : WritesLines out_from out_to (turns_lines managed from mets)
 
 -- a life goes on after these turns
-pub record Goes (managed : List Managed) (failing : Option (List ℕ))
+pub record Goes (managed : List Managed) (failing : Option Failing)
     (from : Life) (host_from : Option HostTold) (link_from : Option LinkTold) (out_from : Option (List ℕ))
     (to : Life) (host_to : Option HostTold) (link_to : Option LinkTold) (out_to : Option (List ℕ)) (mets : List Met) : Type 0 where
   pub passes : Passes managed from out_from to out_to mets
   pub foretold : AreForetold managed failing from host_from link_from mets to host_to link_to
 
 -- a life is over after these turns
-pub record Ends (managed : List Managed) (failing : Option (List ℕ))
+pub record Ends (managed : List Managed) (failing : Option Failing)
     (from : Life) (host_from : Option HostTold) (link_from : Option LinkTold) (out_from : Option (List ℕ))
     (to : Life) (out_to : Option (List ℕ)) (mets : List Met) : Type 0 where
   pub passes : Passes managed from out_from to out_to mets
@@ -78,7 +87,7 @@ HasEndCause ends.End out out' link link' = (out ≤ out') × (link ≤ link')
 HasEndCause end out out' link link' = HasLifeCause end out out' link link'
 
 -- as many turns were handled as were allowed, since no fewer come
-abbrev pub AreManyTurns : Option (List ℕ) → Option HostTold → Option LinkTold → ℕ → Type 0
+abbrev pub AreManyTurns : Option Failing → Option HostTold → Option LinkTold → ℕ → Type 0
 AreManyTurns None host link turns = Unit {0}
 AreManyTurns (Some failing) None link turns = Unit {0}
 AreManyTurns (Some failing) (Some host) None turns = Unit {0}

@@ -3,6 +3,7 @@ use Rattle.std.specs.Prelude.{ℕ, ◌≡◌, false, List, [], ◌∷◌, ◌++�
 use Rattle.world.specs.HostCalls.{HostTold}
 use Rattle.world.specs.LinkCalls.{LinkTold}
 use Rattle.client_model.specs.declared.interfaces.Managed.{Managed}
+use Rattle.client_model.specs.ToldDevices.{Failing}
 use Rattle.client_model.specs.Turns as model
 use Rattle.client_model.specs.Turns.{Met, is_over}
 use Rattle.daemon.specs.declared.waking.Woken.{Woken}
@@ -16,18 +17,18 @@ WritesBytes None new bytes = new ≡ None
 WritesBytes (Some written) new bytes = new ≡ Some (written ++ bytes)
 
 -- a life goes on after exactly one turn
-pub record GoesOn (managed : List Managed) (failing : Option (List ℕ)) (from : model.Life) (host : Option HostTold) (link : Option LinkTold) (out : Option (List ℕ))
+pub record GoesOn (managed : List Managed) (failing : Option Failing) (from : model.Life) (host : Option HostTold) (link : Option LinkTold) (out : Option (List ℕ))
     (to : model.Life) (host_to : Option HostTold) (link_to : Option LinkTold) (out_to : Option (List ℕ)) : Type 0 where
   pub met : Met
   pub goes : Goes managed failing from host link out to host_to link_to out_to (met ∷ [])
   pub going : is_over to ≡ false
 
 -- it is over after none, since nothing more came, or after one, since the time after a stop has passed
-pub record EndsThere (managed : List Managed) (failing : Option (List ℕ)) (from : model.Life) (host : Option HostTold) (link : Option LinkTold) (out : Option (List ℕ))
+pub record EndsThere (managed : List Managed) (failing : Option Failing) (from : model.Life) (host : Option HostTold) (link : Option LinkTold) (out : Option (List ℕ))
     (to : model.Life) (out_to : Option (List ℕ)) : Type 0 where
   pub mets : List Met
   pub ends : Ends managed failing from host link out to out_to mets
 
-abbrev pub IsOneTurn : List Managed → Option (List ℕ) → model.Life → Option HostTold → Option LinkTold → Option (List ℕ) → Woken → Option HostTold → Option LinkTold → Option (List ℕ) → Type 0
+abbrev pub IsOneTurn : List Managed → Option Failing → model.Life → Option HostTold → Option LinkTold → Option (List ℕ) → Woken → Option HostTold → Option LinkTold → Option (List ℕ) → Type 0
 IsOneTurn managed failing from host link out (On life) host_to link_to out_to = IsTimely life × GoesOn managed failing from host link out (life_of life) host_to link_to out_to
 IsOneTurn managed failing from host link out (Over life) host_to link_to out_to = EndsThere managed failing from host link out (life_of life) out_to

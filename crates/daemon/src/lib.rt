@@ -8,6 +8,8 @@ mod host_lines;
 mod host_turns;
 mod lives;
 mod openings;
+mod send_lines;
+mod sends;
 mod serving;
 mod turns;
 mod waking;

@@ -1,8 +1,9 @@
 ghost use Rattle.std.specs.Prelude.{◌≡◌, ◌<◌, ◌≤◌, ◌+◌, ◌^◌, max};
-ghost use Rattle.client_model.specs.Turns.{capped, stop_after, earlier, retry_at, end_at, is_past, until, is_over};
+ghost use Rattle.client_model.specs.Clients.{earlier};
+ghost use Rattle.client_model.specs.Turns.{capped, stop_after, retry_at, end_at, is_past, until, is_over};
 ghost use Rattle.daemon.specs.Lives.{life_of, IsBelowEnd, IsTimely, retry_unless};
 
-use client_core::Core;
+use client_core::{Core, core_due};
 use std::collections::BTreeSet;
 use world::{Event, HostRow};
 
@@ -25,6 +26,8 @@ pub struct Life {
     pub moment: u64,
     /// The moment of the stop, once it came.
     pub stop: Option<u64>,
+    /// The interfaces on which a send failed in the last turn: bit `i - 1` is interface `i`.
+    pub unsent: u64,
 }
 
 /// A moment as it counts: moments end, and don't go back.
@@ -94,10 +97,11 @@ impl Life {
         requires { IsTimely self.now }
         ensures { result ≡ until (life_of self.now) }
     {
-        earlier_of(
+        let loop_due = earlier_of(
             retry(self.known.is_some(), self.moment),
             last_moment(self.stop),
-        )
+        );
+        earlier_of(core_due(&self.core), loop_due)
     }
 
     /// Whether the life is over.

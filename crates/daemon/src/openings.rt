@@ -146,6 +146,7 @@ pub fn open<S: Store, H: Host>(
         known,
         moment: cut(begin.at),
         stop: None,
+        unsent: 0,
     };
     say(&TranscriptLine::Until(life.until()), text)?;
     Ok(life)

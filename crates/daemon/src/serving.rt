@@ -4,7 +4,7 @@ ghost use Rattle.client_model.specs.Turns.{is_over};
 ghost use Rattle.world.specs.LinkCalls.{Begins};
 ghost use Rattle.daemon.specs.declared.serving.ServeEnd.TheVariants.{NoMemory as no_memory};
 ghost use Rattle.daemon.specs.Lives.{life_of, IsTimely};
-ghost use Rattle.daemon.specs.Serving.{HasServeCause, HasLifeCause, HasEndCause, AreManyTurns};
+ghost use Rattle.daemon.specs.Serving.{HasServeCause, HasLifeCause, HasEndCause, AreManyTurns, failing_of};
 ghost use Rattle.daemon.specs.Waking.{EndsThere};
 ghost use Rattle.daemon.specs.Served.{Served};
 
@@ -59,11 +59,11 @@ fn take_turns<O: Sink, L: Link, S: Store, H: Host, K: Hooks>(
 ) -> Result<Life, ServeEnd>
     requires timely { IsTimely life }
     requires going { is_over (life_of life) ≡ false }
-    ensures ok { IfOk result (λ last. EndsThere managed.now (H.failing live.old.host) (life_of life) (H.told live.old.host) (L.told live.old.link) (O.written out.old) (life_of last) (O.written out.new)) }
+    ensures ok { IfOk result (λ last. EndsThere managed.now (failing_of (L.failing_sends live.old.link) (H.failing live.old.host)) (life_of life) (H.told live.old.host) (L.told live.old.link) (O.written out.old) (life_of last) (O.written out.new)) }
     ensures later { IfOk result (λ _. (O.faults out.old ≤ O.faults out.new) × (L.faults live.old.link ≤ L.faults live.new.link)) }
     ensures cause { IfErr result (λ end. HasLifeCause end (O.faults out.old) (O.faults out.new) (L.faults live.old.link) (L.faults live.new.link)) }
     ensures foretold { L.failing_waits live.old.link ≡ Some [] → result ≢ Err ServeEnd.LinkFault }
-    ensures many { result ≡ Err ServeEnd.TurnsOver → AreManyTurns (H.failing live.old.host) (H.told live.old.host) (L.told live.old.link) turns }
+    ensures many { result ≡ Err ServeEnd.TurnsOver → AreManyTurns (failing_of (L.failing_sends live.old.link) (H.failing live.old.host)) (H.told live.old.host) (L.told live.old.link) turns }
 {
     let mut buf = frame_buffer(alloc)?;
     let mut life = life;
@@ -80,7 +80,7 @@ fn begin<L: Link>(link: &mut L) -> Result<Begin, ServeEnd>
     ensures ok { IfOk result (λ begin. (L.faults link.old ≤ L.faults link.new) × Begins (L.told link.old) (L.told link.new) (Ok begin)) }
     ensures cause { IfErr result (λ end. HasServeCause end 0 0 (L.faults link.old) (L.faults link.new)) }
     ensures foretold { L.failing_waits link.old ≡ Some [] → result ≢ Err ServeEnd.LinkFault }
-    ensures failing { L.failing_waits link.new ≡ L.failing_waits link.old }
+    ensures failing { (L.failing_waits link.new ≡ L.failing_waits link.old) × (L.failing_sends link.new ≡ L.failing_sends link.old) }
 {
     match link.begin() {
         Ok(begin) => Ok(begin),
@@ -97,11 +97,11 @@ fn live_on<O: Sink, L: Link, S: Store, H: Host, K: Hooks>(
     turns: u64,
 ) -> Result<(), ServeEnd>
     requires { AreManaged managed.now }
-    ensures ok { IfOk result (λ _. Served managed.now (H.failing live.old.host) (H.told live.old.host) (L.told live.old.link) (S.failing live.old.store) (S.told live.old.store) (O.written out.old) (O.written out.new)) }
+    ensures ok { IfOk result (λ _. Served managed.now (L.failing_sends live.old.link) (H.failing live.old.host) (H.told live.old.host) (L.told live.old.link) (S.failing live.old.store) (S.told live.old.store) (O.written out.old) (O.written out.new)) }
     ensures later { IfOk result (λ _. (O.faults out.old ≤ O.faults out.new) × (L.faults live.old.link ≤ L.faults live.new.link)) }
     ensures cause { IfErr result (λ end. HasLifeCause end (O.faults out.old) (O.faults out.new) (L.faults live.old.link) (L.faults live.new.link)) }
     ensures foretold { L.failing_waits live.old.link ≡ Some [] → result ≢ Err ServeEnd.LinkFault }
-    ensures many { H.failing live.old.host ≡ Some [] → result ≡ Err ServeEnd.TurnsOver → IfSome (H.told live.old.host) (λ _. IfSome (L.told live.old.link) (λ link. turns ≤ length link.coming)) }
+    ensures many { IfSome (L.failing_sends live.old.link) (λ _. H.failing live.old.host ≡ Some []) → result ≡ Err ServeEnd.TurnsOver → IfSome (H.told live.old.host) (λ _. IfSome (L.told live.old.link) (λ link. turns ≤ length link.coming)) }
 {
     let start = begin(&mut live.link)?;
     let mut text = Vec::new(alloc);
@@ -128,10 +128,10 @@ pub fn serve<O: Sink, L: Link, S: Store, H: Host, K: Hooks>(
     turns: u64,
 ) -> ServeEnd
     requires { AreManaged managed.now }
-    ensures served { result ≡ ServeEnd.End → Served managed.now (H.failing live.old.host) (H.told live.old.host) (L.told live.old.link) (S.failing live.old.store) (S.told live.old.store) (O.written out.old) (O.written out.new) }
+    ensures served { result ≡ ServeEnd.End → Served managed.now (L.failing_sends live.old.link) (H.failing live.old.host) (H.told live.old.host) (L.told live.old.link) (S.failing live.old.store) (S.told live.old.store) (O.written out.old) (O.written out.new) }
     ensures cause { HasEndCause result (O.faults out.old) (O.faults out.new) (L.faults live.old.link) (L.faults live.new.link) }
     ensures foretold { L.failing_waits live.old.link ≡ Some [] → result ≢ ServeEnd.LinkFault }
-    ensures many { H.failing live.old.host ≡ Some [] → result ≡ ServeEnd.TurnsOver → IfSome (H.told live.old.host) (λ _. IfSome (L.told live.old.link) (λ link. turns ≤ length link.coming)) }
+    ensures many { IfSome (L.failing_sends live.old.link) (λ _. H.failing live.old.host ≡ Some []) → result ≡ ServeEnd.TurnsOver → IfSome (H.told live.old.host) (λ _. IfSome (L.told live.old.link) (λ link. turns ≤ length link.coming)) }
 {
     match live_on(alloc, managed, live, out, turns) {
         Ok(()) => ServeEnd::End,

@@ -3,7 +3,7 @@ ghost use Rattle.world.specs.LinkCalls.{frame_len, Waits};
 ghost use Rattle.client_model.specs.Lines as lines;
 ghost use Rattle.client_model.specs.Turns.{is_over, is_end};
 ghost use Rattle.daemon.specs.Lives.{life_of, IsTimely};
-ghost use Rattle.daemon.specs.Serving.{HasServeCause};
+ghost use Rattle.daemon.specs.Serving.{HasServeCause, failing_of};
 ghost use Rattle.daemon.specs.Waking.{WritesBytes, IsOneTurn};
 
 use crate::devices::Devices;
@@ -30,7 +30,7 @@ fn wait<L: Link>(link: &mut L, until: Option<u64>, buf: &mut [u8]) -> Result<Wak
     ensures ok { IfOk result (λ wake. (L.faults link.old ≤ L.faults link.new) × (frame_len wake.event ≤ length buf.new) × Waits until (L.told link.old) (L.told link.new) buf.new (Ok wake)) }
     ensures cause { IfErr result (λ end. HasServeCause end 0 0 (L.faults link.old) (L.faults link.new)) }
     ensures foretold { L.failing_waits link.old ≡ Some [] → result ≢ Err ServeEnd.LinkFault }
-    ensures failing { L.failing_waits link.new ≡ L.failing_waits link.old }
+    ensures failing { (L.failing_waits link.new ≡ L.failing_waits link.old) × (L.failing_sends link.new ≡ L.failing_sends link.old) }
 {
     match link.wait(until, buf) {
         Ok(wake) => Ok(wake),
@@ -100,11 +100,11 @@ pub fn one_turn<O: Sink, L: Link, S: Store, H: Host, K: Hooks>(
     requires timely { IsTimely life }
     requires going { is_over (life_of life) ≡ false }
     requires room { length buf.old ≡ 2048 }
-    ensures ok { IfOk result (λ woken. IsOneTurn managed.now (H.failing live.old.host) (life_of life) (H.told live.old.host) (L.told live.old.link) (O.written out.old) woken (H.told live.new.host) (L.told live.new.link) (O.written out.new)) }
+    ensures ok { IfOk result (λ woken. IsOneTurn managed.now (failing_of (L.failing_sends live.old.link) (H.failing live.old.host)) (life_of life) (H.told live.old.host) (L.told live.old.link) (O.written out.old) woken (H.told live.new.host) (L.told live.new.link) (O.written out.new)) }
     ensures later { IfOk result (λ woken. (O.faults out.old ≤ O.faults out.new) × (L.faults live.old.link ≤ L.faults live.new.link)) }
     ensures cause { IfErr result (λ end. HasServeCause end (O.faults out.old) (O.faults out.new) (L.faults live.old.link) (L.faults live.new.link)) }
     ensures foretold { L.failing_waits live.old.link ≡ Some [] → result ≢ Err ServeEnd.LinkFault }
-    ensures failing { (L.failing_waits live.new.link ≡ L.failing_waits live.old.link) × (H.failing live.new.host ≡ H.failing live.old.host) }
+    ensures failing { (L.failing_waits live.new.link ≡ L.failing_waits live.old.link) × (L.failing_sends live.new.link ≡ L.failing_sends live.old.link) × (H.failing live.new.host ≡ H.failing live.old.host) }
 {
     let wake = wait(&mut live.link, life.until(), buf)?;
     if ends_life(wake.event) {
@@ -118,6 +118,7 @@ pub fn one_turn<O: Sink, L: Link, S: Store, H: Host, K: Hooks>(
         life,
         wake,
         front(buf, len),
+        &mut live.link,
         &mut live.host,
         text,
     )?;

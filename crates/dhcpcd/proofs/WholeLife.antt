@@ -4,6 +4,7 @@ use Rattle.world.specs.HostCalls.{HostTold}
 use Rattle.world.specs.LinkCalls.{LinkTold, Given}
 use Rattle.world.specs.declared.wakes.Begin.{Begin}
 use Rattle.client_model.specs.declared.interfaces.Managed.{Managed}
+use Rattle.client_model.specs.declared.failing.FailLine.{FailLine}
 use Rattle.client_model.specs.Scripts.{ScriptLines, LifeScript}
 use Rattle.client_model.specs.Opening.{OpeningMet, opened_life}
 use Rattle.client_model.specs.Turns.{Met}
@@ -19,36 +20,37 @@ use Rattle.world_mem.specs.LinkRecord.{LinkState}
 use Rattle.world_mem.specs.StoreRecord.{StoreState}
 use Rattle.world_mem.specs.HostRecord.{HostState}
 use Rattle.dhcpcd.specs.Memory.{link_of, empty_store, host_of}
-use Rattle.dhcpcd.specs.Replays.{life_of_script}
+use Rattle.dhcpcd.specs.Replays.{told_after, life_of_script}
 
--- the lines of the life that devices which fail no call foretell
-abbrev life_from : List Managed → HostTold → Begin → List Given → List Line
-life_from managed host begin coming =
+-- the lines of the life that the devices foretell
+abbrev life_from : List Managed → List ℕ → HostTold → Begin → List Given → List Line
+life_from managed sends host begin coming =
     let opening = told_opening managed [] begin host in
-    life_lines managed opening.answer (told_turns managed [] (opened_life managed opening.answer) opening.told coming)
+    life_lines managed opening.answer (told_turns managed (record { sends = sends; host = [] }) (opened_life managed opening.answer) (told_after opening.told) coming)
 
-same_lines : (managed : List Managed) (host : HostTold) (link : LinkTold) (met : OpeningMet) (mets : List Met)
+same_lines : (managed : List Managed) (sends : List ℕ) (host : HostTold) (link : LinkTold) (met : OpeningMet) (mets : List Met)
     → met ≡ (told_opening managed [] link.begin host).answer
-    → told_turns managed [] (opened_life managed met) (told_opening managed [] link.begin host).told link.coming ≡ mets
-    → life_lines managed met mets ≡ life_from managed host link.begin link.coming
-same_lines managed host link met mets opens turns =
+    → told_turns managed (record { sends = sends; host = [] }) (opened_life managed met) (record { sent = 0; host = (told_opening managed [] link.begin host).told }) link.coming ≡ mets
+    → life_lines managed met mets ≡ life_from managed sends host link.begin link.coming
+same_lines managed sends host link met mets opens turns =
     ap (λ (m : List Met). life_lines managed met m) (sym turns)
-    ∙ ap (λ (o : OpeningMet). life_lines managed o (told_turns managed [] (opened_life managed o) (told_opening managed [] link.begin host).told link.coming)) opens
+    ∙ ap (λ (o : OpeningMet). life_lines managed o (told_turns managed (record { sends = sends; host = [] }) (opened_life managed o) (told_after (told_opening managed [] link.begin host).told) link.coming)) opens
 
 pub lived : (managed : List Managed) (script : ScriptLines) (host : HostState) (link : LinkState) (store : StoreState) (old new : Option (List ℕ))
-    → host ≡ host_of script.rows → link ≡ link_of script.life → store ≡ empty_store
-    → Served managed (Some host.failing) (Some host.told) (Some link.told) (Some store.failing) (Some store.told) old new → WritesLines old new (life_of_script managed script)
+    → host ≡ host_of script.rows → link ≡ link_of script.life script.fails → store ≡ empty_store
+    → Served managed (Some link.failing_sends) (Some host.failing) (Some host.told) (Some link.told) (Some store.failing) (Some store.told) old new → WritesLines old new (life_of_script managed script)
 unfolding life_of_script
 lived managed script host link store old new at_first begins empty served =
-    let over_host = subst (λ (h : HostState). Served managed (Some h.failing) (Some h.told) (Some link.told) (Some store.failing) (Some store.told) old new) at_first served in
-    let over_link = subst (λ (l : LinkState). Served managed (Some []) (Some (host_of script.rows).told) (Some l.told) (Some store.failing) (Some store.told) old new) begins over_host in
-    let over_store = subst (λ (s : StoreState). Served managed (Some []) (Some (host_of script.rows).told) (Some (link_of script.life).told) (Some s.failing) (Some s.told) old new) empty over_link in
+    let over_host = subst (λ (h : HostState). Served managed (Some link.failing_sends) (Some h.failing) (Some h.told) (Some link.told) (Some store.failing) (Some store.told) old new) at_first served in
+    let over_link = subst (λ (l : LinkState). Served managed (Some l.failing_sends) (Some []) (Some (host_of script.rows).told) (Some l.told) (Some store.failing) (Some store.told) old new) begins over_host in
+    let here = link_of script.life script.fails in
+    let over_store = subst (λ (s : StoreState). Served managed (Some here.failing_sends) (Some []) (Some (host_of script.rows).told) (Some here.told) (Some s.failing) (Some s.told) old new) empty over_link in
     let told = over_store.foretold (record { unfailing = refl; empty = refl }) in
-    subst (λ (l : List Line). WritesLines old new l) (same_lines managed (host_of script.rows).told (link_of script.life).told over_store.opening over_store.mets told.0 told.1) over_store.written
+    subst (λ (l : List Line). WritesLines old new l) (same_lines managed here.failing_sends (host_of script.rows).told here.told over_store.opening over_store.mets told.0 told.1) over_store.written
 
 -- fewer wakes come than are allowed
-pub all_come : (life : LifeScript) (link : LinkState) → link ≡ link_of life → length life.turns + 1 ≤ length link.told.coming → ⊥
-all_come life link begins many =
+pub all_come : (life : LifeScript) (fails : List FailLine) (link : LinkState) → link ≡ link_of life fails → length life.turns + 1 ≤ length link.told.coming → ⊥
+all_come life fails link begins many =
     let count : length link.told.coming ≡ length life.turns = ap (λ (l : LinkState). length l.told.coming) begins in
     omega (arith, count, many)
 

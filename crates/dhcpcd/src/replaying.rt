@@ -38,10 +38,11 @@ fn replay_life<O: Sink>(
         conf: _,
         ifaces: _,
         rows,
+        fails,
         life,
     } = script;
     let turns = life.turns.len() as u64 + 1;
-    let mut live = devices(alloc, rows, life)?;
+    let mut live = devices(alloc, rows, &fails, life)?;
     match serve(alloc, managed, &mut live, out, turns) {
         ServeEnd::End => Ok(()),
         ServeEnd::WriteFault => Err(Status::WriteFault),

@@ -15,16 +15,17 @@ use Rattle.world.specs.declared.rows.HostRow.{HostRow}
 use Rattle.world.specs.LinkCalls.{Given}
 use Rattle.world.specs.RowText.{row_text, IsBuiltRow}
 use Rattle.client_model.specs.Lines.{interface_text, start_text}
-use Rattle.client_model.specs.Scripts.{ScriptLines, LifeScript, ended, given_text, life_text, script_text, FitsGiven, FitsScript}
+use Rattle.client_model.specs.declared.failing.FailLine.{FailLine}
+use Rattle.client_model.specs.Scripts.{ScriptLines, LifeScript, ended, fail_text, given_text, life_text, script_text, FitsGiven, FitsFail, FitsScript}
 use Rattle.replay_text.specs.RowReading.{row_at}
-use Rattle.replay_text.specs.LineReading.{spec_at, turn_at}
+use Rattle.replay_text.specs.LineReading.{spec_at, fail_at, turn_at}
 use Rattle.replay_text.specs.Carriers.{begin_at}
 use Rattle.replay_text.specs.Blocks.{parts_of, Block, block_at, line_at, are_done}
 use Rattle.replay_text.specs.ScriptContent.{unless_last, lines_within, conf_lines, HoldsLines}
 use Rattle.replay_text.specs.KindTests.{interfaces_fit, are_once, turns_fit}
 use Rattle.replay_text.specs.ScriptReading.{conf_at, ifaces_at, rows_at, life_at, body_at, head, script_at}
 use Rattle.replay_text.proofs.RowLaws.{row_reads, row_line}
-use Rattle.replay_text.proofs.LineLaws.{spec_text, FitsSpec, spec_reads, spec_spelled, spec_line, turn_words, turn_reads, turn_spelled, turn_line}
+use Rattle.replay_text.proofs.LineLaws.{spec_text, FitsSpec, spec_reads, spec_spelled, spec_line, fail_words, fail_reads, fail_spelled, fail_line, turn_words, turn_reads, turn_spelled, turn_line}
 use Rattle.replay_text.proofs.CarrierLaws.{begin_words, FitsBegin, begin_reads, begin_spelled, begin_line}
 use Rattle.replay_text.proofs.BlockLaws.{WordsApart, parts_line, parts_joined, parts_lack, block_sound, block_whole, Stops, stops_line, stops_block, line_sound, line_whole, parts_block}
 use Rattle.replay_text.proofs.TestLaws.{by_recursion, AreInterfaces, interfaces_few, interfaces_sound, interfaces_whole, AreTurns, turns_sound, turns_whole}
@@ -172,8 +173,11 @@ life_read count life few is =
 
 -- ---- the body
 
+abbrev fail_parts : ScriptLines → List (List ℕ)
+fail_parts s = map (λ f. codes "fail " ++ fail_words f) s.fails ++ life_parts s.life
+
 abbrev row_parts : ScriptLines → List (List ℕ)
-row_parts s = map (λ r. codes "row " ++ row_text r) s.rows ++ life_parts s.life
+row_parts s = map (λ r. codes "row " ++ row_text r) s.rows ++ fail_parts s
 
 abbrev iface_parts : ScriptLines → List (List ℕ)
 iface_parts s = map (λ i. codes "if " ++ spec_text i) s.ifaces ++ row_parts s
@@ -185,6 +189,7 @@ record FitsLines (s : ScriptLines) : Type 0 where
   conf : AllByRecursion (Lacks 10) s.conf
   ifaces : AreInterfaces s.ifaces
   rows : AreRows s.rows
+  fails : AllByRecursion FitsFail s.fails
   life : IsLife (length s.ifaces) s.life
 
 body_sound : (parts : List (List ℕ)) (s : ScriptLines) → AllByRecursion (Lacks 10) parts → body_at parts ≡ Some s → (parts ≡ script_parts s) × FitsLines s
@@ -193,33 +198,40 @@ body_sound parts s free e =
     let conf = passed (conf_at parts) _ s e in
     let ifaces = passed (ifaces_at conf.value.1) _ s conf.gives in
     let rows = passed (rows_at ifaces.value.1) _ s ifaces.gives in
-    let life = passed (life_at (length ifaces.value.0) rows.value.1) _ s rows.gives in
+    let fails = passed (block_at (codes "fail ") fail_at rows.value.1) _ s rows.gives in
+    let life = passed (life_at (length ifaces.value.0) fails.value.1) _ s fails.gives in
     let c = conf_sound parts conf.value free conf.was in
     let i = ifaces_sound conf.value.1 ifaces.value ifaces.was in
     let r = rows_sound ifaces.value.1 rows.value rows.was in
-    let l = life_sound (length ifaces.value.0) rows.value.1 life.value (interfaces_few ifaces.value.0 i.1.test) life.was in
-    let made : ScriptLines = record { conf = conf_lines conf.value.0; ifaces = ifaces.value.0; rows = rows.value.0; life = life.value } in
+    let f = block_sound (codes "fail ") rows.value.1 fails.value fail_reads fails.was in
+    let l = life_sound (length ifaces.value.0) fails.value.1 life.value (interfaces_few ifaces.value.0 i.1.test) life.was in
+    let made : ScriptLines = record { conf = conf_lines conf.value.0; ifaces = ifaces.value.0; rows = rows.value.0; fails = fails.value.0; life = life.value } in
     let whole : made ≡ s = some_same life.gives in
-    let row_is : ifaces.value.1 ≡ row_parts made = r.0 ∙ ap (λ ps. map (λ r. codes "row " ++ row_text r) rows.value.0 ++ ps) l.0 in
+    let fail_is : rows.value.1 ≡ fail_parts made = f.0 ∙ ap (λ ps. map (λ f. codes "fail " ++ fail_words f) fails.value.0 ++ ps) l.0 in
+    let row_is : ifaces.value.1 ≡ row_parts made = r.0 ∙ ap (λ ps. map (λ r. codes "row " ++ row_text r) rows.value.0 ++ ps) fail_is in
     let iface_is : conf.value.1 ≡ iface_parts made = i.0 ∙ ap (λ ps. map (λ i. codes "if " ++ spec_text i) ifaces.value.0 ++ ps) row_is in
     let spelled : parts ≡ script_parts made = c.0 ∙ ap (λ ps. map (λ t. codes "c:" ++ t) (conf_lines conf.value.0) ++ ps) iface_is in
-    let fits : FitsLines made = record { conf = c.1; ifaces = i.1; rows = r.1; life = l.1 } in
+    let fits : FitsLines made = record { conf = c.1; ifaces = i.1; rows = r.1; fails = f.1; life = l.1 } in
     subst (λ (x : ScriptLines). (parts ≡ script_parts x) × FitsLines x) whole (spelled, fits)
 
 -- no line of a kind is taken for one of an earlier kind
 stops_life : (word : List ℕ) (life : LifeScript) → WordsApart word (codes "start ") → Stops word (life_parts life)
 stops_life word life apart = stops_line word (codes "start ") (begin_words life.begin) (map (λ g. codes "turn " ++ turn_words g) life.turns ++ [] ∷ []) apart
 
-stops_rows : (word : List ℕ) (s : ScriptLines) → WordsApart word (codes "row ") → WordsApart word (codes "start ") → Stops word (row_parts s)
-stops_rows word s row start = stops_block word (codes "row ") row_text s.rows (life_parts s.life) row (stops_life word s.life start)
+stops_fails : (word : List ℕ) (s : ScriptLines) → WordsApart word (codes "fail ") → WordsApart word (codes "start ") → Stops word (fail_parts s)
+stops_fails word s fail start = stops_block word (codes "fail ") fail_words s.fails (life_parts s.life) fail (stops_life word s.life start)
+
+stops_rows : (word : List ℕ) (s : ScriptLines) → WordsApart word (codes "row ") → WordsApart word (codes "fail ") → WordsApart word (codes "start ") → Stops word (row_parts s)
+stops_rows word s row fail start = stops_block word (codes "row ") row_text s.rows (fail_parts s) row (stops_fails word s fail start)
 
 body_whole : (s : ScriptLines) → FitsLines s → body_at (script_parts s) ≡ Some s
 unfolding body_at
 body_whole s fits =
     rw (
-      conf_whole s.conf (iface_parts s) (stops_block (codes "c:") (codes "if ") spec_text s.ifaces (row_parts s) refl (stops_rows (codes "c:") s refl refl)),
-      ifaces_read s.ifaces (row_parts s) fits.ifaces (stops_rows (codes "if ") s refl refl),
-      rows_read s.rows (life_parts s.life) fits.rows (stops_life (codes "row ") s.life refl),
+      conf_whole s.conf (iface_parts s) (stops_block (codes "c:") (codes "if ") spec_text s.ifaces (row_parts s) refl (stops_rows (codes "c:") s refl refl refl)),
+      ifaces_read s.ifaces (row_parts s) fits.ifaces (stops_rows (codes "if ") s refl refl refl),
+      rows_read s.rows (fail_parts s) fits.rows (stops_fails (codes "row ") s refl refl),
+      block_whole (codes "fail ") s.fails (life_parts s.life) fail_reads fits.fails (stops_life (codes "fail ") s.life refl),
       life_read (length s.ifaces) s.life (interfaces_few s.ifaces fits.ifaces.test) fits.life,
       conf_lines_of s.conf fits.conf,
     ) refl
@@ -238,14 +250,20 @@ rows_spelled : (rows : List HostRow) → AllByRecursion IsBuiltRow rows → AllB
 rows_spelled [] fits = tt
 rows_spelled (row ∷ rows) fits = ((refl, lacks-append 10 (codes "row ") (row_text row) refl (row_line row fits.0)), rows_spelled rows fits.1)
 
+fails_spelled : (fails : List FailLine) → AllByRecursion FitsFail fails → AllByRecursion (λ f. (fail_text f ≡ codes "fail " ++ fail_words f) × Lacks 10 (codes "fail " ++ fail_words f)) fails
+fails_spelled [] fits = tt
+fails_spelled (fail ∷ fails) fits = ((fail_spelled fail, lacks-append 10 (codes "fail ") (fail_words fail) refl (fail_line fail fits.0)), fails_spelled fails fits.1)
+
 turns_spelled : (turns : List Given) → AllByRecursion (FitsGiven 64) turns → AllByRecursion (λ g. (given_text g ≡ codes "turn " ++ turn_words g) × Lacks 10 (codes "turn " ++ turn_words g)) turns
 turns_spelled [] fits = tt
 turns_spelled (given ∷ turns) fits =
-    let first = fits.0 in
-    ((turn_spelled given first.bytes, lacks-append 10 (codes "turn ") (turn_words given) refl (turn_line given first)), turns_spelled turns fits.1)
+    ((turn_spelled given, lacks-append 10 (codes "turn ") (turn_words given) refl (turn_line given fits.0)), turns_spelled turns fits.1)
+
+abbrev fail_body : ScriptLines → List ℕ
+fail_body s = flat_map (λ fail. ended (fail_text fail)) s.fails ++ life_text s.life
 
 abbrev row_body : ScriptLines → List ℕ
-row_body s = flat_map (λ row. ended (codes "row " ++ row_text row)) s.rows ++ life_text s.life
+row_body s = flat_map (λ row. ended (codes "row " ++ row_text row)) s.rows ++ fail_body s
 
 abbrev iface_body : ScriptLines → List ℕ
 iface_body s = flat_map (λ spec. ended (interface_text spec)) s.ifaces ++ row_body s
@@ -265,9 +283,12 @@ life_cut count life few is =
 body_cut : (s : ScriptLines) → FitsLines s → parts_of (body_text s) ≡ script_parts s
 body_cut s fits =
     let life = life_cut (length s.ifaces) s.life (interfaces_few s.ifaces fits.ifaces.test) fits.life in
+    let fails : parts_of (fail_body s) ≡ fail_parts s =
+    parts_block fail_text (λ f. codes "fail " ++ fail_words f) s.fails (life_text s.life) (fails_spelled s.fails fits.fails)
+    ∙ ap (λ ps. map (λ f. codes "fail " ++ fail_words f) s.fails ++ ps) life in
     let rows : parts_of (row_body s) ≡ row_parts s =
-    parts_block (λ row. codes "row " ++ row_text row) (λ row. codes "row " ++ row_text row) s.rows (life_text s.life) (rows_spelled s.rows fits.rows.each)
-    ∙ ap (λ ps. map (λ r. codes "row " ++ row_text r) s.rows ++ ps) life in
+    parts_block (λ row. codes "row " ++ row_text row) (λ row. codes "row " ++ row_text row) s.rows (fail_body s) (rows_spelled s.rows fits.rows.each)
+    ∙ ap (λ ps. map (λ r. codes "row " ++ row_text r) s.rows ++ ps) fails in
     let ifaces : parts_of (iface_body s) ≡ iface_parts s =
     parts_block interface_text (λ i. codes "if " ++ spec_text i) s.ifaces (row_body s) (ifaces_spelled s.ifaces fits.ifaces.each)
     ∙ ap (λ ps. map (λ i. codes "if " ++ spec_text i) s.ifaces ++ ps) rows in
@@ -286,6 +307,7 @@ lines_to s fits =
       conf = by_recursion (Lacks 10) s.conf fits.conf;
       ifaces = ifaces;
       rows = record { each = by_recursion IsBuiltRow s.rows fits.rows; test = eq-eqb _ _ fits.once };
+      fails = by_recursion FitsFail s.fails fits.fails;
       life = record {
         begin = record { at = life.at; salt = life.salt; up = life.up };
         turns = turns_whole (length s.ifaces) s.life.turns few (by_recursion (FitsGiven (length s.ifaces)) s.life.turns life.turns);
@@ -301,6 +323,7 @@ lines_from s fits =
       ifaces = interfaces_sound s.ifaces fits.ifaces;
       rows = All-from_recursion IsBuiltRow s.rows fits.rows.each;
       once = eqb-true _ _ fits.rows.test;
+      fails = All-from_recursion FitsFail s.fails fits.fails;
       life = record {
         at = begin.at;
         salt = begin.salt;

@@ -125,7 +125,7 @@ interfaces_whole specs fit =
 -- ---- turns
 
 listed_sound : (count : ℕ) (event : Event) → FitsEvent 64 event → is_listed count event ≡ true → FitsEvent count event
-listed_sound count (Frame iface len) fits e = absurd fits
+listed_sound count (Frame iface len) fits e = (fits.0, leb-true _ _ e)
 listed_sound count (Carrier iface up) fits e = (fits.0, leb-true _ _ e)
 listed_sound count (Duplicate iface addr) fits e = absurd fits
 listed_sound count (Release iface) fits e = absurd fits
@@ -135,7 +135,7 @@ listed_sound count Quiet fits e = tt
 listed_sound count End fits e = absurd fits
 
 listed_whole : (count : ℕ) (event : Event) → count ≤ 64 → FitsEvent count event → FitsEvent 64 event × (is_listed count event ≡ true)
-listed_whole count (Frame iface len) few fits = absurd fits
+listed_whole count (Frame iface len) few fits = let within : iface ≤ count = fits.1 in ((fits.0, omega arith), le-leb _ _ within)
 listed_whole count (Carrier iface up) few fits = let within : iface ≤ count = fits.1 in ((fits.0, omega arith), le-leb _ _ within)
 listed_whole count (Duplicate iface addr) few fits = absurd fits
 listed_whole count (Release iface) few fits = absurd fits

@@ -5,7 +5,7 @@ use Rattle.net_types.specs.declared.interface.IfSpec.{IfSpec}
 use Rattle.net_types.specs.NameText.{name_text}
 use Rattle.world.specs.declared.rows.HostRow.{HostRow}
 use Rattle.world.specs.declared.wakes.Event.{Event}
-use Rattle.world.specs.declared.wakes.Event.TheVariants.{Carrier}
+use Rattle.world.specs.declared.wakes.Event.TheVariants.{Frame, Carrier}
 use Rattle.world.specs.LinkCalls.{Given}
 use Rattle.world.specs.RowOrder.{in_row_order}
 
@@ -28,6 +28,7 @@ unfoldable pub are_once : List HostRow → Bool
 are_once rows = length (in_row_order rows) == length rows
 
 abbrev pub is_listed : ℕ → Event → Bool
+is_listed count (Frame iface len) = nat_le iface count
 is_listed count (Carrier iface up) = nat_le iface count
 is_listed count event = true
 

@@ -1,13 +1,17 @@
--- How the words of the lines `if` and `turn` are read, after the first word.
-use Rattle.std.specs.Prelude.{ℕ, ◌^◌, Bool, true, false, List, [], Option, Some, None, codes, bytes_eq, option_map, if◌then◌else◌}
+-- How the words of the lines `if`, `fail` and `turn` are read, after the first word.
+use Rattle.std.specs.Prelude.{ℕ, ◌^◌, Bool, true, false, nat_le, List, [], length, Option, Some, None, codes, bytes_eq, option_map, if◌then◌else◌}
 use Rattle.net_types.specs.declared.interface.IfSpec.{IfSpec}
 use Rattle.net_types.specs.AddressText.{mac_at}
 use Rattle.net_types.specs.NameText.{name_at}
-use Rattle.net_types.specs.Cutting.{after_word, pair_at}
+use Rattle.net_types.specs.Cutting.{after_word, pair_at, choice_at, guarded}
+use Rattle.net_types.specs.HexText.{hex_at}
 use Rattle.net_types.specs.Numbers.{number_at}
 use Rattle.world.specs.declared.wakes.Event.{Event}
-use Rattle.world.specs.declared.wakes.Event.TheVariants.{Carrier, Quiet}
+use Rattle.world.specs.declared.wakes.Event.TheVariants.{Frame, Carrier, Quiet}
 use Rattle.world.specs.LinkCalls.{Given}
+use Rattle.client_model.specs.declared.failing.FailDevice.TheVariants.{Link}
+use Rattle.client_model.specs.declared.failing.FailLine.{FailLine}
+use Rattle.client_model.specs.Scripts.{frame_room}
 use Rattle.replay_text.specs.RowReading.{iface_at}
 
 -- an interface: its number, name and hardware address
@@ -15,6 +19,15 @@ unfoldable pub spec_at : List ℕ → Option IfSpec
 spec_at text =
     option_map (λ p. record { index = p.0; name = p.1.0; mac = p.1.1 })
     (pair_at 32 iface_at (pair_at 32 name_at mac_at) text)
+
+-- the number of a call, from 1
+unfoldable pub call_at : List ℕ → Option ℕ
+call_at text = guarded (λ n. nat_le 1 n) (number_at (2 ^ 64) text)
+
+-- a call of a device that fails
+unfoldable pub fail_at : List ℕ → Option FailLine
+fail_at text =
+    option_map (λ n. record { device = Link; number = n }) (after_word (codes "link ") call_at text)
 
 -- milliseconds since 1970, below 10^15
 unfoldable pub moment_at : List ℕ → Option ℕ
@@ -28,15 +41,27 @@ switch_at text =
     if bytes_eq text (codes "up") then Some true
     else (if bytes_eq text (codes "down") then Some false else None)
 
-unfoldable pub carrier_at : List ℕ → Option Event
-carrier_at text = option_map (λ p. Carrier p.0.number p.1) (pair_at 32 iface_at switch_at text)
+-- what came, with the bytes of a frame
+abbrev pub Came : Type 0
+Came = Event × List ℕ
 
-unfoldable pub event_at : List ℕ → Option Event
-event_at text =
-    if bytes_eq text (codes "quiet") then Some Quiet else after_word (codes "carrier ") carrier_at text
+unfoldable pub carrier_at : List ℕ → Option Came
+carrier_at text = option_map (λ p. (Carrier p.0.number p.1, [])) (pair_at 32 iface_at switch_at text)
 
--- what a turn is given: its moment, a random word and the event
+-- bytes that a frame has room for
+unfoldable pub frame_bytes_at : List ℕ → Option (List ℕ)
+frame_bytes_at text = guarded (λ bytes. nat_le (length bytes) frame_room) (hex_at text)
+
+unfoldable pub frame_at : List ℕ → Option Came
+frame_at text = option_map (λ p. (Frame p.0.number (length p.1), p.1)) (pair_at 32 iface_at frame_bytes_at text)
+
+unfoldable pub came_at : List ℕ → Option Came
+came_at text =
+    if bytes_eq text (codes "quiet") then Some (Quiet, [])
+    else choice_at (codes "carrier ") carrier_at (after_word (codes "frame ") frame_at) text
+
+-- what a turn is given: its moment, a random word and what came
 unfoldable pub turn_at : List ℕ → Option Given
 turn_at text =
-    option_map (λ p. record { wake = record { at = p.0; salt = p.1.0; event = p.1.1 }; bytes = [] })
-    (pair_at 32 moment_at (pair_at 32 salt_at event_at) text)
+    option_map (λ p. record { wake = record { at = p.0; salt = p.1.0; event = p.1.1.0 }; bytes = p.1.1.1 })
+    (pair_at 32 moment_at (pair_at 32 salt_at came_at) text)

@@ -30,4 +30,4 @@ abbrev pub life_of : LifeLines → LifeScript
 life_of life = record { begin = life.begin; turns = map given_of life.turns.items }
 
 abbrev pub script_of : Script → ScriptLines
-script_of script = record { conf = conf_lines script.conf.items; ifaces = script.ifaces.items; rows = script.rows.items; life = life_of script.life }
+script_of script = record { conf = conf_lines script.conf.items; ifaces = script.ifaces.items; rows = script.rows.items; fails = script.fails.items; life = life_of script.life }

@@ -5,7 +5,7 @@ use Rattle.net_types.specs.Cutting.{◌>>=◌, after_word}
 use Rattle.world.specs.declared.rows.HostRow.{HostRow}
 use Rattle.client_model.specs.Scripts.{ScriptLines, LifeScript, ended}
 use Rattle.replay_text.specs.RowReading.{row_at}
-use Rattle.replay_text.specs.LineReading.{spec_at, turn_at}
+use Rattle.replay_text.specs.LineReading.{spec_at, fail_at, turn_at}
 use Rattle.replay_text.specs.Carriers.{begin_at}
 use Rattle.replay_text.specs.Blocks.{parts_of, Block, block_at, line_at, are_done}
 use Rattle.replay_text.specs.KindTests.{interfaces_fit, are_once, turns_fit}
@@ -39,8 +39,9 @@ body_at parts = do
   conf ← conf_at parts
   ifaces ← ifaces_at conf.1
   rows ← rows_at ifaces.1
-  life ← life_at (length ifaces.0) rows.1
-  Some (record { conf = conf_lines conf.0; ifaces = ifaces.0; rows = rows.0; life = life })
+  fails ← block_at (codes "fail ") fail_at rows.1
+  life ← life_at (length ifaces.0) fails.1
+  Some (record { conf = conf_lines conf.0; ifaces = ifaces.0; rows = rows.0; fails = fails.0; life = life })
 
 abbrev pub head : List ℕ
 head = ended (codes "dhcpcd-script 1")

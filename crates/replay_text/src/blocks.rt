@@ -1,20 +1,22 @@
 //! Lines of one kind after one another.
 ghost use Rattle.std.specs.Prelude.{◌≡◌, ℕ, List, Option, map, option_map, IfOk};
 ghost use Rattle.net_types.specs.declared.interface.IfSpec.{IfSpec};
+ghost use Rattle.client_model.specs.declared.failing.FailLine.{FailLine};
 ghost use Rattle.world.specs.declared.rows.HostRow.{HostRow};
 ghost use Rattle.world.specs.LinkCalls.{Given};
 ghost use Rattle.replay_text.specs.RowReading.{row_at};
-ghost use Rattle.replay_text.specs.LineReading.{spec_at, turn_at};
+ghost use Rattle.replay_text.specs.LineReading.{spec_at, fail_at, turn_at};
 ghost use Rattle.replay_text.specs.Blocks.{line_after, block_at, parts_of};
 ghost use Rattle.replay_text.specs.ScriptContent.{given_of, HoldsLines};
 ghost use Rattle.replay_text.specs.ScriptReading.{conf_at};
 ghost use Rattle.replay_text.specs.Answers.{Gives};
 
-use crate::lines::{spec_of, turn_of};
+use crate::lines::{fail_of, spec_of, turn_of};
 use crate::refusal::Refusal;
 use crate::rows::row_of;
 use crate::script::TurnLine;
-use net_types::{IfSpec, split_at_byte, strip_word};
+use client_model::FailLine;
+use net_types::{IfSpec, NoMemory, split_at_byte, strip_word};
 use std::alloc::Global;
 use world::HostRow;
 
@@ -28,8 +30,8 @@ pub trait LineForm: Sized {
     ghost found: { List ℕ → Option Content };
 
     /// The value that the words after the first one spell.
-    fn from_words(alloc: Global, words: &[u8]) -> Option<Self>
-        ensures { option_map content result ≡ found words.now };
+    fn from_words(alloc: Global, words: &[u8]) -> Result<Option<Self>, NoMemory>
+        ensures { IfOk result (λ o. option_map content o ≡ found words.now) };
 }
 
 impl LineForm for IfSpec {
@@ -39,8 +41,8 @@ impl LineForm for IfSpec {
 
     ghost found = { spec_at };
 
-    fn from_words(_alloc: Global, words: &[u8]) -> Option<IfSpec> {
-        spec_of(words)
+    fn from_words(_alloc: Global, words: &[u8]) -> Result<Option<IfSpec>, NoMemory> {
+        Ok(spec_of(words))
     }
 }
 
@@ -51,8 +53,20 @@ impl LineForm for HostRow {
 
     ghost found = { row_at };
 
-    fn from_words(_alloc: Global, words: &[u8]) -> Option<HostRow> {
-        row_of(words)
+    fn from_words(_alloc: Global, words: &[u8]) -> Result<Option<HostRow>, NoMemory> {
+        Ok(row_of(words))
+    }
+}
+
+impl LineForm for FailLine {
+    ghost Content = { FailLine };
+
+    ghost content = { λ fail. fail };
+
+    ghost found = { fail_at };
+
+    fn from_words(_alloc: Global, words: &[u8]) -> Result<Option<FailLine>, NoMemory> {
+        Ok(fail_of(words))
     }
 }
 
@@ -63,7 +77,7 @@ impl LineForm for TurnLine {
 
     ghost found = { turn_at };
 
-    fn from_words(alloc: Global, words: &[u8]) -> Option<TurnLine> {
+    fn from_words(alloc: Global, words: &[u8]) -> Result<Option<TurnLine>, NoMemory> {
         turn_of(alloc, words)
     }
 }
@@ -92,7 +106,8 @@ pub fn block_of<'a, T: LineForm + Drop>(
         let Some((words, others)) = line_after(rest, word) else {
             return Ok((items, rest));
         };
-        let Some(item) = T::from_words(alloc, words) else {
+        let item = T::from_words(alloc, words)?;
+        let Some(item) = item else {
             return Err(Refusal::Bad { left: rest.len() });
         };
         items.push(item)?;

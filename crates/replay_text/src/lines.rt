@@ -1,18 +1,23 @@
-//! The words of the lines `if` and `turn`, read.
-ghost use Rattle.std.specs.Prelude.{◌≡◌, ◌^◌, ◌<◌, option_map};
+//! The words of the lines `if`, `fail` and `turn`, read.
+ghost use Rattle.std.specs.Prelude.{◌≡◌, ◌^◌, ◌<◌, option_map, IfOk};
 ghost use Rattle.net_types.specs.NameText.{name_at};
 ghost use Rattle.net_types.specs.Cutting.{field_at};
-ghost use Rattle.replay_text.specs.LineReading.{spec_at, moment_at, salt_at, switch_at, carrier_at, event_at, turn_at};
+ghost use Rattle.replay_text.specs.LineReading.{spec_at, call_at, fail_at, moment_at, salt_at, switch_at, carrier_at, frame_bytes_at, frame_at, came_at, turn_at};
 ghost use Rattle.replay_text.specs.ScriptContent.{given_of};
 
 use crate::rows::iface_field_of;
 use crate::script::TurnLine;
-use net_types::{IfSpec, Name, mac_of, name_of, number_of, split_at_byte, strip_word, u64_of};
+use client_model::{FailDevice, FailLine};
+use net_types::{
+    IfSpec, Name, NoMemory, hex_of, mac_of, name_of, number_of, split_at_byte, strip_word, u64_of,
+};
 use std::alloc::Global;
 use world::{Event, Wake};
 
 /// One more than the last moment, in milliseconds since 1970.
 const MOMENT_LIMIT: u64 = 1_000_000_000_000_000;
+/// The most bytes of a frame.
+const FRAME_ROOM: usize = 2048;
 
 fn name_field_of(bytes: &[u8]) -> Option<(Name, &[u8])>
     ensures { option_map (λ p. (p.0, p.1.now)) result ≡ field_at 32 name_at bytes.now }
@@ -31,6 +36,27 @@ pub fn spec_of(bytes: &[u8]) -> Option<IfSpec>
     let (name, rest) = name_field_of(rest)?;
     let mac = mac_of(rest)?;
     Some(IfSpec { index, name, mac })
+}
+
+/// The number of a call, from 1.
+#[tactic(auto, unfolding(crate::specs::LineReading::call_at))]
+fn call_of(bytes: &[u8]) -> Option<u64>
+    ensures { result ≡ call_at bytes.now }
+{
+    let number = u64_of(bytes)?;
+    if number >= 1 { Some(number) } else { None }
+}
+
+/// A call of a device that fails.
+#[tactic(auto, unfolding(crate::specs::LineReading::fail_at))]
+pub fn fail_of(bytes: &[u8]) -> Option<FailLine>
+    ensures { result ≡ fail_at bytes.now }
+{
+    let number = call_of(strip_word(bytes, b"link ")?)?;
+    Some(FailLine {
+        device: FailDevice::Link,
+        number,
+    })
 }
 
 #[tactic(auto, unfolding(crate::specs::LineReading::moment_at))]
@@ -79,38 +105,83 @@ fn switch_of(bytes: &[u8]) -> Option<bool>
 }
 
 #[tactic(auto, unfolding(crate::specs::LineReading::carrier_at))]
-fn carrier_of(bytes: &[u8]) -> Option<Event>
-    ensures { result ≡ carrier_at bytes.now }
+fn carrier_of(alloc: Global, bytes: &[u8]) -> Option<(Event, Vec<u8>)>
+    ensures { option_map (λ p. (p.0, p.1.items)) result ≡ carrier_at bytes.now }
 {
     let (iface, rest) = iface_field_of(bytes)?;
     let up = switch_of(rest)?;
-    Some(Event::Carrier {
+    let event = Event::Carrier {
         iface: iface.number,
         up,
-    })
+    };
+    Some((event, Vec::new(alloc)))
 }
 
-#[tactic(auto, unfolding(crate::specs::LineReading::event_at))]
-fn event_of(bytes: &[u8]) -> Option<Event>
-    ensures { result ≡ event_at bytes.now }
+/// Bytes that a frame has room for.
+#[tactic(auto, unfolding(crate::specs::LineReading::frame_bytes_at))]
+fn frame_bytes_of(alloc: Global, bytes: &[u8]) -> Result<Option<Vec<u8>>, NoMemory>
+    ensures { IfOk result (λ o. option_map (λ v. v.items) o ≡ frame_bytes_at bytes.now) }
+{
+    let Some(frame) = hex_of(alloc, bytes)? else {
+        return Ok(None);
+    };
+    if frame.len() <= FRAME_ROOM {
+        Ok(Some(frame))
+    } else {
+        Ok(None)
+    }
+}
+
+#[tactic(auto, unfolding(crate::specs::LineReading::frame_at))]
+fn frame_of(alloc: Global, bytes: &[u8]) -> Result<Option<(Event, Vec<u8>)>, NoMemory>
+    ensures { IfOk result (λ o. option_map (λ p. (p.0, p.1.items)) o ≡ frame_at bytes.now) }
+{
+    let Some((iface, rest)) = iface_field_of(bytes) else {
+        return Ok(None);
+    };
+    let Some(frame) = frame_bytes_of(alloc, rest)? else {
+        return Ok(None);
+    };
+    let event = Event::Frame {
+        iface: iface.number,
+        len: frame.len(),
+    };
+    Ok(Some((event, frame)))
+}
+
+/// What came, with the bytes of a frame.
+#[tactic(auto, unfolding(crate::specs::LineReading::came_at))]
+fn came_of(alloc: Global, bytes: &[u8]) -> Result<Option<(Event, Vec<u8>)>, NoMemory>
+    ensures { IfOk result (λ o. option_map (λ p. (p.0, p.1.items)) o ≡ came_at bytes.now) }
 {
     if bytes == b"quiet".as_slice() {
-        Some(Event::Quiet)
-    } else {
-        carrier_of(strip_word(bytes, b"carrier ")?)
+        return Ok(Some((Event::Quiet, Vec::new(alloc))));
+    }
+    match strip_word(bytes, b"carrier ") {
+        Some(rest) => Ok(carrier_of(alloc, rest)),
+        None => match strip_word(bytes, b"frame ") {
+            Some(rest) => frame_of(alloc, rest),
+            None => Ok(None),
+        },
     }
 }
 
 /// What a turn is given.
 #[tactic(auto, unfolding(crate::specs::LineReading::turn_at))]
-pub fn turn_of(alloc: Global, bytes: &[u8]) -> Option<TurnLine>
-    ensures { option_map given_of result ≡ turn_at bytes.now }
+pub fn turn_of(alloc: Global, bytes: &[u8]) -> Result<Option<TurnLine>, NoMemory>
+    ensures { IfOk result (λ o. option_map given_of o ≡ turn_at bytes.now) }
 {
-    let (at, rest) = moment_field_of(bytes)?;
-    let (salt, rest) = salt_field_of(rest)?;
-    let event = event_of(rest)?;
-    Some(TurnLine {
+    let Some((at, rest)) = moment_field_of(bytes) else {
+        return Ok(None);
+    };
+    let Some((salt, rest)) = salt_field_of(rest) else {
+        return Ok(None);
+    };
+    let Some((event, bytes)) = came_of(alloc, rest)? else {
+        return Ok(None);
+    };
+    Ok(Some(TurnLine {
         wake: Wake { at, salt, event },
-        bytes: Vec::new(alloc),
-    })
+        bytes,
+    }))
 }

@@ -13,6 +13,7 @@ use crate::blocks::{block_of, conf_of, line_after};
 use crate::carriers::begin_of;
 use crate::refusal::Refusal;
 use crate::script::{LifeLines, Script, ScriptAnswer, ScriptCause, ScriptFault, TurnLine};
+use client_model::FailLine;
 use net_types::{IfSpec, NoMemory, strip_word};
 use std::alloc::Global;
 use std::collections::BTreeSet;
@@ -95,8 +96,8 @@ fn is_listed(count: u32, event: Event) -> bool
     ensures { result ≡ is_listed count event }
 {
     match event {
+        Event::Frame { iface, .. } => iface <= count,
         Event::Carrier { iface, .. } => iface <= count,
-        Event::Frame { .. } => true,
         Event::Duplicate { .. } => true,
         Event::Release { .. } => true,
         Event::Rebind { .. } => true,
@@ -191,11 +192,13 @@ fn body_of(alloc: Global, text: &[u8]) -> Result<Script, Refusal>
     let (conf, rest) = conf_of(alloc, text)?;
     let (ifaces, rest) = ifaces_of(alloc, rest)?;
     let (rows, rest) = rows_of(alloc, rest)?;
+    let (fails, rest): (Vec<FailLine>, &[u8]) = block_of(alloc, rest, b"fail ")?;
     let life = life_of(alloc, ifaces.len() as u32, rest)?;
     Ok(Script {
         conf,
         ifaces,
         rows,
+        fails,
         life,
     })
 }

@@ -1,4 +1,5 @@
 //! A script, and why a text is none.
+use client_model::FailLine;
 use net_types::IfSpec;
 use world::{Begin, HostRow, Wake};
 
@@ -25,6 +26,8 @@ pub struct Script {
     pub ifaces: Vec<IfSpec>,
     /// The rows that the host holds at first.
     pub rows: Vec<HostRow>,
+    /// The calls of devices that fail.
+    pub fails: Vec<FailLine>,
     pub life: LifeLines,
 }
 

@@ -16,7 +16,7 @@ use Rattle.net_types.proofs.NumberLaws.{number_reads}
 use Rattle.net_types.proofs.AddressLaws.{ip4_reads, net4_reads, mac_reads}
 use Rattle.net_types.proofs.NameLaws.{name_reads, name_lacks}
 use Rattle.net_types.proofs.HexLaws.{hex_reads}
-use Rattle.net_types.proofs.MarkLaws.{decimal_lacks, lacks_from, net4_lacks, ip4_lacks}
+use Rattle.net_types.proofs.MarkLaws.{decimal_lacks, hex_lacks, lacks_from, net4_lacks, ip4_lacks}
 use Rattle.world.specs.FileNames.{IsFileName, is_file_byte}
 
 -- what follows a word is read one way, a text without it another way
@@ -92,6 +92,9 @@ cut_ip4 ip rest h = cut_whole (ip4_text ip) rest (ip4_lacks ip 32 h refl)
 
 pub cut_name : (name : Name) (rest : List ℕ) → FitsName name → cut (name_text name ++ 32 ∷ rest) ≡ (name_text name, rest)
 cut_name name rest h = cut_whole (name_text name) rest (name_lacks name 32 h refl)
+
+pub cut_hex : (bytes rest : List ℕ) → AreBytes bytes → cut (hex_text bytes ++ 32 ∷ rest) ≡ (hex_text bytes, rest)
+cut_hex bytes rest h = cut_whole (hex_text bytes) rest (hex_lacks bytes 32 h refl)
 
 pub file_lacks : (name : List ℕ) → IsFileName name → Lacks 32 name
 file_lacks name h = lacks_from is_file_byte 32 name refl h

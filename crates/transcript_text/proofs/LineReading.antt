@@ -25,7 +25,7 @@ use Rattle.world.specs.RowText.{row_text, IsBuiltRow}
 use Rattle.client_model.specs.Lines as Model
 use Rattle.client_model.specs.Lines.{Line, line_words, outcome_text, event_text, up_text, reading_text, moment_text}
 use Rattle.transcript_text.specs.Fits.{FitsLine, FitsEvent, FitsReading, FitsMoment, LinesApart}
-use Rattle.transcript_text.proofs.Fields.{after, cut, number_in, hex_in, net4_in, mac_in, name_in, cut_number, cut_name, cut_file, file_lacks, number_found, number_whole, hex_whole, net4_whole, mac_whole, name_whole}
+use Rattle.transcript_text.proofs.Fields.{after, cut, number_in, hex_in, net4_in, mac_in, name_in, cut_number, cut_name, cut_file, cut_hex, file_lacks, number_found, number_whole, hex_whole, net4_whole, mac_whole, name_whole}
 use Rattle.transcript_text.proofs.UpLaws.{bits_of, numbers_in, up_whole}
 use Rattle.transcript_text.proofs.RowReading.{index_in, row_in, row_whole}
 
@@ -137,6 +137,15 @@ turn_whole at salt event bytes h =
     let both = event_whole event bytes h.2 in
     simp append_assoc (rw (cut_number at (decimal salt ++ 32 ∷ event_text event bytes) h.0, cut_number salt (event_text event bytes) h.1, number_whole at h.0, number_whole salt h.1, both.0, both.1) refl)
 
+unfoldable pub send_in : List ℕ → Line
+send_in text = Model.Send (index_in (cut text).0) (hex_in (cut (cut text).1).0) (done_in (cut (cut text).1).1)
+
+send_whole : (iface : IfIndex) (bytes : List ℕ) (taken : Bool) → FitsLine (Model.Send iface bytes taken) → send_in (decimal iface.number ++ codes " " ++ hex_text bytes ++ codes " " ++ outcome_text taken) ≡ Model.Send iface bytes taken
+unfolding send_in
+send_whole iface bytes taken h =
+    let small : iface.number < 2 ^ 64 = omega (arith, h.0) in
+    simp append_assoc (rw (cut_number iface.number (hex_text bytes ++ 32 ∷ outcome_text taken) small, cut_hex bytes (outcome_text taken) h.1, number_whole iface.number small, hex_whole bytes h.1, done_whole taken) refl)
+
 unfoldable pub removed_in : List ℕ → Line
 removed_in text = Model.Removed (cut text).0 (done_in (cut text).1)
 
@@ -217,6 +226,7 @@ line_in =
     (after (codes "store settle ") (λ text. Model.Settled (done_in text))
     (after (codes "store read ") read_in
     (after (codes "turn ") turn_in
+    (after (codes "send ") send_in
     (after (codes "host list ok ") (λ text. Model.HostListed (number_in text))
     (after (codes "row ") listed_row_in
     (after (codes "host list failed") (λ text. Model.HostListFailed)
@@ -225,7 +235,7 @@ line_in =
     (after (codes "until ") (λ text. Model.Until (number_at (2 ^ 64) text))
     (after (codes "hold addr ") hold_in
     (after (codes "end") (λ text. Model.EndOfLife)
-    (λ text. Model.Head))))))))))))))))))
+    (λ text. Model.Head)))))))))))))))))))
 
 pub line_whole : (line : Line) → FitsLine line → line_in (line_words line) ≡ line
 unfolding line_in line_words strip_word
@@ -240,6 +250,7 @@ line_whole (Model.Removed name done) h = removed_whole name done h
 line_whole (Model.Settled done) h = ap Model.Settled (done_whole done)
 line_whole (Model.Read name reading) h = read_whole name reading h.0 h.1
 line_whole (Model.Turn at salt event bytes) h = turn_whole at salt event bytes h
+line_whole (Model.Send iface bytes taken) h = send_whole iface bytes taken h
 line_whole (Model.HostListed count) h = ap Model.HostListed (number_whole count h)
 line_whole (Model.Row row) h = listed_row_whole row h
 line_whole Model.HostListFailed h = refl

@@ -53,6 +53,7 @@ FitsLine (Model.Removed name done) = IsFileName name
 FitsLine (Model.Settled done) = Unit {0}
 FitsLine (Model.Read name reading) = IsFileName name × FitsReading reading
 FitsLine (Model.Turn at salt event bytes) = IsWord at × IsWord salt × FitsEvent event bytes
+FitsLine (Model.Send iface bytes taken) = (iface.number < 2 ^ 32) × AreBytes bytes
 FitsLine (Model.HostListed count) = IsWord count
 FitsLine (Model.Row row) = IsBuiltRow row
 FitsLine Model.HostListFailed = Unit {0}

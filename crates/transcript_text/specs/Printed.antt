@@ -8,7 +8,7 @@ use Rattle.client_model.specs.Lines as Model
 use Rattle.transcript_text.specs.declared.lines.ReadLine.{ReadLine}
 use Rattle.transcript_text.specs.declared.lines.ReadLine.TheVariants as Read
 use Rattle.transcript_text.specs.declared.lines.TranscriptLine.{TranscriptLine}
-use Rattle.transcript_text.specs.declared.lines.TranscriptLine.TheVariants.{Head, ConfLine, IfLine, Life, Start, Listed, ListFailed, FileRemove, Settled, FileRead, Turn, HostListed, Row, HostListFailed, HostDel, HostAdd, Until, Hold, End}
+use Rattle.transcript_text.specs.declared.lines.TranscriptLine.TheVariants.{Head, ConfLine, IfLine, Life, Start, Listed, ListFailed, FileRemove, Settled, FileRead, Turn, Send, HostListed, Row, HostListFailed, HostDel, HostAdd, Until, Hold, End}
 
 abbrev pub reading_of : ReadLine → Reading
 reading_of (Read.Bytes bytes) = Store.Found bytes.now
@@ -27,6 +27,7 @@ line_of (FileRemove name ok) = Model.Removed name.now ok
 line_of (Settled ok) = Model.Settled ok
 line_of (FileRead name got) = Model.Read name.now (reading_of got)
 line_of (Turn at salt event bytes) = Model.Turn at salt event bytes.now
+line_of (Send iface bytes ok) = Model.Send iface bytes.now ok
 line_of (HostListed count) = Model.HostListed count
 line_of (Row row) = Model.Row row.now
 line_of HostListFailed = Model.HostListFailed

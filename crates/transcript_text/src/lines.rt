@@ -43,6 +43,12 @@ pub enum TranscriptLine<'a> {
         event: Event,
         bytes: &'a [u8],
     },
+    /// A frame offered to the link, and whether it was taken.
+    Send {
+        iface: IfIndex,
+        bytes: &'a [u8],
+        ok: bool,
+    },
     /// How many rows the host listed.
     HostListed {
         count: u64,

@@ -10,7 +10,7 @@ ghost use Rattle.transcript_text.specs.Printed.{line_of, reading_of};
 use crate::appending::append_bytes;
 use crate::lines::{ReadLine, TranscriptLine};
 use crate::pieces::{Piece, append_pieces};
-use net_types::{IfSpec, NoMemory};
+use net_types::{IfIndex, IfSpec, NoMemory};
 use world::{Begin, Event, HostRow};
 
 const BLANK: Piece<'static> = Piece::Word(b" ");
@@ -168,6 +168,23 @@ fn print_turn(
     Ok(())
 }
 
+#[tactic(auto, unfolding(client_model::specs::Lines::line_words), using(std::proofs::Common::append_assoc))]
+fn print_send(iface: IfIndex, bytes: &[u8], ok: bool, into: &mut Vec<u8>) -> Result<(), NoMemory>
+    ensures ok { OnOk result (into.new.items ≡ into.old.items ++ line_text (Lines.Send iface bytes.now ok)) }
+    ensures err { OnErr result (into.new.items ≡ into.old.items) }
+{
+    append_pieces(
+        &[
+            Piece::Word(b"send "),
+            Piece::Number(u64::from(iface.number)),
+            BLANK,
+            Piece::Hex(bytes),
+            outcome(ok),
+        ],
+        into,
+    )
+}
+
 /// Appends a word and a number, and ends the line.
 #[tactic(auto, using(std::proofs::Common::append_assoc))]
 fn print_number(word: &[u8], number: u64, into: &mut Vec<u8>) -> Result<(), NoMemory>
@@ -231,6 +248,7 @@ pub fn print_line(line: &TranscriptLine<'_>, into: &mut Vec<u8>) -> Result<(), N
             event,
             bytes,
         } => print_turn(at, salt, event, bytes, into),
+        Line::Send { iface, bytes, ok } => print_send(iface, bytes, ok, into),
         Line::HostListed { count } => print_number(b"host list ok ", count, into),
         Line::Row(row) => append_pieces(&[Word(b"row "), Row(row), LINE_END], into),
         Line::HostListFailed => append_bytes(b"host list failed\n", into),

@@ -189,6 +189,28 @@ fn prints_turns(rt: HostRuntime) -> Result<(), Fail> {
 }
 
 #[test]
+fn prints_sends(rt: HostRuntime) -> Result<(), Fail> {
+    let send = |bytes, ok| TranscriptLine::Send {
+        iface: ONE,
+        bytes,
+        ok,
+    };
+    let lines = [
+        send(b"\x00\x0f\xf0\xff".as_slice(), true),
+        send(b"\xde\xad".as_slice(), false),
+        send(b"".as_slice(), true),
+    ];
+    printed(
+        &rt,
+        rt.alloc(),
+        &lines,
+        "send 1 000ff0ff ok\n\
+         send 1 dead failed\n\
+         send 1 - ok\n",
+    )
+}
+
+#[test]
 fn prints_rows(rt: HostRuntime) -> Result<(), Fail> {
     let any = Net::V6(Net6 {
         ip: Ip6 { number: 0 },
