@@ -13,6 +13,7 @@ use Rattle.client_model.specs.declared.interfaces.Managed.{Managed}
 use Rattle.client_model.specs.Interfaces.{IfaceStep, is_in, index_of}
 use Rattle.client_model.specs.Clients.{Sending, spelled, sends_of}
 use Rattle.client_model.specs.Sends.{with_iface, unsent_after}
+use Rattle.client_model.proofs.SameInterfaces.{managed_in}
 use Rattle.evidence.specs.Entries.{Offer, offers_on}
 
 -- ---- all of a list
@@ -180,14 +181,15 @@ number_of m = m.spec.index.number
 
 -- Where no two interfaces have one number, the offers on each are the frames for what it said.
 pub offered : (steps : List IfaceStep) (taken : List Bool) → length taken ≡ length (flat_map sends_of steps)
-    → IsDistinct nat_eq (map number_of (map (λ step. step.iface.managed) steps))
+    → IsDistinct nat_eq (map number_of (managed_in (map (λ step. step.iface) steps)))
     → AllByRecursion (λ step. Offered (spec_of step) (Clean (spec_of step).index.number (flat_map sends_of steps) taken) step.said
     (offers_on (spec_of step).index.number (flat_map sends_of steps) taken)) steps
 offered [] taken len apart = tt
 offered (step ∷ steps) taken len apart =
     let head = IsDistinct-head nat_eq _ _ apart in
     let others : AllByRecursion (λ other. ((spec_of step).index.number == (spec_of other).index.number) ≡ false) steps =
-        all_mapped _ (λ step. step.iface.managed) steps (all_mapped _ number_of (map (λ step. step.iface.managed) steps) head) in
+        all_mapped _ (λ step. step.iface) steps (all_mapped _ (λ f. f.managed) (map (λ step. step.iface) steps)
+        (all_mapped _ number_of (managed_in (map (λ step. step.iface) steps)) head)) in
     let later = offered steps (beyond step.said taken) (beyond-length (spec_of step) step.said (flat_map sends_of steps) taken len) (IsDistinct-tail nat_eq _ _ apart) in
     (
       offered-own (spec_of step) step.said (flat_map sends_of steps) taken len (elsewhere (spec_of step).index.number steps others),

@@ -34,6 +34,8 @@ use Rattle.client_model.specs.Interfaces.{is_in, is_up, index_of}
 use Rattle.client_model.specs.Turns.{Life, Met, life_after}
 use Rattle.client_model.specs.Opening.{OpeningMet, opened_life}
 use Rattle.client_model.specs.WantedRows.{network_of, is_within, metric_of, is_kept, network_routes, router_routes, address_rows, line_rows, static_rows, local_net, local_rows, iface_rows}
+use Rattle.client_model.proofs.SameInterfaces.{managed_in}
+use Rattle.client_model.proofs.HostTableRows.{has_filter}
 use Rattle.evidence.specs.Entries.{Entry, shown_after}
 use Rattle.evidence.specs.Inputs.{Site}
 use Rattle.evidence.specs.StaticBasis.{StaticBasis}
@@ -56,23 +58,9 @@ equal_if Greater e = cc
 
 -- ---- what the wanted rows have, some interface gives
 
-or_true : (a b : Bool) → b ≡ true → (a || b) ≡ true
-or_true true b e = refl
-or_true false b e = e
-
-kept_by : (b u : Bool) (x : HostRow) (xs : List HostRow) (row : HostRow) → (has_row xs row ≡ true → u ≡ true)
-    → has_row (cond b (x ∷ xs) xs) row ≡ true → (is_eq (row_cmp row x) || u) ≡ true
-kept_by true u x xs row later has = by_place (either _ _ has)
-  where
-    by_place : (is_eq (row_cmp row x) ≡ true) ⊎ (has_row xs row ≡ true) → (is_eq (row_cmp row x) || u) ≡ true
-    by_place (inl first) = ap (λ b. b || u) first
-    by_place (inr e) = or_true (is_eq (row_cmp row x)) u (later e)
-kept_by false u x xs row later has = or_true (is_eq (row_cmp row x)) u (later has)
-
-from_filter : (p : HostRow → Bool) (rows : List HostRow) (row : HostRow) → has_row (filter p rows) row ≡ true → has_row rows row ≡ true
-from_filter p [] row has = has
-from_filter p (x ∷ rows) row has =
-    kept_by (p x) (has_row rows row) x (filter p rows) row (from_filter p rows row) has
+second : (a b : Bool) → (a && b) ≡ true → b ≡ true
+second true b e = e
+second false b e = cc
 
 record Giver (P : Iface → Type 0) (row : HostRow) : Type 0 where
   iface : Iface
@@ -204,11 +192,11 @@ module _ (index : IfIndex) (net : Net) where
 
 -- ---- the law
 
-all_managed : (ifaces : List Iface) (managed : List Managed) → map (λ f. f.managed) ifaces ≡ managed → AllByRecursion (λ f. Contains managed f.managed) ifaces
+all_managed : (ifaces : List Iface) (managed : List Managed) → managed_in ifaces ≡ managed → AllByRecursion (λ f. Contains managed f.managed) ifaces
 all_managed ifaces managed same =
     mapped ifaces (subst (λ ms. AllByRecursion (Contains managed) ms) (sym same) (recursion_from_All (Contains managed) managed (All-contains_itself managed)))
   where
-    mapped : (fs : List Iface) → AllByRecursion (Contains managed) (map (λ f. f.managed) fs) → AllByRecursion (λ f. Contains managed f.managed) fs
+    mapped : (fs : List Iface) → AllByRecursion (Contains managed) (managed_in fs) → AllByRecursion (λ f. Contains managed f.managed) fs
     mapped [] h = tt
     mapped (f ∷ fs) h = (h.0, mapped fs h.1)
 
@@ -223,7 +211,7 @@ have_basis managed opening mets numbered answered index net has =
     let kept : has_row (filter (is_kept rows) rows) (Addr index net) ≡ true = sym (in_order_has (filter (is_kept rows) rows) (Addr index net)) ∙ has in
     let g = giver (λ f. KeptOne start life.client.own life.unsent shown f × Contains managed f.managed) (Addr index net) life.client.ifaces
         (all_both _ _ _ (λ f k c. (k, c)) life.client.ifaces all.kept (all_managed life.client.ifaces managed all.of_managed))
-        (from_filter (is_kept rows) rows (Addr index net) kept) in
+        (second _ _ (sym (has_filter (is_kept rows) rows (Addr index net)) ∙ kept)) in
     let b = iface_basis index net life.client.own (start (number_of g.iface.managed)) _ g.iface (shown (index_of g.iface)) g.is_such.0 g.gives in
     record {
       holder = g.iface.managed;

@@ -16,70 +16,11 @@ use Rattle.client_model.specs.Sends.{AnswersSends, unsent_after}
 use Rattle.client_model.specs.Turns.{Life, Met, input_of, step_of, turned, life_after}
 use Rattle.client_model.specs.Opening.{OpeningMet, opened_life}
 use Rattle.client_model.specs.Lives.{AllAnswered}
+use Rattle.client_model.proofs.SameInterfaces.{managed_in, turned_same, all_turned, all_opened}
 use Rattle.evidence.specs.Entries.{Entry, offers_on, entry_of, shown_after}
 use Rattle.evidence.specs.Laws.{AreNumbered}
 use Rattle.evidence.proofs.Offers.{Offered, number_of, offered}
 use Rattle.evidence.proofs.Keeping.{Keeps, at_site, begun_bears, turn_keeps}
-
--- ---- an interface keeps its settings
-
-hears_settings : (own : List Mac) (at salt : ℕ) (f : Iface) (arp : Option ArpView) → (hears own at salt f arp).iface.managed ≡ f.managed
-hears_settings own at salt f None = refl
-hears_settings own at salt f (Some arp) = refl
-
-carried_settings : (at : ℕ) (now before : Bool) (f : Iface) → (carried at now before f).managed ≡ f.managed
-carried_settings at true true f = refl
-carried_settings at true false f = refl
-carried_settings at false true f = refl
-carried_settings at false false f = refl
-
-abbrev SameSettings : Iface → IfaceStep → Type 0
-SameSettings f step = step.iface.managed ≡ f.managed
-
-taken_settings : (own : List Mac) (at salt : ℕ) (event : Event) (bytes : List ℕ) (f : Iface) → SameSettings f (taken own at salt event bytes f)
-taken_settings own at salt (Frame index len) bytes f =
-    gated (SameSettings f) (index_of f == index) (hears own at salt f (arp_heard bytes)) (silent f) (hears_settings own at salt f (arp_heard bytes)) refl
-taken_settings own at salt (Carrier index up) bytes f =
-    gated (SameSettings f) (index_of f == index) (silent (carried at up f.up f)) (silent f) (carried_settings at up f.up f) refl
-taken_settings own at salt (Duplicate index addr) bytes f = refl
-taken_settings own at salt (Release index) bytes f =
-    gated (SameSettings f) (index_of f == index) (silent (machines_off f)) (silent f) refl refl
-taken_settings own at salt (Rebind index) bytes f =
-    gated (SameSettings f) (index_of f == index) (silent (rebound at f)) (silent f)
-    (gated (λ (g : Iface). g.managed ≡ f.managed) f.up (begins at f) f refl refl) refl
-taken_settings own at salt Stop bytes f = refl
-taken_settings own at salt Quiet bytes f = refl
-taken_settings own at salt End bytes f = refl
-
-input_settings : (own : List Mac) (at salt : ℕ) (event : Event) (bytes : List ℕ) (f : Iface) → SameSettings f (input_step own at salt event bytes f)
-input_settings own at salt event bytes f =
-    gated (SameSettings f) f.stopped (silent f) (taken own at salt event bytes f) refl (taken_settings own at salt event bytes f)
-
-turn_settings : (own : List Mac) (turn : TurnInput) (f : Iface) → (iface_turned own turn f).iface.managed ≡ f.managed
-turn_settings own turn f =
-    let before : Iface = unsent_in turn.unsent turn.at turn.salt f in
-    let kept : before.managed ≡ f.managed =
-        gated (λ (g : Iface). g.managed ≡ f.managed) (is_in turn.unsent (index_of f)) (restarted turn.at turn.salt f) f refl refl in
-    input_settings own turn.at turn.salt turn.event turn.bytes (ticked turn.at turn.salt before).iface ∙ kept
-
-abbrev settings : List Iface → List Managed
-settings ifaces = map (λ f. f.managed) ifaces
-
-steps_settings : (own : List Mac) (turn : TurnInput) (ifaces : List Iface)
-    → map (λ step. step.iface.managed) (map (iface_turned own turn) ifaces) ≡ settings ifaces
-steps_settings own turn [] = refl
-steps_settings own turn (f ∷ ifaces) =
-    ap (λ m. m ∷ map (λ step. step.iface.managed) (map (iface_turned own turn) ifaces)) (turn_settings own turn f)
-    ∙ ap (λ ms. f.managed ∷ ms) (steps_settings own turn ifaces)
-
-ifaces_settings : (own : List Mac) (turn : TurnInput) (ifaces : List Iface)
-    → settings (map (λ step. step.iface) (map (iface_turned own turn) ifaces)) ≡ settings ifaces
-ifaces_settings own turn [] = refl
-ifaces_settings own turn (f ∷ ifaces) =
-    ap (λ m. m ∷ settings (map (λ step. step.iface) (map (iface_turned own turn) ifaces))) (turn_settings own turn f)
-    ∙ ap (λ ms. f.managed ∷ ms) (ifaces_settings own turn ifaces)
-
--- ---- turns
 
 module _ (start : ℕ → Bool) where
   -- what an interface carries, with what was shown of each one by its number
@@ -108,7 +49,7 @@ module _ (start : ℕ → Bool) where
     one_kept f offers kept =
         subst (λ m. OfferedFor (step_for f) m
         → Keeps (at_site life.client.own (start (number_of m)) m) (is_in failed (number_of m) ≡ false) (step_for f).iface (after life met shown (number_of m)))
-        (sym (turn_settings life.client.own (input_of life met.wake met.bytes) f))
+        (sym (turned_same life.client.own (input_of life met.wake met.bytes) f))
         (turn_keeps life.client.own (start (number_of f.managed)) (is_in failed (index_of f) ≡ false) met.wake.salt
         (entry_of (index_of f) life met) (shown (index_of f)) life.unsent f kept)
         offers
@@ -119,17 +60,17 @@ module _ (start : ℕ → Bool) where
     all_kept [] offers kept = tt
     all_kept (f ∷ ifaces) offers kept = (one_kept f offers.0 kept.0, all_kept ifaces offers.1 kept.1)
 
-    turned_kept : (managed : List Managed) → AreNumbered managed → settings life.client.ifaces ≡ managed
+    turned_kept : (managed : List Managed) → AreNumbered managed → managed_in life.client.ifaces ≡ managed
         → AnswersSends (step_of life met.wake met.bytes).sends met.taken → Kept life shown → Kept (turned managed life met) (after life met shown)
     turned_kept managed numbered of_managed answered kept =
-        let same : map (λ step. step.iface.managed) (map step_for life.client.ifaces) ≡ managed =
-            steps_settings life.client.own (input_of life met.wake met.bytes) life.client.ifaces ∙ of_managed in
+        let same : managed_in (map (λ step. step.iface) (map step_for life.client.ifaces)) ≡ managed =
+            all_turned life.client.own (input_of life met.wake met.bytes) life.client.ifaces ∙ of_managed in
         all_kept life.client.ifaces
         (offered (map step_for life.client.ifaces) met.taken answered (subst (λ ms. IsDistinct nat_eq (map number_of ms)) (sym same) numbered))
         kept
 
   pub record KeptAfter (managed : List Managed) (life : Life) (shown : ℕ → List Entry) : Type 0 where
-    pub of_managed : settings life.client.ifaces ≡ managed
+    pub of_managed : managed_in life.client.ifaces ≡ managed
     pub kept : Kept life shown
 
   pub turns_kept : (managed : List Managed) → AreNumbered managed → (mets : List Met) (life : Life) (shown : ℕ → List Entry)
@@ -139,7 +80,7 @@ module _ (start : ℕ → Bool) where
   turns_kept managed numbered (met ∷ mets) life shown k answered =
       turns_kept managed numbered mets (turned managed life met) (after life met shown)
       (record {
-        of_managed = ifaces_settings life.client.own (input_of life met.wake met.bytes) life.client.ifaces ∙ k.of_managed;
+        of_managed = all_turned life.client.own (input_of life met.wake met.bytes) life.client.ifaces ∙ k.of_managed;
         kept = turned_kept life met shown managed numbered k.of_managed answered.0.sends k.kept;
       })
       answered.1
@@ -160,18 +101,14 @@ opened_keeps own clean at m true = record {
 }
 opened_keeps own clean at m false = record { stopped = refl; carrier = λ k. refl; off = λ k. refl; bears = tt }
 
-all_opened : (own : List Mac) (up at unsent : ℕ) (managed : List Managed)
+each_opened : (own : List Mac) (up at unsent : ℕ) (managed : List Managed)
     → AllByRecursion (KeptOne (λ index. is_up up index) own unsent (λ index. [])) (map (opened up at) managed)
-all_opened own up at unsent [] = tt
-all_opened own up at unsent (m ∷ managed) = (opened_keeps own _ at m (is_up up (number_of m)), all_opened own up at unsent managed)
-
-opened_settings : (up at : ℕ) (managed : List Managed) → settings (map (opened up at) managed) ≡ managed
-opened_settings up at [] = refl
-opened_settings up at (m ∷ managed) = ap (λ ms. m ∷ ms) (opened_settings up at managed)
+each_opened own up at unsent [] = tt
+each_opened own up at unsent (m ∷ managed) = (opened_keeps own _ at m (is_up up (number_of m)), each_opened own up at unsent managed)
 
 pub opening_kept : (managed : List Managed) (opening : OpeningMet)
     → KeptAfter (λ index. is_up opening.begin.up index) managed (opened_life managed opening) (λ index. [])
 opening_kept managed opening = record {
-  of_managed = opened_settings opening.begin.up _ managed;
-  kept = all_opened _ opening.begin.up _ _ managed;
+  of_managed = all_opened opening.begin.up _ managed;
+  kept = each_opened _ opening.begin.up _ _ managed;
 }
