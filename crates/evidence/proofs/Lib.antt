@@ -5,3 +5,4 @@ pub mod Ticks
 pub mod Keeping
 pub mod Turns
 pub mod Rows
+pub mod Counting

@@ -1,18 +1,22 @@
--- That the addresses which the client wants have their basis.
-use Rattle.std.specs.Prelude.{◌≡◌, ℕ, true, List, [], map, nat_eq, ◌⊎◌}
+-- That the addresses which the client wants have their basis, and that this says something.
+use Rattle.std.specs.Prelude.{◌≡◌, ◌<◌, true, List, [], map, nat_eq, ◌⊎◌}
 use Rattle.std.specs.List.{Contains, IsDistinct}
+use Rattle.net_types.specs.declared.address.Ip4.{Ip4}
 use Rattle.net_types.specs.declared.address.Net.{Net}
+use Rattle.net_types.specs.declared.address.Net.TheVariants.{V4}
 use Rattle.net_types.specs.declared.interface.IfIndex.{IfIndex}
 use Rattle.world.specs.declared.rows.HostRow.TheVariants.{Addr}
 use Rattle.world.specs.RowOrder.{has_row}
 use Rattle.client_model.specs.declared.interfaces.Managed.{Managed}
 use Rattle.client_model.specs.Interfaces.{is_up}
 use Rattle.client_model.specs.Clients.{rows_of}
+use Rattle.client_model.specs.WantedRows.{local_net}
 use Rattle.client_model.specs.Turns.{Met, life_after}
 use Rattle.client_model.specs.Opening.{OpeningMet, opened_life}
 use Rattle.client_model.specs.Lives.{AllAnswered}
 use Rattle.evidence.specs.Entries.{Entry, shown_after}
 use Rattle.evidence.specs.Inputs.{Site}
+use Rattle.evidence.specs.Probed.{probes_taken}
 use Rattle.evidence.specs.StaticBasis.{StaticBasis}
 use Rattle.evidence.specs.LinkLocalBasis.{LinkLocalBasis}
 
@@ -47,3 +51,8 @@ AddressesHaveBasis = (managed : List Managed) (opening : OpeningMet) (mets : Lis
     → AreNumbered managed → AllAnswered managed (opened_life managed opening) mets → (index : IfIndex) (net : Net)
     → has_row (rows_of (life_after managed (opened_life managed opening) mets).client) (Addr index net) ≡ true
     → HasBasis managed opening mets index net
+
+-- An address for which fewer than three probes were taken has no basis but a static line.
+abbrev pub NeedsThreeProbes : Type 0
+NeedsThreeProbes = (site : Site) (addr : Ip4) (past : List Entry) → probes_taken site addr past < 3
+    → LinkLocalBasis site (V4 (local_net addr)) past → ⊥

@@ -4,3 +4,4 @@ pub mod Probed
 pub mod LinkLocalBasis
 pub mod StaticBasis
 pub mod Laws
+pub mod SevenTurns

@@ -1,7 +1,7 @@
 -- What it is that an address was probed (RFC 5227, section 2.1.1), from what was offered and heard. Moments are in
 -- milliseconds.
 use Rattle.std.specs.Prelude.{◌≡◌, ℕ, ◌+◌, ◌≤◌, zero, suc, Bool, true, false, ◌&&◌, List, [], ◌∷◌, ◌++◌, bytes_eq}
-use Rattle.std.specs.List.{AllByRecursion, list_any}
+use Rattle.std.specs.List.{AllByRecursion, list_any, count_by}
 use Rattle.machine.specs.Since.{Since}
 use Rattle.net_types.specs.declared.address.Ip4.{Ip4}
 use Rattle.frame_link.specs.Packets.{probe_text}
@@ -31,3 +31,7 @@ pub record Probed (C : Entry → Type 0) (site : Site) (addr : Ip4) (past : List
   pub cut : past ≡ later ++ fourth ∷ earlier
   pub probes : Probes C site addr 3 2000 fourth.moment earlier
   pub since : AllByRecursion C (later ++ fourth ∷ [])
+
+-- in how many turns a probe for the address was taken
+abbrev pub probes_taken : Site → Ip4 → List Entry → ℕ
+probes_taken site addr past = count_by (λ e. probe_taken site addr e.offers) past
