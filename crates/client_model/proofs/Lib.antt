@@ -4,5 +4,5 @@ pub mod HostTableRows
 mod HostTableChanges
 mod HostTableTurns
 mod HostTableWanted
-mod HostInLifeTurns
+pub mod HostInLifeTurns
 pub mod SameInterfaces

@@ -6,3 +6,4 @@ pub mod Keeping
 pub mod Turns
 pub mod Rows
 pub mod Counting
+pub mod HostRests

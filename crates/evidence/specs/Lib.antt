@@ -4,4 +4,5 @@ pub mod Probed
 pub mod LinkLocalBasis
 pub mod StaticBasis
 pub mod Laws
+pub mod HeldAddresses
 pub mod SevenTurns

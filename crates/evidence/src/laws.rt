@@ -5,6 +5,7 @@ ghost use Rattle.client_model.specs.Clients.{rows_of};
 ghost use Rattle.client_model.specs.Turns.{life_after};
 ghost use Rattle.client_model.specs.Opening.{opened_life};
 ghost use Rattle.client_model.specs.Lives.{AllAnswered};
+ghost use Rattle.evidence.specs.HeldAddresses.{OpeningRests, TurnsRest};
 ghost use Rattle.evidence.specs.Laws.{AddressesHaveBasis, NeedsThreeProbes, shown_of, site_of};
 ghost use Rattle.evidence.specs.LinkLocalBasis.{LinkLocalBasis};
 ghost use Rattle.evidence.specs.SevenTurns.{chosen_net, interface, opens, seven_shown, seven_turns};
@@ -13,6 +14,13 @@ ghost use Rattle.evidence.specs.SevenTurns.{chosen_net, interface, opens, seven_
 /// of its interface: a static line, or a choice that passed its probes (RFC 3927, sections 2.2.1 and 2.5).
 pub fn addresses_have_a_basis()
     ensures { AddressesHaveBasis }
+{}
+
+/// Law: over devices that tell what they hold and which of their calls fail, after an opening and after every turn in which
+/// no host call failed, each address that the host holds on a managed interface has its basis in the same life.
+pub fn held_addresses_have_a_basis()
+    ensures opening { OpeningRests }
+    ensures turns { TurnsRest }
 {}
 
 /// Law: no link-local address has a basis before the link took three probes for it (RFC 5227, section 2.1.1).
