@@ -1,16 +1,15 @@
 -- Unlike addresses have unlike announcements.
-use Rattle.std.proofs.Common.{◌≡◌, ℕ, List, [], ◌∷◌, ◌++◌, refl, sym, ap, ◌∙◌, append_assoc}
+use Rattle.std.proofs.Common.{◌≡◌, ℕ, List, [], ◌∷◌, ◌++◌, sym, ap, ◌∙◌, append_assoc}
 use Rattle.std.proofs.lemmas.Nat.{from_be_bytes-to_be_bytes_4}
 use Rattle.std.proofs.lemmas.List.{append_cancel_left}
 use Rattle.std.specs.Int.{w32, from_be_bytes}
 use Rattle.std.specs.List.{AllByRecursion}
 use Rattle.net_types.specs.declared.address.Ip4.{Ip4}
 use Rattle.net_types.specs.declared.address.Mac.{Mac}
-use Rattle.net_types.specs.declared.interface.IfSpec.{IfSpec}
 use Rattle.net_types.specs.AddressText.{FitsIp4}
 use Rattle.frame_link.specs.Fields.{word_text, ip4_text}
 use Rattle.frame_link.specs.Frames.{broadcast}
-use Rattle.frame_link.specs.Packets.{arp_kind, arp_text, request, no_mac, announcement_text}
+use Rattle.frame_link.specs.Packets.{arp_kind, no_mac, announcement_text}
 use Rattle.arp_acd.specs.declared.detection.ArpSay.{ArpSay}
 use Rattle.arp_acd.specs.declared.detection.ArpSay.TheVariants.{Announce}
 use Rattle.client_model.specs.Clients.{spelled}
@@ -50,7 +49,7 @@ targets mac a b e =
 pub one_address : (mac : Mac) (a b : Ip4) → FitsIp4 a → FitsIp4 b → announcement_text mac a ≡ announcement_text mac b → a ≡ b
 one_address mac a b a_fits b_fits e =
     let number : a.number ≡ b.number =
-        sym (from_be_bytes-to_be_bytes_4 a.number a_fits) ∙ ap (from_be_bytes w32) (targets mac a b (endings mac a b e)) ∙ from_be_bytes-to_be_bytes_4 b.number b_fits in
+    sym (from_be_bytes-to_be_bytes_4 a.number a_fits) ∙ ap (from_be_bytes w32) (targets mac a b (endings mac a b e)) ∙ from_be_bytes-to_be_bytes_4 b.number b_fits in
     ap (λ n. record { number = n }) number
 
 -- where only the address was announced, no other one was

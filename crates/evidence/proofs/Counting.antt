@@ -1,14 +1,12 @@
 -- How many probes were taken.
-use Rattle.std.proofs.Common.{◌≡◌, ℕ, zero, suc, ◌+◌, ◌<◌, ◌≤◌, Bool, true, cond, List, [], ◌∷◌, ◌++◌, inl, inr, sym, subst, ap, ◌∙◌, arith}
+use Rattle.std.proofs.Common.{◌≡◌, ℕ, zero, suc, ◌+◌, ◌≤◌, cond, List, [], ◌∷◌, ◌++◌, inl, inr, sym, subst, ap, ◌∙◌, arith}
 use Rattle.std.proofs.lemmas.List.Sums.{sum_by-append}
 use Rattle.net_types.specs.declared.address.Ip4.{Ip4}
-use Rattle.net_types.specs.declared.address.Net.TheVariants.{V4}
 use Rattle.world.specs.RowOrder.{net_number}
-use Rattle.client_model.specs.WantedRows.{local_net}
 use Rattle.evidence.specs.Entries.{Entry}
 use Rattle.evidence.specs.Inputs.{Site}
 use Rattle.evidence.specs.Probed.{probe_taken, Probes, probes_taken}
-use Rattle.evidence.specs.LinkLocalBasis.{LinkLocalBasis, StaysOn}
+use Rattle.evidence.specs.LinkLocalBasis.{StaysOn}
 use Rattle.evidence.specs.Laws.{NeedsThreeProbes}
 
 module _ (site : Site) (addr : Ip4) where
@@ -25,11 +23,11 @@ module _ (site : Site) (addr : Ip4) where
   counted zero w b past h = omega arith
   counted (suc n) w b [] h = absurd h
   counted (suc n) w b (e ∷ past) h = elim h [
-    inl q ↦ (
-      let more : probes_taken site addr (e ∷ past) ≡ 1 + probes_taken site addr past =
-          one_more e past ∙ ap (λ t. cond t 1 0 + probes_taken site addr past) q.2 in
-      let before : n ≤ probes_taken site addr past = counted n 1000 e.moment past q.4 in
-      omega arith)
+    | inl q ↦ (
+        let more : probes_taken site addr (e ∷ past) ≡ 1 + probes_taken site addr past =
+        one_more e past ∙ ap (λ t. cond t 1 0 + probes_taken site addr past) q.2 in
+        let before : n ≤ probes_taken site addr past = counted n 1000 e.moment past q.4 in
+        omega arith)
     | inr later ↦ later_on (suc n) e past (counted (suc n) w b past later.1)
   ]
 
@@ -43,7 +41,7 @@ needs_three site addr past few basis =
     let same : addr ≡ basis.addr = ap (λ net. record { number = net_number net }) basis.gives in
     let p = basis.probed in
     let least : 3 ≤ probes_taken site basis.addr past =
-        subst (λ turns. 3 ≤ probes_taken site basis.addr turns) (sym p.cut)
-        (counted_on site basis.addr 3 p.later p.fourth p.earlier (counted site basis.addr 3 2000 p.fourth.moment p.earlier p.probes)) in
+    subst (λ turns. 3 ≤ probes_taken site basis.addr turns) (sym p.cut)
+    (counted_on site basis.addr 3 p.later p.fourth p.earlier (counted site basis.addr 3 2000 p.fourth.moment p.earlier p.probes)) in
     let least_here : 3 ≤ probes_taken site addr past = subst (λ a. 3 ≤ probes_taken site a past) (sym same) least in
     omega arith

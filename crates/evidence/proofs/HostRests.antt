@@ -1,7 +1,5 @@
 -- The host's addresses are wanted ones, and what is wanted has its basis.
-use Rattle.std.proofs.Common.{◌≡◌, ℕ, suc, ◌+◌, Bool, true, false, ◌&&◌, List, [], ◌∷◌, ◌++◌, length, Option, Some, None, refl, sym, ap, subst, ◌∙◌}
-use Rattle.net_types.specs.declared.address.Net.{Net}
-use Rattle.net_types.specs.declared.interface.IfIndex.{IfIndex}
+use Rattle.std.proofs.Common.{◌≡◌, ℕ, suc, ◌+◌, Bool, true, false, ◌&&◌, List, [], ◌∷◌, ◌++◌, length, refl, sym, ap, subst, ◌∙◌}
 use Rattle.world.specs.declared.rows.HostRow.{HostRow}
 use Rattle.world.specs.declared.rows.HostRow.TheVariants.{Addr}
 use Rattle.world.specs.declared.wakes.Begin.{Begin}
@@ -12,15 +10,14 @@ use Rattle.client_model.specs.declared.interfaces.Managed.{Managed}
 use Rattle.client_model.specs.Clients.{Sending, is_managed, rows_of}
 use Rattle.client_model.specs.HostTurn.{Change, changes_from, learnt}
 use Rattle.client_model.specs.Sends.{sends_taken}
-use Rattle.client_model.specs.Turns.{Life, Met, wanted_in, life_after}
-use Rattle.client_model.specs.Opening.{OpeningMet, opened_life}
+use Rattle.client_model.specs.Turns.{Life, wanted_in, life_after}
 use Rattle.client_model.specs.Lives.{AllAnswered}
 use Rattle.client_model.specs.ToldDevices.{Failing, told_wake, told_bytes, told_changes, told_listing, told_opening}
 use Rattle.client_model.specs.HostTable.{managed_rows}
 use Rattle.client_model.specs.HostInLife.{Running, running_opened, running_turned, running_after, life_run}
 use Rattle.client_model.proofs.HostTableRows.{has_filter}
 use Rattle.client_model.proofs.HostInLifeTurns.{opening_holds, turn_in_life}
-use Rattle.evidence.specs.Laws.{AreNumbered, HasBasis}
+use Rattle.evidence.specs.Laws.{AreNumbered}
 use Rattle.evidence.specs.HeldAddresses.{mets_of, RestOnEvidence, OpeningRests, TurnsRest}
 use Rattle.evidence.proofs.Rows.{have_basis}
 
@@ -39,8 +36,7 @@ module _ (managed : List Managed) (failing : Failing) where
   answered [] running = tt
   answered (given ∷ coming) running =
       let wanted : List HostRow = wanted_in running.life (told_wake given) (told_bytes given) in
-      let listing = told_listing failing.host running.life.known running.told.host in
-      (
+      let listing = told_listing failing.host running.life.known running.told.host in (
         record {
           sends = sends_answered failing.sends running.told.sent _;
           host = changes_answered failing.host (changes_from (learnt managed running.life.known listing.answer) wanted) listing.told;
@@ -72,11 +68,11 @@ module _ (managed : List Managed) (failing : Failing) where
   rest begin host turns after numbered reached as_wanted index net on_managed has =
       let first : Running = running_opened managed failing begin host in
       let held : has_row (managed_rows managed after.told.host.rows) (Addr index net) ≡ true =
-          has_filter (is_managed managed) after.told.host.rows (Addr index net) ∙ both _ _ on_managed has in
+      has_filter (is_managed managed) after.told.host.rows (Addr index net) ∙ both _ _ on_managed has in
       let wanted : has_row (rows_of after.life.client) (Addr index net) ≡ true =
-          subst (λ rows. has_row rows (Addr index net) ≡ true) as_wanted held in
+      subst (λ rows. has_row rows (Addr index net) ≡ true) as_wanted held in
       let same : after.life ≡ life_after managed first.life (mets_of managed failing first turns) =
-          sym (ap (λ (running : Running). running.life) reached) ∙ life_met turns first in
+      sym (ap (λ (running : Running). running.life) reached) ∙ life_met turns first in
       have_basis managed (told_opening managed failing.host begin host).answer (mets_of managed failing first turns) numbered (answered turns first) index net
       (subst (λ (life : Life). has_row (rows_of life.client) (Addr index net) ≡ true) same wanted)
 

@@ -1,5 +1,5 @@
 -- What an interface carries of the turns shown of it, and that each turn keeps it.
-use Rattle.std.proofs.Common.{◌≡◌, ℕ, Bool, true, false, not, ◌&&◌, ◌||◌, List, [], ◌∷◌, ◌++◌, Option, Some, None, refl, sym, ◌∙◌, ap, subst, arith}
+use Rattle.std.proofs.Common.{◌≡◌, ℕ, Bool, true, false, not, ◌&&◌, ◌||◌, List, ◌∷◌, ◌++◌, Option, Some, None, refl, sym, ◌∙◌, ap, subst, arith}
 use Rattle.std.proofs.lemmas.Bool.Decides.{nat_tests}
 use Rattle.std.specs.Prelude.{◌≢◌, ◌==◌, if◌then◌else◌, option_to_list}
 use Rattle.net_types.specs.declared.address.Mac.{Mac}
@@ -17,7 +17,7 @@ use Rattle.world.specs.declared.wakes.Event.TheVariants.{Frame, Carrier, Duplica
 use Rattle.client_model.specs.declared.interfaces.IfConf.{IfConf}
 use Rattle.client_model.specs.declared.interfaces.Managed.{Managed}
 use Rattle.client_model.specs.declared.interfaces.Iface.{Iface}
-use Rattle.client_model.specs.Interfaces.{IfaceStep, TurnInput, is_in, index_of, chooses_local, begun, opened, opened_local, silent, ticked, restarted, unsent_in, arp_heard, hears, input_step, then_step, iface_turned}
+use Rattle.client_model.specs.Interfaces.{IfaceStep, is_in, index_of, chooses_local, begun, silent, ticked, restarted, unsent_in, arp_heard, hears, input_step, then_step}
 use Rattle.evidence.specs.Entries.{Entry, Offer}
 use Rattle.evidence.specs.Inputs.{Site, index_at, arp_on, carrier_after, has_carrier, is_stop, is_stopped}
 use Rattle.evidence.specs.LinkLocalBasis.{StaysOn}

@@ -7,3 +7,4 @@ pub mod Turns
 pub mod Rows
 pub mod Counting
 pub mod HostRests
+pub mod Numbered

@@ -1,5 +1,5 @@
 -- The frames that are offered for what an interface says, and which of them were taken.
-use Rattle.std.proofs.Common.{◌≡◌, ℕ, zero, suc, ◌+◌, ◌-◌, ◌^◌, ◌<◌, ◌≤◌, max, Bool, true, false, List, [], ◌∷◌, ◌++◌, length, nat_eq, refl, sym, ap, subst, ◌∙◌, arith}
+use Rattle.std.proofs.Common.{◌≡◌, ℕ, ◌-◌, ◌^◌, ◌<◌, max, Bool, true, false, List, [], ◌∷◌, ◌++◌, length, nat_eq, refl, sym, ap, subst, ◌∙◌, arith}
 use Rattle.std.proofs.lemmas.Bool.Decides.{nat_tests}
 use Rattle.std.proofs.lemmas.Nat.Bits.{bit_at_or, bit_at-lt, bit_at-pow_same}
 use Rattle.std.proofs.lemmas.Map.Keys.{IsDistinct-head, IsDistinct-tail}
@@ -10,7 +10,7 @@ use Rattle.net_types.specs.declared.interface.IfSpec.{IfSpec}
 use Rattle.arp_acd.specs.declared.detection.ArpSay.{ArpSay}
 use Rattle.arp_acd.specs.declared.detection.ArpSay.TheVariants.{Probe, Announce}
 use Rattle.client_model.specs.declared.interfaces.Managed.{Managed}
-use Rattle.client_model.specs.Interfaces.{IfaceStep, is_in, index_of}
+use Rattle.client_model.specs.Interfaces.{IfaceStep, is_in}
 use Rattle.client_model.specs.Clients.{Sending, spelled, sends_of}
 use Rattle.client_model.specs.Sends.{with_iface, unsent_after}
 use Rattle.client_model.proofs.SameInterfaces.{managed_in}
@@ -46,7 +46,7 @@ lower x a b e a_small b_small h = grind (arith, nat_tests)
 marked : (index set : ℕ) → is_in (with_iface index set) index ≡ true
 marked index set =
     let e : bit_at (with_iface index set) (index - 1) ≡ max (bit_at set (index - 1)) 1 =
-        bit_at_or set (2 ^ (index - 1)) (index - 1) ∙ ap (λ b. max (bit_at set (index - 1)) b) (bit_at-pow_same (index - 1)) in
+    bit_at_or set (2 ^ (index - 1)) (index - 1) ∙ ap (λ b. max (bit_at set (index - 1)) b) (bit_at-pow_same (index - 1)) in
     higher _ _ e (bit_at-lt set (index - 1))
 
 unmarked : (other index set : ℕ) → is_in (with_iface other set) index ≡ false → is_in set index ≡ false
@@ -98,7 +98,7 @@ one_more spec say s bytes mine sends said false taken h =
     failed k =
         let e : s.iface.number ≡ spec.index.number = same_number _ _ mine in
         let m : is_in (with_iface s.iface.number (unsent_after sends taken)) spec.index.number ≡ true =
-            subst (λ n. is_in (with_iface n (unsent_after sends taken)) spec.index.number ≡ true) (sym e) (marked spec.index.number (unsent_after sends taken)) in
+        subst (λ n. is_in (with_iface n (unsent_after sends taken)) spec.index.number ≡ true) (sym e) (marked spec.index.number (unsent_after sends taken)) in
         cc
 
 equal_number : (n : ℕ) → (n == n) ≡ true
@@ -188,13 +188,12 @@ offered [] taken len apart = tt
 offered (step ∷ steps) taken len apart =
     let head = IsDistinct-head nat_eq _ _ apart in
     let others : AllByRecursion (λ other. ((spec_of step).index.number == (spec_of other).index.number) ≡ false) steps =
-        all_mapped _ (λ step. step.iface) steps (all_mapped _ (λ f. f.managed) (map (λ step. step.iface) steps)
-        (all_mapped _ number_of (managed_in (map (λ step. step.iface) steps)) head)) in
-    let later = offered steps (beyond step.said taken) (beyond-length (spec_of step) step.said (flat_map sends_of steps) taken len) (IsDistinct-tail nat_eq _ _ apart) in
-    (
+    all_mapped _ (λ step. step.iface) steps (all_mapped _ (λ f. f.managed) (map (λ step. step.iface) steps)
+    (all_mapped _ number_of (managed_in (map (λ step. step.iface) steps)) head)) in
+    let later = offered steps (beyond step.said taken) (beyond-length (spec_of step) step.said (flat_map sends_of steps) taken len) (IsDistinct-tail nat_eq _ _ apart) in (
       offered-own (spec_of step) step.said (flat_map sends_of steps) taken len (elsewhere (spec_of step).index.number steps others),
       all_both _ _ _ (λ other apart_from h.
-        let p = passes (spec_of step) (spec_of other).index.number apart_from step.said (flat_map sends_of steps) taken len in
-        subst (λ offers. Offered (spec_of other) (Clean (spec_of other).index.number (flat_map sends_of (step ∷ steps)) taken) other.said offers) (sym p.same)
-        (offered-map (spec_of other) _ _ p.clean other.said _ h)) steps others later,
+          let p = passes (spec_of step) (spec_of other).index.number apart_from step.said (flat_map sends_of steps) taken len in
+          subst (λ offers. Offered (spec_of other) (Clean (spec_of other).index.number (flat_map sends_of (step ∷ steps)) taken) other.said offers) (sym p.same)
+          (offered-map (spec_of other) _ _ p.clean other.said _ h)) steps others later,
     )

@@ -1,6 +1,5 @@
 -- What conflict detection carries of the turns shown, phase by phase.
-use Rattle.std.proofs.Common.{◌≡◌, ℕ, zero, suc, ◌+◌, ◌-◌, ◌<◌, ◌≤◌, Bool, true, false, List, [], ◌∷◌, ◌++◌, Option, Some, None, nat_le, nat_lt, inl, inr, ◌⊎◌, refl, sym, ◌∙◌, ap, subst, add-one, arith, lit≤}
-use Rattle.std.proofs.lemmas.Bool.Decides.{nat_tests}
+use Rattle.std.proofs.Common.{◌≡◌, ℕ, zero, suc, ◌+◌, ◌<◌, ◌≤◌, true, false, List, [], ◌∷◌, ◌++◌, Option, Some, None, inl, inr, ◌⊎◌, refl, sym, ap, subst, add-one, arith}
 use Rattle.std.proofs.lemmas.Slice.Eq.{bytes_eq-Decides}
 use Rattle.std.specs.Prelude.{MatchOption, bytes_eq}
 use Rattle.std.specs.List.{AllByRecursion}
@@ -14,12 +13,12 @@ use Rattle.arp_acd.specs.declared.detection.ArpSay.TheVariants.{Probe, Announce}
 use Rattle.arp_acd.specs.declared.detection.Phase.{Phase}
 use Rattle.arp_acd.specs.declared.detection.Phase.TheVariants.{Probing, Announcing, Held, Over}
 use Rattle.arp_acd.specs.Table as detection
-use Rattle.arp_acd.proofs.Standing.{split, wait_after, waits, one_second}
+use Rattle.arp_acd.proofs.Standing.{wait_after, waits, one_second}
 use Rattle.ipv4ll.specs.Choice.{IsChoice}
 use Rattle.evidence.specs.Entries.{Entry, Offer}
 use Rattle.evidence.specs.Inputs.{Site, uses, contests}
 use Rattle.evidence.specs.Probed.{probe_taken, Probes, Probed}
-use Rattle.evidence.specs.LinkLocalBasis.{AnnouncesNoOther, IsAlone, UsesApart, StaysOn}
+use Rattle.evidence.specs.LinkLocalBasis.{IsAlone, UsesApart, StaysOn}
 use Rattle.evidence.proofs.Offers.{all_map, all_join, Offered}
 use Rattle.evidence.proofs.Announced.{alone}
 

@@ -1,6 +1,6 @@
 -- Which interface an address row comes from, and the basis that it has there.
-use Rattle.std.proofs.Common.{ℕ, ◌≡◌, Bool, true, false, cond, not, ◌&&◌, ◌||◌, List, [], ◌∷◌, ◌++◌, ◌⊎◌, inl, inr, Option, Some, None, refl, sym, ap, subst, ◌∙◌}
-use Rattle.std.specs.Prelude.{filter, flat_map, map, nat_lt}
+use Rattle.std.proofs.Common.{ℕ, ◌≡◌, Bool, true, false, cond, not, ◌&&◌, ◌||◌, List, [], ◌∷◌, ◌⊎◌, inl, inr, Option, Some, None, refl, sym, ap, subst, ◌∙◌}
+use Rattle.std.specs.Prelude.{filter, flat_map, nat_lt}
 use Rattle.std.specs.List.{AllByRecursion, Contains}
 use Rattle.std.proofs.lemmas.List.Folds.{list_any-append}
 use Rattle.std.proofs.lemmas.List.Elements.{All-contains_itself, recursion_from_All}
@@ -30,22 +30,21 @@ use Rattle.world.proofs.RowLists.{in_order_has}
 use Rattle.client_model.specs.declared.interfaces.StaticLine.{StaticLine}
 use Rattle.client_model.specs.declared.interfaces.Managed.{Managed}
 use Rattle.client_model.specs.declared.interfaces.Iface.{Iface}
-use Rattle.client_model.specs.Interfaces.{is_in, is_up, index_of}
-use Rattle.client_model.specs.Turns.{Life, Met, life_after}
-use Rattle.client_model.specs.Opening.{OpeningMet, opened_life}
-use Rattle.client_model.specs.WantedRows.{network_of, is_within, metric_of, is_kept, network_routes, router_routes, address_rows, line_rows, static_rows, local_net, local_rows, iface_rows}
+use Rattle.client_model.specs.Interfaces.{is_up, index_of}
+use Rattle.client_model.specs.Turns.{Life, life_after}
+use Rattle.client_model.specs.Opening.{opened_life}
+use Rattle.client_model.specs.WantedRows.{network_of, is_within, metric_of, is_kept, router_routes, address_rows, static_rows, local_net, local_rows, iface_rows}
 use Rattle.client_model.proofs.SameInterfaces.{managed_in}
 use Rattle.client_model.proofs.HostTableRows.{has_filter}
 use Rattle.evidence.specs.Entries.{Entry, shown_after}
 use Rattle.evidence.specs.Inputs.{Site}
-use Rattle.evidence.specs.StaticBasis.{StaticBasis}
 use Rattle.evidence.specs.LinkLocalBasis.{LinkLocalBasis}
-use Rattle.evidence.specs.Laws.{Basis, site_of, shown_of, AddressesHaveBasis}
+use Rattle.evidence.specs.Laws.{Basis, AddressesHaveBasis}
 use Rattle.evidence.proofs.Offers.{all_both, number_of}
 use Rattle.evidence.proofs.Phases.{HeldSince, Carries}
 use Rattle.evidence.proofs.Ticks.{Bears}
 use Rattle.evidence.proofs.Keeping.{Keeps, at_site}
-use Rattle.evidence.proofs.Turns.{KeptOne, Kept, KeptAfter, turns_kept, own_stays, opening_kept}
+use Rattle.evidence.proofs.Turns.{KeptOne, KeptAfter, turns_kept, own_stays, opening_kept}
 
 either : (a b : Bool) → (a || b) ≡ true → (a ≡ true) ⊎ (b ≡ true)
 either true b e = inl refl
@@ -72,7 +71,7 @@ giver : (P : Iface → Type 0) (row : HostRow) (ifaces : List Iface) → AllByRe
 giver P row [] all has = cc
 giver P row (f ∷ ifaces) all has =
     elim (either _ _ (sym (list_any-append _ (iface_rows f) (flat_map iface_rows ifaces)) ∙ has)) [
-      inl here ↦ record { iface = f; is_such = all.0; gives = here }
+      | inl here ↦ record { iface = f; is_such = all.0; gives = here }
       | inr later ↦ giver P row ifaces all.1 later
     ]
 
@@ -172,8 +171,7 @@ module _ (index : IfIndex) (net : Net) where
           → (index ≡ f.managed.spec.index) × Basis (at_site own start f.managed) net past
       by_place (inl h) =
           let g = of_line f.managed.spec.index (f.up && not f.stopped) f.managed.conf.line h in
-          let on : (f.up ≡ true) × (f.stopped ≡ false) = both_up f.up f.stopped g.0 in
-          (
+          let on : (f.up ≡ true) × (f.stopped ≡ false) = both_up f.up f.stopped g.0 in (
             same_index f.managed.spec.index (Family.V4 g.1.the_line.address) g.1.same,
             inl (record {
               line = g.1.the_line;
@@ -184,8 +182,7 @@ module _ (index : IfIndex) (net : Net) where
             }),
           )
       by_place (inr h) =
-          let g = of_local f.managed.spec.index (held_in f.local.state) h in
-          (
+          let g = of_local f.managed.spec.index (held_in f.local.state) h in (
             same_index f.managed.spec.index (Family.V4 (local_net g.0)) g.2,
             inr (state_basis (at_site own start f.managed) clean past g.0 f.local.state g.1 (same_net f.managed.spec.index (Family.V4 (local_net g.0)) g.2) k.bears),
           )
@@ -206,16 +203,16 @@ have_basis managed opening mets numbered answered index net has =
     let life : Life = life_after managed (opened_life managed opening) mets in
     let shown : ℕ → List Entry = λ number. shown_after managed number (opened_life managed opening) [] mets in
     let all : KeptAfter start managed life shown =
-        turns_kept start managed numbered mets (opened_life managed opening) (λ number. []) (opening_kept managed opening) answered in
+    turns_kept start managed numbered mets (opened_life managed opening) (λ number. []) (opening_kept managed opening) answered in
     let rows : List HostRow = flat_map iface_rows life.client.ifaces in
     let kept : has_row (filter (is_kept rows) rows) (Addr index net) ≡ true = sym (in_order_has (filter (is_kept rows) rows) (Addr index net)) ∙ has in
     let g = giver (λ f. KeptOne start life.client.own life.unsent shown f × Contains managed f.managed) (Addr index net) life.client.ifaces
-        (all_both _ _ _ (λ f k c. (k, c)) life.client.ifaces all.kept (all_managed life.client.ifaces managed all.of_managed))
-        (second _ _ (sym (has_filter (is_kept rows) rows (Addr index net)) ∙ kept)) in
+    (all_both _ _ _ (λ f k c. (k, c)) life.client.ifaces all.kept (all_managed life.client.ifaces managed all.of_managed))
+    (second _ _ (sym (has_filter (is_kept rows) rows (Addr index net)) ∙ kept)) in
     let b = iface_basis index net life.client.own (start (number_of g.iface.managed)) _ g.iface (shown (index_of g.iface)) g.is_such.0 g.gives in
     record {
       holder = g.iface.managed;
-      is_managed = g.is_such.1;
+      among = g.is_such.1;
       is_here = b.0;
       basis = subst (λ own. Basis (at_site own (start (number_of g.iface.managed)) g.iface.managed) net (shown (index_of g.iface)))
           (own_stays managed mets (opened_life managed opening)) b.1;

@@ -1,7 +1,7 @@
 -- What a link-local machine carries of the turns shown, and what its tick and a heard packet make of it.
-use Rattle.std.proofs.Common.{◌≡◌, ℕ, ◌+◌, ◌-◌, ◌≤◌, Bool, true, false, List, [], ◌∷◌, ◌++◌, Option, Some, None, nat_le, nat_lt, inl, inr, refl, sym, ◌∙◌, ap, subst, arith, lit≤, zero, suc}
+use Rattle.std.proofs.Common.{◌≡◌, ℕ, ◌+◌, ◌-◌, ◌≤◌, true, false, List, [], ◌∷◌, ◌++◌, Option, Some, None, nat_le, nat_lt, inl, inr, refl, ◌∙◌, ap, arith, lit≤, zero, suc}
 use Rattle.std.proofs.lemmas.Bool.Decides.{nat_tests}
-use Rattle.std.specs.Prelude.{MatchOption, option_to_list}
+use Rattle.std.specs.Prelude.{option_to_list}
 use Rattle.net_types.specs.declared.address.Ip4.{Ip4}
 use Rattle.net_types.specs.declared.interface.IfIndex.{IfIndex}
 use Rattle.frame_link.specs.declared.arp.ArpView.{ArpView}
@@ -23,7 +23,7 @@ use Rattle.evidence.specs.Entries.{Entry}
 use Rattle.evidence.specs.Inputs.{Site, index_at, arp_on, tells_use, tells_contest}
 use Rattle.evidence.specs.LinkLocalBasis.{StaysOn}
 use Rattle.evidence.proofs.Offers.{all_join, Offered}
-use Rattle.evidence.proofs.Phases.{HeldSince, Carries, Amid, ProbesOf, probe_offered, probe_said, probes-on, three_said, unused, used, is_alone, quiet}
+use Rattle.evidence.proofs.Phases.{HeldSince, Carries, Amid, probe_offered, probe_said, probes-on, three_said, unused, used, is_alone, quiet}
 
 -- after a turn
 abbrev pub Bears : Site → (clean : Type 0) → State → List Entry → Type 0
@@ -110,8 +110,11 @@ module _ (site : Site) (clean : Type 0) (e : Entry) (past : List Entry) (salt : 
       λ h. (r, f (used site addr None e past m.1 stays (is_alone site addr clean e (said ++ Announce addr ∷ []) r (all_join _ said _ m.0 (refl, tt)) h) tt))
   used_bears iface i conflicts addr phase said (Some last) defended r m stays f =
       split (nat_le 10000 (e.moment - last))
-      (λ late. rw late (λ h. (r, f (used site addr (Some last) e past m.1 stays
-      (is_alone site addr clean e (said ++ Announce addr ∷ []) r (all_join _ said _ m.0 (refl, tt)) h) (apart last e.moment late)))))
+      (λ late. rw late (λ h. (
+        r,
+        f (used site addr (Some last) e past m.1 stays
+            (is_alone site addr clean e (said ++ Announce addr ∷ []) r (all_join _ said _ m.0 (refl, tt)) h) (apart last e.moment late)),
+      )))
       (λ soon. rw soon (λ h. after_bears iface (one_more conflicts)))
     where
       apart : (last at : ℕ) → nat_le 10000 (at - last) ≡ true → last + 10000 ≤ at

@@ -1,17 +1,12 @@
 -- Over every list of turns each interface keeps what it carries.
-use Rattle.std.proofs.Common.{◌≡◌, ℕ, Bool, true, false, List, [], ◌∷◌, Option, Some, None, nat_eq, refl, sym, ap, subst, ◌∙◌}
-use Rattle.std.specs.Prelude.{map, flat_map, if◌then◌else◌, ◌==◌}
+use Rattle.std.proofs.Common.{◌≡◌, ℕ, Bool, true, false, List, [], ◌∷◌, nat_eq, refl, sym, subst, ◌∙◌}
+use Rattle.std.specs.Prelude.{map}
 use Rattle.std.specs.List.{AllByRecursion, IsDistinct}
 use Rattle.net_types.specs.declared.address.Mac.{Mac}
-use Rattle.frame_link.specs.declared.arp.ArpView.{ArpView}
 use Rattle.ipv4ll.specs.declared.link_local.State.TheVariants.{Off}
-use Rattle.ipv4ll.proofs.Chosen.{gated}
-use Rattle.world.specs.declared.wakes.Event.{Event}
-use Rattle.world.specs.declared.wakes.Event.TheVariants.{Frame, Carrier, Duplicate, Release, Rebind, Stop, Quiet, End}
 use Rattle.client_model.specs.declared.interfaces.Managed.{Managed}
 use Rattle.client_model.specs.declared.interfaces.Iface.{Iface}
-use Rattle.client_model.specs.Interfaces.{IfaceStep, TurnInput, is_in, is_up, index_of, opened, opened_local, silent, restarted, unsent_in, ticked, carried, rebound, begins, machines_off, halted, arp_heard, hears, taken, input_step, iface_turned}
-use Rattle.client_model.specs.Clients.{steps_of}
+use Rattle.client_model.specs.Interfaces.{IfaceStep, is_in, is_up, index_of, opened, opened_local, iface_turned}
 use Rattle.client_model.specs.Sends.{AnswersSends, unsent_after}
 use Rattle.client_model.specs.Turns.{Life, Met, input_of, step_of, turned, life_after}
 use Rattle.client_model.specs.Opening.{OpeningMet, opened_life}
@@ -64,7 +59,7 @@ module _ (start : ℕ → Bool) where
         → AnswersSends (step_of life met.wake met.bytes).sends met.taken → Kept life shown → Kept (turned managed life met) (after life met shown)
     turned_kept managed numbered of_managed answered kept =
         let same : managed_in (map (λ step. step.iface) (map step_for life.client.ifaces)) ≡ managed =
-            all_turned life.client.own (input_of life met.wake met.bytes) life.client.ifaces ∙ of_managed in
+        all_turned life.client.own (input_of life met.wake met.bytes) life.client.ifaces ∙ of_managed in
         all_kept life.client.ifaces
         (offered (map step_for life.client.ifaces) met.taken answered (subst (λ ms. IsDistinct nat_eq (map number_of ms)) (sym same) numbered))
         kept

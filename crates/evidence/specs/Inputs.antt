@@ -6,7 +6,7 @@ use Rattle.net_types.specs.declared.address.Mac.{Mac}
 use Rattle.frame_link.specs.declared.arp.ArpView.{ArpView}
 use Rattle.arp_acd.specs.Conflict.{is_used, is_contested}
 use Rattle.world.specs.declared.wakes.Event.{Event}
-use Rattle.world.specs.declared.wakes.Event.TheVariants.{Frame, Carrier, Duplicate, Release, Rebind, Stop, Quiet, End}
+use Rattle.world.specs.declared.wakes.Event.TheVariants.{Frame, Carrier, Release, Stop}
 use Rattle.client_model.specs.declared.interfaces.Managed.{Managed}
 use Rattle.client_model.specs.Interfaces.{arp_heard}
 use Rattle.evidence.specs.Entries.{Entry}

@@ -1,5 +1,5 @@
 -- That the addresses which the client wants have their basis, and that this says something.
-use Rattle.std.specs.Prelude.{◌≡◌, ◌<◌, true, List, [], map, nat_eq, ◌⊎◌}
+use Rattle.std.specs.Prelude.{◌≡◌, ℕ, ◌<◌, true, List, [], map, nat_eq, ◌⊎◌}
 use Rattle.std.specs.List.{Contains, IsDistinct}
 use Rattle.net_types.specs.declared.address.Ip4.{Ip4}
 use Rattle.net_types.specs.declared.address.Net.{Net}
@@ -14,6 +14,7 @@ use Rattle.client_model.specs.WantedRows.{local_net}
 use Rattle.client_model.specs.Turns.{Met, life_after}
 use Rattle.client_model.specs.Opening.{OpeningMet, opened_life}
 use Rattle.client_model.specs.Lives.{AllAnswered}
+use Rattle.client_model.specs.Scripts.{CountsFrom}
 use Rattle.evidence.specs.Entries.{Entry, shown_after}
 use Rattle.evidence.specs.Inputs.{Site}
 use Rattle.evidence.specs.Probed.{probes_taken}
@@ -38,7 +39,7 @@ shown_of managed opening mets m = shown_after managed m.spec.index.number (opene
 -- The address is on a managed interface and has its basis there.
 pub record HasBasis (managed : List Managed) (opening : OpeningMet) (mets : List Met) (index : IfIndex) (net : Net) : Type 0 where
   pub holder : Managed
-  pub is_managed : Contains managed holder
+  pub among : Contains managed holder
   pub is_here : index ≡ holder.spec.index
   pub basis : Basis (site_of managed opening holder) net (shown_of managed opening mets holder)
 
@@ -51,6 +52,10 @@ AddressesHaveBasis = (managed : List Managed) (opening : OpeningMet) (mets : Lis
     → AreNumbered managed → AllAnswered managed (opened_life managed opening) mets → (index : IfIndex) (net : Net)
     → has_row (rows_of (life_after managed (opened_life managed opening) mets).client) (Addr index net) ≡ true
     → HasBasis managed opening mets index net
+
+-- Interfaces that count from a number on have unlike numbers.
+abbrev pub CountedAreNumbered : Type 0
+CountedAreNumbered = (first : ℕ) (managed : List Managed) → CountsFrom first (map (λ m. m.spec) managed) → AreNumbered managed
 
 -- An address for which fewer than three probes were taken has no basis but a static line.
 abbrev pub NeedsThreeProbes : Type 0

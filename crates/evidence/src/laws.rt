@@ -6,7 +6,7 @@ ghost use Rattle.client_model.specs.Turns.{life_after};
 ghost use Rattle.client_model.specs.Opening.{opened_life};
 ghost use Rattle.client_model.specs.Lives.{AllAnswered};
 ghost use Rattle.evidence.specs.HeldAddresses.{OpeningRests, TurnsRest};
-ghost use Rattle.evidence.specs.Laws.{AddressesHaveBasis, NeedsThreeProbes, shown_of, site_of};
+ghost use Rattle.evidence.specs.Laws.{AddressesHaveBasis, CountedAreNumbered, NeedsThreeProbes, shown_of, site_of};
 ghost use Rattle.evidence.specs.LinkLocalBasis.{LinkLocalBasis};
 ghost use Rattle.evidence.specs.SevenTurns.{chosen_net, interface, opens, seven_shown, seven_turns};
 
@@ -21,6 +21,11 @@ pub fn addresses_have_a_basis()
 pub fn held_addresses_have_a_basis()
     ensures opening { OpeningRests }
     ensures turns { TurnsRest }
+{}
+
+/// Law: interfaces that count from 1, as those of a script do, have unlike numbers.
+pub fn counted_interfaces_are_numbered()
+    ensures { CountedAreNumbered }
 {}
 
 /// Law: no link-local address has a basis before the link took three probes for it (RFC 5227, section 2.1.1).

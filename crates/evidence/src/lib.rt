@@ -4,4 +4,7 @@
 
 mod laws;
 
-pub use laws::{addresses_have_a_basis, held_addresses_have_a_basis, needs_three_probes, seven_turns_give_a_basis};
+pub use laws::{
+    addresses_have_a_basis, counted_interfaces_are_numbered, held_addresses_have_a_basis,
+    needs_three_probes, seven_turns_give_a_basis,
+};

@@ -1,4 +1,4 @@
-use Rattle.std.proofs.Common.{◌≡◌, ◌<◌, ◌≤◌, List, [], ◌∷◌, inl, refl, sym, lit≤}
+use Rattle.std.proofs.Common.{◌≡◌, [], ◌∷◌, inl, refl, sym, lit≤}
 use Rattle.net_types.specs.declared.address.Ip4.{Ip4}
 use Rattle.net_types.specs.AddressText.{FitsIp4}
 use Rattle.frame_link.specs.Frames.{frame_in}
