@@ -1,19 +1,18 @@
 -- Interfaces that fit go on to fit.
-use Rattle.std.proofs.Common.{ℕ, Bool, true, false, cond, List, [], ◌∷◌, eqb}
+use Rattle.std.proofs.Common.{ℕ, ◌<◌, List, [], ◌∷◌, length, get_or, zero, suc}
 use Rattle.std.specs.Prelude.{map}
+use Rattle.net_types.specs.declared.address.Mac.{Mac}
 use Rattle.client_model.specs.declared.interfaces.Managed.{Managed}
 use Rattle.client_model.specs.declared.interfaces.Iface.{Iface}
-use Rattle.client_model.specs.Fitting.{FitsManaged, AreManaged, AreIfaces}
-use Rattle.client_model.specs.Interfaces.{opened, carrier}
+use Rattle.client_model.specs.Fitting.{FitsIface, AreManaged, AreIfaces}
+use Rattle.client_model.specs.Interfaces.{TurnInput, opened}
+use Rattle.iface_core.proofs.Staying.{turn_stays, stays_fit, opened_fits}
+use Rattle.client_core.specs.Stepping.{goes_on}
 
-pub opened_fit : (up : ℕ) (managed : List Managed) → AreManaged managed → AreIfaces (map (opened up) managed)
-opened_fit up [] fit = tt
-opened_fit up (m ∷ managed) fit = (fit.0, opened_fit up managed fit.1)
+pub opened_fit : (up at : ℕ) (managed : List Managed) → AreManaged managed → AreIfaces (map (opened up at) managed)
+opened_fit up at [] fit = tt
+opened_fit up at (m ∷ managed) fit = (opened_fits up at m fit.0, opened_fit up at managed fit.1)
 
-one_fits : (b up : Bool) (f : Iface) → FitsManaged f.managed → FitsManaged (cond b (record { managed = f.managed; up = up }) f).managed
-one_fits true up f fit = fit
-one_fits false up f fit = fit
-
-pub carrier_fit : (index : ℕ) (up : Bool) (ifaces : List Iface) → AreIfaces ifaces → AreIfaces (map (carrier index up) ifaces)
-carrier_fit index up [] fit = tt
-carrier_fit index up (f ∷ ifaces) fit = (one_fits (eqb f.managed.spec.index.number index) up f fit.0, carrier_fit index up ifaces fit.1)
+pub turned_fit : (own : List Mac) (turn : TurnInput) (ifaces : List Iface) → AreIfaces ifaces → AreIfaces (map (goes_on own turn) ifaces)
+turned_fit own turn [] fit = tt
+turned_fit own turn (f ∷ ifaces) fit = (stays_fit f (goes_on own turn f) (turn_stays own turn f) fit.0, turned_fit own turn ifaces fit.1)

@@ -1,6 +1,6 @@
 -- The rows that interfaces bring are rows that a host takes.
-use Rattle.std.proofs.Common.{ℕ, ◌+◌, ◌-◌, ◌*◌, ◌/◌, ◌%◌, ◌^◌, ◌<◌, Bool, true, false, cond, List, [], ◌∷◌, ◌++◌, ◌≡◌, Option, Some, None, refl, ap, ◌∙◌, arith}
-use Rattle.std.specs.Prelude.{IfSome, filter, flat_map, nat_lt}
+use Rattle.std.proofs.Common.{ℕ, ◌+◌, ◌-◌, ◌*◌, ◌/◌, ◌%◌, ◌^◌, ◌<◌, ◌≤◌, Bool, true, false, cond, List, [], ◌∷◌, ◌++◌, ◌≡◌, Option, Some, None, refl, ap, ◌∙◌, arith}
+use Rattle.std.specs.Prelude.{IfSome, not, ◌&&◌, filter, flat_map, nat_lt}
 use Rattle.std.specs.List.{AllByRecursion}
 use Rattle.std.specs.declared.cmp.Ordering.{Ordering}
 use Rattle.std.specs.declared.cmp.Ordering.TheVariants.{Less, Equal, Greater}
@@ -16,10 +16,18 @@ use Rattle.world.specs.declared.rows.HostRow.TheVariants.{Route}
 use Rattle.world.specs.declared.rows.Via.TheVariants.{OnLink}
 use Rattle.world.specs.Rows.{IsInterface, IsRow}
 use Rattle.world.specs.RowOrder.{row_cmp, with_row, put_in_order}
+use Rattle.arp_acd.specs.declared.detection.Phase.{Phase}
+use Rattle.arp_acd.specs.declared.detection.Phase.TheVariants.{Probing, Announcing, Held, Over}
+use Rattle.arp_acd.specs.Table as detection
+use Rattle.ipv4ll.specs.declared.link_local.State.{State}
+use Rattle.ipv4ll.specs.declared.link_local.State.TheVariants.{Off, Armed, Chosen, Waiting}
+use Rattle.ipv4ll.specs.Choice.{IsChoice}
+use Rattle.ipv4ll.specs.Laws.{chosen_address}
+use Rattle.ipv4ll.specs.Table.{held_in}
 use Rattle.client_model.specs.declared.interfaces.Iface.{Iface}
-use Rattle.client_model.specs.StaticRows.{network_of, is_within, metric_of, is_kept, network_routes, router_routes, line_rows, iface_rows, wanted_rows}
-use Rattle.client_model.specs.Interfaces.{Client, rows_of}
-use Rattle.client_model.specs.Fitting.{FitsManaged, AreIfaces}
+use Rattle.client_model.specs.declared.interfaces.StaticLine.{StaticLine}
+use Rattle.client_model.specs.WantedRows.{network_of, is_within, metric_of, is_kept, network_routes, router_routes, address_rows, static_rows, local_net, local_rows, iface_rows, wanted_rows}
+use Rattle.client_model.specs.Fitting.{FitsLine, FitsManaged, FitsIface, AreIfaces}
 
 -- ---- one interface
 
@@ -50,25 +58,51 @@ router_fits : (iface : IfIndex) (net : Net4) (router : Option Ip4) → IsInterfa
 router_fits iface net None index fits = tt
 router_fits iface net (Some router) index fits = ((index, (omega arith, omega arith), refl, fits, omega (arith, index)), gateway_fits (is_within router net) iface router index fits)
 
-line_fits : (f : Iface) → FitsManaged f.managed → AllByRecursion IsRow (line_rows f.managed.spec.index f.managed.line)
-line_fits f fits =
-    let index = fits.index in
-    let address = fits.address in (
-      (index, (address.address, address.prefix)),
-      both_fit (network_routes f.managed.spec.index f.managed.line.address) (router_routes f.managed.spec.index f.managed.line.address f.managed.line.router)
-          (network_fits (nat_lt f.managed.line.address.len 32) f.managed.spec.index f.managed.line.address index address)
-          (router_fits f.managed.spec.index f.managed.line.address f.managed.line.router index fits.router),
-    )
+address_fits : (iface : IfIndex) (net : Net4) → IsInterface iface.number → FitsNet4 net → AllByRecursion IsRow (address_rows iface net)
+address_fits iface net index fits = ((index, (fits.address, fits.prefix)), network_fits (nat_lt net.len 32) iface net index fits)
 
-iface_fits : (b : Bool) (f : Iface) → FitsManaged f.managed → AllByRecursion IsRow (cond b (line_rows f.managed.spec.index f.managed.line) [])
-iface_fits true f fits = line_fits f fits
-iface_fits false f fits = tt
+static_fits : (iface : IfIndex) (in_force : Bool) (line : Option StaticLine) → IsInterface iface.number → IfSome line FitsLine
+    → AllByRecursion IsRow (static_rows iface in_force line)
+static_fits iface false line index fits = tt
+static_fits iface true None index fits = tt
+static_fits iface true (Some line) index fits =
+    both_fit (address_rows iface line.address) (router_routes iface line.address line.router)
+        (address_fits iface line.address index fits.address) (router_fits iface line.address line.router index fits.router)
+
+choice_fits : (ip : Ip4) → IsChoice ip → FitsNet4 (local_net ip)
+choice_fits ip choice =
+    let most : ip.number ≤ 0xa9fe_feff = choice.at_most in
+    record { address = omega arith; prefix = omega arith }
+
+local_fits : (iface : IfIndex) (local : Option Ip4) → IsInterface iface.number → IfSome local IsChoice → AllByRecursion IsRow (local_rows iface local)
+local_fits iface None index fits = tt
+local_fits iface (Some ip) index fits = address_fits iface (local_net ip) index (choice_fits ip fits)
+
+phase_held : (addr : Ip4) (phase : Phase) → IsChoice addr → IfSome (detection.held_in addr phase) IsChoice
+phase_held addr (Probing sent due) choice = tt
+phase_held addr (Announcing due last) choice = choice
+phase_held addr (Held last) choice = choice
+phase_held addr Over choice = tt
+
+held_fits : (state : State) → IfSome (chosen_address state) IsChoice → IfSome (held_in state) IsChoice
+held_fits Off choice = tt
+held_fits (Armed due waits_lease probes) choice = tt
+held_fits (Chosen conflicts acd) choice = phase_held acd.addr acd.phase choice
+held_fits (Waiting conflicts due) choice = tt
+
+iface_fits : (f : Iface) → FitsIface f → AllByRecursion IsRow (iface_rows f)
+iface_fits f fits =
+    let managed : FitsManaged f.managed = fits.managed in
+    let iface = f.managed.spec.index in
+    both_fit (static_rows iface (f.up && not f.stopped) f.managed.conf.line) (local_rows iface (held_in f.local.state))
+        (static_fits iface (f.up && not f.stopped) f.managed.conf.line managed.index managed.line)
+        (local_fits iface (held_in f.local.state) managed.index (held_fits f.local.state fits.local))
 
 -- ---- all of them
 
 all_fit : (ifaces : List Iface) → AreIfaces ifaces → AllByRecursion IsRow (flat_map iface_rows ifaces)
 all_fit [] fits = tt
-all_fit (f ∷ ifaces) fits = both_fit (iface_rows f) (flat_map iface_rows ifaces) (iface_fits f.up f fits.0) (all_fit ifaces fits.1)
+all_fit (f ∷ ifaces) fits = both_fit (iface_rows f) (flat_map iface_rows ifaces) (iface_fits f fits.0) (all_fit ifaces fits.1)
 
 kept_fit : (b : Bool) (row : HostRow) (rest : List HostRow) → IsRow row → AllByRecursion IsRow rest → AllByRecursion IsRow (cond b (row ∷ rest) rest)
 kept_fit true row rest fit more = (fit, more)
@@ -91,15 +125,8 @@ put_fit : (sorted rows : List HostRow) → AllByRecursion IsRow sorted → AllBy
 put_fit sorted [] placed fit = placed
 put_fit sorted (row ∷ rows) placed fit = put_fit (with_row row sorted) rows (with_fit row sorted fit.0 placed) fit.1
 
-wanted_fit : (ifaces : List Iface) → AreIfaces ifaces → AllByRecursion IsRow (wanted_rows ifaces)
-wanted_fit ifaces fits =
+-- what interfaces want are rows that the host takes
+pub rows_fit : (ifaces : List Iface) → AreIfaces ifaces → AllByRecursion IsRow (wanted_rows ifaces)
+rows_fit ifaces fits =
     let rows = flat_map iface_rows ifaces in
     put_fit [] (filter (is_kept rows) rows) tt (filter_fit (is_kept rows) rows (all_fit ifaces fits))
-
-rows_fit_if : (stopped : Bool) (ifaces : List Iface) → AreIfaces ifaces → AllByRecursion IsRow (cond stopped [] (wanted_rows ifaces))
-rows_fit_if true ifaces fits = tt
-rows_fit_if false ifaces fits = wanted_fit ifaces fits
-
--- what a client wants are rows that the host takes
-pub rows_fit : (client : Client) → AreIfaces client.ifaces → AllByRecursion IsRow (rows_of client)
-rows_fit client fits = rows_fit_if client.stopped client.ifaces fits

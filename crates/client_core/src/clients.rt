@@ -1,155 +1,119 @@
-ghost use Rattle.std.specs.Prelude.{◌≡◌, IfOk, IsTrue, not, map, Bool, true, false};
+ghost use Rattle.std.specs.Prelude.{◌≡◌, ◌<◌, ◌^◌, IfOk, map, Bool, false};
 ghost use Rattle.std.specs.List.{AllByRecursion};
-ghost use Rattle.world.specs.Rows.{IsInterface, IsRow};
+ghost use Rattle.world.specs.Rows.{IsRow};
+ghost use Rattle.client_model.specs.WantedRows.{wanted_rows};
 ghost use Rattle.client_model.specs.Fitting.{AreManaged, AreIfaces};
-ghost use Rattle.client_model.specs.Interfaces.{Client, opening, stepped, rows_of, carrier, is_up, opened};
+ghost use Rattle.client_model.specs.Interfaces.{opened};
+ghost use Rattle.client_model.specs.Clients.{Client, opening, client_turned, client_due, earlier, rows_of};
+ghost use Rattle.client_model.specs.Turns.{capped};
+ghost use Rattle.iface_core.specs.Inputs.{turn_of};
+ghost use Rattle.iface_core.specs.Outcomes.{sends_in};
+ghost use Rattle.client_core.specs.Stepping.{Steps, AreOnInterfaces};
 
+use crate::turning::turn_ifaces;
 use crate::wanting::wanted;
 use client_model::{Iface, Managed};
-use net_types::{IfIndex, NoMemory};
+use iface_core::{Outs, Turn, iface_due, iface_open};
+use machine::clamp_moment;
+use net_types::{Mac, NoMemory};
 use std::alloc::{AllocError, Global};
 use std::collections::BTreeSet;
 use std::marker::Model;
-use world::{Begin, Event, HostRow};
+use world::{Begin, HostRow};
 
 /// The client over all managed interfaces, between two turns.
 #[derive(Drop)]
 pub struct Core {
     alloc: Global,
+    own: Vec<Mac>,
     ifaces: Vec<Iface>,
-    stopped: bool,
     wanted: BTreeSet<HostRow>,
 }
 
 impl Model for Core {
     ghost Value = { Client };
 
-    ghost view = { λ core. record { ifaces = core.ifaces.items; stopped = core.stopped } };
+    ghost view = { λ core. record { own = core.own.items; ifaces = core.ifaces.items } };
 
-    ghost invariant = { λ core. AreIfaces core.ifaces.items × (core.wanted.keys ≡ rows_of (record { ifaces = core.ifaces.items; stopped = core.stopped })) };
+    ghost invariant = { λ core. AreIfaces core.ifaces.items × (core.wanted.keys ≡ wanted_rows core.ifaces.items) };
 }
 
 fn opened_ifaces(alloc: Global, managed: &[Managed], begin: Begin) -> Result<Vec<Iface>, AllocError>
     requires { AreManaged managed.now }
-    ensures { IfOk result (λ v. v.items ≡ map (opened begin.up) managed.now) }
+    ensures { IfOk result (λ v. v.items ≡ map (opened begin.up (capped begin.at)) managed.now) }
 {
+    let at = clamp_moment(begin.at);
     let mut ifaces = Vec::new(alloc);
     for m in managed {
-        let up = has_carrier(begin.up, m.spec.index);
-        ifaces.push(Iface { managed: *m, up })?;
+        ifaces.push(iface_open(m, begin.up, at))?;
     }
     Ok(ifaces)
 }
 
-/// Whether the bit of an interface is set.
-fn has_carrier(up: u64, index: IfIndex) -> bool
-    requires { IsInterface index.number }
-    ensures { result ≡ is_up up index.number }
+/// The hardware addresses of the interfaces.
+fn own_addresses(alloc: Global, managed: &[Managed]) -> Result<Vec<Mac>, AllocError>
+    ensures { IfOk result (λ v. v.items ≡ map (λ m. m.spec.mac) managed.now) }
 {
-    up / 2u64.pow(index.number - 1) % 2 == 1
+    managed.iter().map(|m| m.spec.mac).collect(alloc)
 }
 
-#[tactic(auto, using(crate::proofs::Fit::opened_fit))]
 /// Opens the client: carriers are those of the start.
+#[tactic(auto, using(crate::proofs::Fit::opened_fit))]
 pub fn core_open(alloc: Global, managed: &[Managed], begin: Begin) -> Result<Core, NoMemory>
     requires { AreManaged managed.now }
-    ensures { IfOk result (λ core. core ≡ opening managed.now begin.up) }
+    ensures { IfOk result (λ core. core ≡ opening managed.now begin.up (capped begin.at)) }
 {
+    let own = own_addresses(alloc, managed)?;
     let ifaces = opened_ifaces(alloc, managed, begin)?;
     let wanted = wanted(alloc, &ifaces)?;
     Ok(Core {
         alloc,
+        own,
         ifaces,
-        stopped: false,
         wanted,
     })
 }
 
-fn with_carrier(f: Iface, index: u32, up: bool) -> Iface
-    ensures { result ≡ carrier index up f }
-{
-    if f.managed.spec.index.number == index {
-        Iface {
-            managed: f.managed,
-            up,
-        }
-    } else {
-        f
-    }
-}
-
-fn with_carriers(
+/// The rows after a turn: those before, where none has changed.
+fn renewed(
     alloc: Global,
+    before: BTreeSet<HostRow>,
     ifaces: &[Iface],
-    index: u32,
-    up: bool,
-) -> Result<Vec<Iface>, AllocError>
-    ensures { IfOk result (λ v. v.items ≡ map (carrier index up) ifaces.now) }
+    changed: bool,
+) -> Result<BTreeSet<HostRow>, AllocError>
+    requires fit { AreIfaces ifaces.now }
+    requires same { changed ≡ false → before.keys ≡ wanted_rows ifaces.now }
+    ensures { IfOk result (λ wanted. wanted.keys ≡ wanted_rows ifaces.now) }
 {
-    ifaces
-        .iter()
-        .map(|f| with_carrier(*f, index, up))
-        .collect(alloc)
-}
-
-impl Core {
-    #[tactic(auto, using(crate::proofs::Fit::carrier_fit))]
-    fn carrier(self, index: u32, up: bool) -> Result<Core, NoMemory>
-        requires { IsTrue (not self.stopped) }
-        ensures { IfOk result (λ core. core ≡ record { ifaces = map (carrier index up) self.ifaces; stopped = false }) }
-    {
-        let Core {
-            alloc,
-            ifaces,
-            stopped,
-            wanted: _,
-        } = self;
-        let ifaces = with_carriers(alloc, &ifaces, index, up)?;
-        let wanted = wanted(alloc, &ifaces)?;
-        Ok(Core {
-            alloc,
-            ifaces,
-            stopped,
-            wanted,
-        })
-    }
-
-    /// After a stop nothing is in force.
-    fn stop(self) -> Core
-        ensures { result ≡ record { ifaces = self.ifaces; stopped = true } }
-    {
-        let Core {
-            alloc,
-            ifaces,
-            stopped: _,
-            wanted: _,
-        } = self;
-        Core {
-            alloc,
-            ifaces,
-            stopped: true,
-            wanted: BTreeSet::new(alloc),
-        }
+    if changed {
+        wanted(alloc, ifaces)
+    } else {
+        Ok(before)
     }
 }
 
-/// One step: an input is handled. After a stop every input counts as quiet.
-pub fn step(core: Core, event: Event) -> Result<Core, NoMemory>
-    ensures { IfOk result (λ next. next ≡ stepped event core) }
+/// One turn: what comes of it, and what the outside is asked.
+pub fn step(core: Core, turn: Turn<'_>) -> Result<(Core, Outs), NoMemory>
+    requires { turn.at < 10 ^ 15 }
+    ensures steps { IfOk result (λ done. Steps (client_turned (turn_of turn.entry) core) done.0 (sends_in done.1)) }
+    ensures on_interfaces { IfOk result (λ done. AreOnInterfaces (sends_in done.1)) }
 {
-    if core.stopped {
-        return Ok(core);
-    }
-    match event {
-        Event::Carrier { iface, up } => core.carrier(iface, up),
-        Event::Stop => Ok(core.stop()),
-        Event::Frame { .. } => Ok(core),
-        Event::Duplicate { .. } => Ok(core),
-        Event::Release { .. } => Ok(core),
-        Event::Rebind { .. } => Ok(core),
-        Event::Quiet => Ok(core),
-        Event::End => Ok(core),
-    }
+    let Core {
+        alloc,
+        own,
+        mut ifaces,
+        wanted,
+    } = core;
+    let mut outs = Outs::new(alloc);
+    let changed = turn_ifaces(&mut ifaces, &turn, &own, &mut outs)?;
+    let wanted = renewed(alloc, wanted, &ifaces, changed)?;
+    let core = Core {
+        alloc,
+        own,
+        ifaces,
+        wanted,
+    };
+    Ok((core, outs))
 }
 
 /// The rows that the host is to hold on the managed interfaces.
@@ -158,4 +122,26 @@ pub fn rows(core: &Core) -> &BTreeSet<HostRow>
     ensures fit { AllByRecursion IsRow result.now.keys }
 {
     &core.wanted
+}
+
+/// The earlier of two moments, where there are any.
+pub fn earlier_of(a: Option<u64>, b: Option<u64>) -> Option<u64>
+    ensures { result ≡ earlier a b }
+{
+    match (a, b) {
+        (Some(a), Some(b)) => Some(a.min(b)),
+        (Some(a), None) => Some(a),
+        (None, b) => b,
+    }
+}
+
+/// The next moment at which a machine is due.
+pub fn core_due(core: &Core) -> Option<u64>
+    ensures { result ≡ client_due core.now.ifaces }
+{
+    let mut due = None;
+    for f in &core.ifaces {
+        due = earlier_of(due, iface_due(f));
+    }
+    due
 }

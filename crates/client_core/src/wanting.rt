@@ -1,10 +1,10 @@
 ghost use Rattle.std.specs.Prelude.{◌≡◌, ◌++◌, Bool, IfOk, OnOk, flat_map, length, filter, not};
 ghost use Rattle.std.specs.List.{list_any};
 ghost use Rattle.world.specs.RowOrder.{in_row_order};
-ghost use Rattle.client_model.specs.StaticRows.{same_net, same_target, goes_before, outranks, is_kept, iface_rows, wanted_rows};
+ghost use Rattle.client_model.specs.WantedRows.{same_net, same_target, goes_before, outranks, is_kept, iface_rows, wanted_rows};
 ghost use Rattle.client_model.specs.Fitting.{AreIfaces};
 
-use crate::static_rows::push_iface;
+use crate::address_rows::push_iface;
 use client_model::Iface;
 use net_types::Net;
 use std::alloc::{AllocError, Global};
@@ -48,7 +48,7 @@ fn is_before(a: HostRow, b: HostRow) -> bool
     i < j || (i == j && a.cmp(&b).is_lt())
 }
 
-#[tactic(auto, unfolding(client_model::specs::StaticRows::outranks))]
+#[tactic(auto, unfolding(client_model::specs::WantedRows::outranks))]
 fn is_outranked(row: HostRow, other: HostRow) -> bool
     ensures { result ≡ outranks other row }
 {
@@ -73,7 +73,7 @@ fn all_rows(alloc: Global, ifaces: &[Iface]) -> Result<Vec<HostRow>, AllocError>
 {
     let mut rows = Vec::new(alloc);
     for f in ifaces {
-        push_iface(&mut rows, *f)?;
+        push_iface(&mut rows, f)?;
     }
     Ok(rows)
 }

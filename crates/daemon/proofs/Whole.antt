@@ -67,7 +67,7 @@ pub serves : (managed : List Managed) (sends failing : Option (List ℕ)) (here 
     → written ≡ text → WritesBytes out out_one written
     → EndsThere managed here life host_mid link_mid out_one last out_two
     → WritesLines out_two out_three (closing_lines last)
-    → Served managed sends failing host link store_failing store out out_three
+    → Served managed (failing_of sends failing) host link store_failing store out out_three
 serves managed sends failing here host host_mid link link_mid store_failing store begin life last text_old text written out out_one out_two out_three same starts empty made text_is wrote ends closes =
     let life_is : life ≡ opened_life managed made.met = made.after in
     let mets : List Met = ends.mets in

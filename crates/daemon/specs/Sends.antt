@@ -1,9 +1,7 @@
 -- What became of the frames of a turn.
 use Rattle.std.specs.Prelude.{ℕ, ◌≡◌, ◌+◌, Bool, not, List, map, Option, Some, None, option_map}
-use Rattle.std.specs.List.{AllByRecursion}
 use Rattle.world.specs.Causes.{has_number}
 use Rattle.world.specs.LinkCalls.{LinkTold, offered}
-use Rattle.world.specs.Rows.{IsInterface}
 use Rattle.client_model.specs.Clients.{Sending}
 use Rattle.client_model.specs.Sends.{AnswersSends, offered_all, sends_taken}
 use Rattle.iface_core.specs.Outcomes.{sending_of}
@@ -14,9 +12,6 @@ sendings_of sent = map (λ s. sending_of s.sending) sent
 
 abbrev pub taken_of : List Sent → List Bool
 taken_of sent = map (λ s. s.taken) sent
-
-abbrev pub AreOnInterfaces : List Sent → Type 0
-AreOnInterfaces sent = AllByRecursion (λ s. IsInterface s.sending.iface.number) sent
 
 -- where it is told which sends fail, whether the next one is taken
 abbrev pub TakesNext : Option (List ℕ) → Option LinkTold → Bool → Type 0

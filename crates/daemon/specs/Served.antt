@@ -9,7 +9,7 @@ use Rattle.client_model.specs.Turns.{Met}
 use Rattle.client_model.specs.Lives.{AllAnswered, life_lines}
 use Rattle.client_model.specs.ToldDevices.{Failing, told_opening, told_turns}
 use Rattle.lease_file.specs.Quiet.{IsQuiet}
-use Rattle.daemon.specs.Serving.{WritesLines, failing_of, told_by}
+use Rattle.daemon.specs.Serving.{WritesLines, told_by}
 
 -- the opening is the one that devices which tell foretold, over a store without files
 abbrev pub OpensForetold : List Managed → Option Failing → Option HostTold → Option LinkTold → OpeningMet → List Met → Type 0
@@ -21,11 +21,11 @@ OpensForetold managed (Some failing) (Some host) (Some link) opening mets =
     × (told_turns managed failing (opened_life managed opening) (told_by link (told_opening managed failing.host link.begin host).told) link.coming ≡ mets)
 
 -- a life was lived to its end, and its lines were written
-pub record Served (managed : List Managed) (failing_sends failing_host : Option (List ℕ)) (host : Option HostTold) (link : Option LinkTold)
+pub record Served (managed : List Managed) (failing : Option Failing) (host : Option HostTold) (link : Option LinkTold)
     (store_failing : Option (List ℕ)) (store : Option StoreTold) (out_from out_to : Option (List ℕ)) : Type 0 where
   pub opening : OpeningMet
   pub mets : List Met
   pub opens : Opens managed opening
   pub answers : AllAnswered managed (opened_life managed opening) mets
   pub written : WritesLines out_from out_to (life_lines managed opening mets)
-  pub foretold : IsQuiet store_failing store → OpensForetold managed (failing_of failing_sends failing_host) host link opening mets
+  pub foretold : IsQuiet store_failing store → OpensForetold managed failing host link opening mets

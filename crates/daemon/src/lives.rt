@@ -3,7 +3,7 @@ ghost use Rattle.client_model.specs.Clients.{earlier};
 ghost use Rattle.client_model.specs.Turns.{capped, stop_after, retry_at, end_at, is_past, until, is_over};
 ghost use Rattle.daemon.specs.Lives.{life_of, IsBelowEnd, IsTimely, retry_unless};
 
-use client_core::{Core, core_due};
+use client_core::{Core, core_due, earlier_of};
 use std::collections::BTreeSet;
 use world::{Event, HostRow};
 
@@ -78,16 +78,6 @@ fn last_moment(stop: Option<u64>) -> Option<u64>
     match stop {
         None => None,
         Some(at) => Some(at + GRACE),
-    }
-}
-
-fn earlier_of(a: Option<u64>, b: Option<u64>) -> Option<u64>
-    ensures { result ≡ earlier a b }
-{
-    match (a, b) {
-        (None, b) => b,
-        (Some(a), None) => Some(a),
-        (Some(a), Some(b)) => Some(a.min(b)),
     }
 }
 

@@ -97,7 +97,7 @@ fn live_on<O: Sink, L: Link, S: Store, H: Host, K: Hooks>(
     turns: u64,
 ) -> Result<(), ServeEnd>
     requires { AreManaged managed.now }
-    ensures ok { IfOk result (λ _. Served managed.now (L.failing_sends live.old.link) (H.failing live.old.host) (H.told live.old.host) (L.told live.old.link) (S.failing live.old.store) (S.told live.old.store) (O.written out.old) (O.written out.new)) }
+    ensures ok { IfOk result (λ _. Served managed.now (failing_of (L.failing_sends live.old.link) (H.failing live.old.host)) (H.told live.old.host) (L.told live.old.link) (S.failing live.old.store) (S.told live.old.store) (O.written out.old) (O.written out.new)) }
     ensures later { IfOk result (λ _. (O.faults out.old ≤ O.faults out.new) × (L.faults live.old.link ≤ L.faults live.new.link)) }
     ensures cause { IfErr result (λ end. HasLifeCause end (O.faults out.old) (O.faults out.new) (L.faults live.old.link) (L.faults live.new.link)) }
     ensures foretold { L.failing_waits live.old.link ≡ Some [] → result ≢ Err ServeEnd.LinkFault }
@@ -128,7 +128,7 @@ pub fn serve<O: Sink, L: Link, S: Store, H: Host, K: Hooks>(
     turns: u64,
 ) -> ServeEnd
     requires { AreManaged managed.now }
-    ensures served { result ≡ ServeEnd.End → Served managed.now (L.failing_sends live.old.link) (H.failing live.old.host) (H.told live.old.host) (L.told live.old.link) (S.failing live.old.store) (S.told live.old.store) (O.written out.old) (O.written out.new) }
+    ensures served { result ≡ ServeEnd.End → Served managed.now (failing_of (L.failing_sends live.old.link) (H.failing live.old.host)) (H.told live.old.host) (L.told live.old.link) (S.failing live.old.store) (S.told live.old.store) (O.written out.old) (O.written out.new) }
     ensures cause { HasEndCause result (O.faults out.old) (O.faults out.new) (L.faults live.old.link) (L.faults live.new.link) }
     ensures foretold { L.failing_waits live.old.link ≡ Some [] → result ≢ ServeEnd.LinkFault }
     ensures many { IfSome (L.failing_sends live.old.link) (λ _. H.failing live.old.host ≡ Some []) → result ≡ ServeEnd.TurnsOver → IfSome (H.told live.old.host) (λ _. IfSome (L.told live.old.link) (λ link. turns ≤ length link.coming)) }

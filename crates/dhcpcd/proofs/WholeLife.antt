@@ -38,13 +38,13 @@ same_lines managed sends host link met mets opens turns =
 
 pub lived : (managed : List Managed) (script : ScriptLines) (host : HostState) (link : LinkState) (store : StoreState) (old new : Option (List ℕ))
     → host ≡ host_of script.rows → link ≡ link_of script.life script.fails → store ≡ empty_store
-    → Served managed (Some link.failing_sends) (Some host.failing) (Some host.told) (Some link.told) (Some store.failing) (Some store.told) old new → WritesLines old new (life_of_script managed script)
+    → Served managed (Some (record { sends = link.failing_sends; host = host.failing })) (Some host.told) (Some link.told) (Some store.failing) (Some store.told) old new → WritesLines old new (life_of_script managed script)
 unfolding life_of_script
 lived managed script host link store old new at_first begins empty served =
-    let over_host = subst (λ (h : HostState). Served managed (Some link.failing_sends) (Some h.failing) (Some h.told) (Some link.told) (Some store.failing) (Some store.told) old new) at_first served in
-    let over_link = subst (λ (l : LinkState). Served managed (Some l.failing_sends) (Some []) (Some (host_of script.rows).told) (Some l.told) (Some store.failing) (Some store.told) old new) begins over_host in
+    let over_host = subst (λ (h : HostState). Served managed (Some (record { sends = link.failing_sends; host = h.failing })) (Some h.told) (Some link.told) (Some store.failing) (Some store.told) old new) at_first served in
+    let over_link = subst (λ (l : LinkState). Served managed (Some (record { sends = l.failing_sends; host = [] })) (Some (host_of script.rows).told) (Some l.told) (Some store.failing) (Some store.told) old new) begins over_host in
     let here = link_of script.life script.fails in
-    let over_store = subst (λ (s : StoreState). Served managed (Some here.failing_sends) (Some []) (Some (host_of script.rows).told) (Some here.told) (Some s.failing) (Some s.told) old new) empty over_link in
+    let over_store = subst (λ (s : StoreState). Served managed (Some (record { sends = here.failing_sends; host = [] })) (Some (host_of script.rows).told) (Some here.told) (Some s.failing) (Some s.told) old new) empty over_link in
     let told = over_store.foretold (record { unfailing = refl; empty = refl }) in
     subst (λ (l : List Line). WritesLines old new l) (same_lines managed here.failing_sends (host_of script.rows).told here.told over_store.opening over_store.mets told.0 told.1) over_store.written
 

@@ -64,7 +64,7 @@ row_in iface (Chosen conflicts acd) at salt h =
     (subst IsChoice (sym (addr-tick acd at salt)) h)
 row_in iface (Waiting conflicts due) at salt h = record { chosen = choice_in_range iface conflicts salt; said = tt }
 
-step_in : (own : List Mac) (iface : IfIndex) (state : State) (event : LlEvent) → InState state
+pub step_in : (own : List Mac) (iface : IfIndex) (state : State) (event : LlEvent) → InState state
     → StepChooses (ll_step own (record { iface = iface; state = state }) event)
 step_in own iface Off (Arm at due waits_lease probes) h = record { chosen = tt; said = tt }
 step_in own iface (Armed due' waits probing) (Arm at due waits_lease probes) h = record { chosen = tt; said = tt }

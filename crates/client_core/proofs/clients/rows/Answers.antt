@@ -6,4 +6,4 @@ use Rattle.client_core.proofs.RowsFit.{rows_fit}
 use Rattle.client_core.proofs.clients.rows.Goals as goal
 
 pub returns-clause-fit : goal.returns-clause-fit
-returns-clause-fit c = subst (λ (rows : List HostRow). AllByRecursion IsRow rows) (sym c.core.invariant.1) (rows_fit (record { ifaces = c.core.inside.ifaces.items; stopped = c.core.inside.stopped }) c.core.invariant.0)
+returns-clause-fit c = subst (λ (rows : List HostRow). AllByRecursion IsRow rows) (sym c.core.invariant.1) (rows_fit c.core.inside.ifaces.items c.core.invariant.0)

@@ -1,6 +1,6 @@
 use Rattle.std.proofs.Common.{◌≡◌, take}
 use Rattle.std.specs.Prelude.{flat_map}
-use Rattle.client_model.specs.StaticRows.{iface_rows}
+use Rattle.client_model.specs.WantedRows.{iface_rows}
 use Rattle.client_core.proofs.wanting.all_rows.Given as goal
 
 abbrev pub invariant-loop-f : goal.invariant-loop-f

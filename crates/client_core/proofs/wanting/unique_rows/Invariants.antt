@@ -1,7 +1,7 @@
 use Rattle.std.proofs.Common.{◌≡◌, take}
 use Rattle.std.specs.Prelude.{filter}
 use Rattle.world.specs.RowOrder.{in_row_order}
-use Rattle.client_model.specs.StaticRows.{is_kept}
+use Rattle.client_model.specs.WantedRows.{is_kept}
 use Rattle.client_core.proofs.wanting.unique_rows.Given as goal
 
 abbrev pub invariant-loop-row : goal.invariant-loop-row

@@ -1,7 +1,9 @@
-ghost use Rattle.std.specs.Prelude.{◌≡◌, ◌+◌, ◌≤◌, ◌++◌, map, IfOk, OnOk, OnErr};
-ghost use Rattle.client_model.specs.StaticRows.{span, network_of, is_within, metric_of, network_routes, gateway_routes, router_routes, line_rows, iface_rows};
+ghost use Rattle.std.specs.Prelude.{◌≡◌, ◌≤◌, ◌++◌, OnOk};
+ghost use Rattle.client_model.specs.WantedRows.{span, network_of, is_within, metric_of, network_routes, gateway_routes, router_routes, address_rows, line_rows, static_rows, local_rows, iface_rows};
 
+use crate::turning::is_in_force;
 use client_model::{Iface, StaticLine};
+use iface_core::iface_held;
 use net_types::{IfIndex, Ip4, Net, Net4};
 use std::alloc::AllocError;
 use world::{HostRow, Via};
@@ -11,6 +13,9 @@ const METRIC_BASE: u32 = 1000;
 
 /// The length of an IPv4 address in bits.
 const WIDTH: u8 = 32;
+
+/// The length of the link-local network, 169.254/16 (RFC 3927, section 2.1).
+const LOCAL_LEN: u8 = 16;
 
 /// How many addresses a network of this prefix length has.
 fn addresses_of(len: u8) -> u64
@@ -115,25 +120,71 @@ fn push_router(
     }
 }
 
+/// An address with its network.
+fn push_address(rows: &mut Vec<HostRow>, iface: IfIndex, net: Net4) -> Result<(), AllocError>
+    requires { iface.number ≤ 64 }
+    ensures { OnOk result (rows.new.items ≡ rows.old.items ++ address_rows iface net) }
+{
+    rows.push(HostRow::Addr {
+        iface,
+        net: Net::V4(net),
+    })?;
+    push_network(rows, iface, net)
+}
+
 fn push_line(rows: &mut Vec<HostRow>, iface: IfIndex, line: StaticLine) -> Result<(), AllocError>
     requires { iface.number ≤ 64 }
     ensures { OnOk result (rows.new.items ≡ rows.old.items ++ line_rows iface line) }
 {
-    rows.push(HostRow::Addr {
-        iface,
-        net: Net::V4(line.address),
-    })?;
-    push_network(rows, iface, line.address)?;
+    push_address(rows, iface, line.address)?;
     push_router(rows, iface, line.address, line.router)
 }
 
-/// Appends the rows that an interface brings: static lines are in force while its carrier is up.
-pub fn push_iface(rows: &mut Vec<HostRow>, f: Iface) -> Result<(), AllocError>
-    requires { f.managed.spec.index.number ≤ 64 }
-    ensures { OnOk result (rows.new.items ≡ rows.old.items ++ iface_rows f) }
+/// Static lines are in force while the carrier is up and no stop came.
+fn push_static(
+    rows: &mut Vec<HostRow>,
+    iface: IfIndex,
+    in_force: bool,
+    line: Option<StaticLine>,
+) -> Result<(), AllocError>
+    requires { iface.number ≤ 64 }
+    ensures { OnOk result (rows.new.items ≡ rows.old.items ++ static_rows iface in_force line) }
 {
-    if f.up {
-        push_line(rows, f.managed.spec.index, f.managed.line)?;
+    match line {
+        Some(line) if in_force => push_line(rows, iface, line),
+        Some(_) => Ok(()),
+        None => Ok(()),
     }
-    Ok(())
+}
+
+/// The rows of a link-local address.
+fn push_local(
+    rows: &mut Vec<HostRow>,
+    iface: IfIndex,
+    local: Option<Ip4>,
+) -> Result<(), AllocError>
+    requires { iface.number ≤ 64 }
+    ensures { OnOk result (rows.new.items ≡ rows.old.items ++ local_rows iface local) }
+{
+    match local {
+        None => Ok(()),
+        Some(ip) => push_address(
+            rows,
+            iface,
+            Net4 {
+                ip,
+                len: LOCAL_LEN,
+            },
+        ),
+    }
+}
+
+/// Appends the rows that the addresses of an interface bring.
+pub fn push_iface(rows: &mut Vec<HostRow>, f: &Iface) -> Result<(), AllocError>
+    requires { f.now.managed.spec.index.number ≤ 64 }
+    ensures { OnOk result (rows.new.items ≡ rows.old.items ++ iface_rows f.now) }
+{
+    let index = f.managed.spec.index;
+    push_static(rows, index, is_in_force(f), f.managed.conf.line)?;
+    push_local(rows, index, iface_held(f))
 }
