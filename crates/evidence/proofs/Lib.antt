@@ -8,3 +8,4 @@ pub mod Rows
 pub mod Counting
 pub mod HostRests
 pub mod Numbered
+pub mod Foretold

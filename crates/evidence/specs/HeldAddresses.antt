@@ -1,6 +1,6 @@
 -- That the addresses which the host holds have their basis, in a life over devices that tell what they hold and which of
 -- their calls fail.
-use Rattle.std.specs.Prelude.{◌≡◌, true, List, [], ◌∷◌, ◌++◌}
+use Rattle.std.specs.Prelude.{◌≡◌, ◌<◌, true, List, [], ◌∷◌, ◌++◌, length}
 use Rattle.net_types.specs.declared.address.Net.{Net}
 use Rattle.net_types.specs.declared.interface.IfIndex.{IfIndex}
 use Rattle.world.specs.declared.rows.HostRow.{HostRow}
@@ -13,9 +13,9 @@ use Rattle.client_model.specs.declared.interfaces.Managed.{Managed}
 use Rattle.client_model.specs.Clients.{is_managed, rows_of}
 use Rattle.client_model.specs.Turns.{Met}
 use Rattle.client_model.specs.Opening.{OpeningMet}
-use Rattle.client_model.specs.ToldDevices.{Failing, told_turn, told_opening}
+use Rattle.client_model.specs.ToldDevices.{Failing, told_turn, told_turns, told_opening}
 use Rattle.client_model.specs.HostTable.{InRowOrder, NoneFails, unknown_table}
-use Rattle.client_model.specs.HostInLife.{Running, running_opened, running_turned, life_run, table_of}
+use Rattle.client_model.specs.HostInLife.{Running, running_opened, running_turned, running_after, life_run, table_of}
 use Rattle.evidence.specs.Laws.{AreNumbered, HasBasis}
 
 -- what the turns of a life meet
@@ -45,3 +45,11 @@ TurnsRest = (managed : List Managed) (failing : Failing) (begin : Begin) (host :
     NoneFails managed failing.host (rows_of after.life.client) (table_of before)
     → RestOnEvidence managed (told_opening managed failing.host begin host).answer
     (mets_of managed failing (running_opened managed failing begin host) (earlier ++ given ∷ [])) after.told.host.rows
+
+-- What the devices foretell is what these turns meet, as far as the life goes on, and then the turns to come.
+abbrev pub ForetoldAreMet : Type 0
+ForetoldAreMet = (managed : List Managed) (failing : Failing) (running : Running) (earlier : List Given) (given : Given) (coming : List Given)
+    → length earlier < length (told_turns managed failing running.life running.told (earlier ++ given ∷ coming))
+    → let after = running_after managed failing (earlier ++ given ∷ []) running in
+    told_turns managed failing running.life running.told (earlier ++ given ∷ coming)
+    ≡ mets_of managed failing running (earlier ++ given ∷ []) ++ told_turns managed failing after.life after.told coming

@@ -5,7 +5,7 @@ ghost use Rattle.client_model.specs.Clients.{rows_of};
 ghost use Rattle.client_model.specs.Turns.{life_after};
 ghost use Rattle.client_model.specs.Opening.{opened_life};
 ghost use Rattle.client_model.specs.Lives.{AllAnswered};
-ghost use Rattle.evidence.specs.HeldAddresses.{OpeningRests, TurnsRest};
+ghost use Rattle.evidence.specs.HeldAddresses.{ForetoldAreMet, OpeningRests, TurnsRest};
 ghost use Rattle.evidence.specs.Laws.{AddressesHaveBasis, CountedAreNumbered, NeedsThreeProbes, shown_of, site_of};
 ghost use Rattle.evidence.specs.LinkLocalBasis.{LinkLocalBasis};
 ghost use Rattle.evidence.specs.SevenTurns.{chosen_net, interface, opens, seven_shown, seven_turns};
@@ -17,10 +17,12 @@ pub fn addresses_have_a_basis()
 {}
 
 /// Law: over devices that tell what they hold and which of their calls fail, after an opening and after every turn in which
-/// no host call failed, each address that the host holds on a managed interface has its basis in the same life.
+/// no host call failed, each address that the host holds on a managed interface has its basis in the same life. The turns
+/// are those that the devices foretell.
 pub fn held_addresses_have_a_basis()
     ensures opening { OpeningRests }
     ensures turns { TurnsRest }
+    ensures foretold { ForetoldAreMet }
 {}
 
 /// Law: interfaces that count from 1, as those of a script do, have unlike numbers.
