@@ -4,10 +4,8 @@ use Rattle.std.specs.Prelude.{filter, flat_map, nat_lt}
 use Rattle.std.specs.List.{AllByRecursion, Contains}
 use Rattle.std.proofs.lemmas.List.Folds.{list_any-append}
 use Rattle.std.proofs.lemmas.List.Elements.{All-contains_itself, recursion_from_All}
-use Rattle.std.specs.declared.cmp.Ordering.{Ordering}
-use Rattle.std.specs.declared.cmp.Ordering.TheVariants.{Less, Equal, Greater}
-use Rattle.std.specs.Ordering.{is_eq}
 use Rattle.std.specs.BTreeMap.{is_at}
+use Rattle.std.specs.Cmp.{Equal-is}
 use Rattle.net_types.specs.declared.address.Ip4.{Ip4}
 use Rattle.net_types.specs.declared.address.Net4.{Net4}
 use Rattle.net_types.specs.declared.address.Net.{Net}
@@ -49,11 +47,6 @@ use Rattle.evidence.proofs.Turns.{KeptOne, KeptAfter, turns_kept, own_stays, ope
 either : (a b : Bool) → (a || b) ≡ true → (a ≡ true) ⊎ (b ≡ true)
 either true b e = inl refl
 either false b e = inr e
-
-equal_if : (r : Ordering) → is_eq r ≡ true → r ≡ Equal
-equal_if Less e = cc
-equal_if Equal e = refl
-equal_if Greater e = cc
 
 -- ---- what the wanted rows have, some interface gives
 
@@ -98,7 +91,7 @@ module _ (index : IfIndex) (net : Net) where
   of_address : (iface : IfIndex) (address : Net4) → has_row (address_rows iface address) (Addr index net) ≡ true → Addr index net ≡ Addr iface (Family.V4 address)
   of_address iface address has =
       row_cmp_exact (Addr index net) (Addr iface (Family.V4 address))
-      (equal_if _ (or_none _ _ (no_network (nat_lt address.len 32) iface (Family.V4 (network_of address)) (metric_of iface)) has))
+      ((Equal-is (row_cmp (Addr index net) (Addr iface (Family.V4 address)))).0 (or_none _ _ (no_network (nat_lt address.len 32) iface (Family.V4 (network_of address)) (metric_of iface)) has))
 
   -- ---- the basis
 

@@ -120,11 +120,10 @@ module _ (site : Site) (clean : Type 0) (e : Entry) (past : List Entry) (salt : 
       apart : (last at : ℕ) → nat_le 10000 (at - last) ≡ true → last + 10000 ≤ at
       apart last at h = grind (arith, nat_tests)
 
-  held_hears : (iface i : IfIndex) (conflicts : ℕ) (addr : Ip4) (phase : Phase) (said : List ArpSay) (last : Option ℕ) (defended : Phase) (arp : ArpView)
-      → IsChoice addr → Amid site addr clean e said past (Held last) → StaysOn site e
-      → arp_on (index_at site) e.event e.bytes ≡ Some arp → is_used site.own addr arp ≡ false
-      → Offered site.managed.spec clean (said ++ []) e.offers → HeldSince site addr last (e ∷ past)
-  held_hears iface i conflicts addr phase said last defended arp r m stays heard none h =
+  held_hears : (addr : Ip4) (said : List ArpSay) (last : Option ℕ) (arp : ArpView) → IsChoice addr
+      → Amid site addr clean e said past (Held last) → StaysOn site e → arp_on (index_at site) e.event e.bytes ≡ Some arp
+      → is_used site.own addr arp ≡ false → Offered site.managed.spec clean (said ++ []) e.offers → HeldSince site addr last (e ∷ past)
+  held_hears addr said last arp r m stays heard none h =
       unused site addr last e past m.1 stays (is_alone site addr clean e (said ++ []) r (all_join _ said [] m.0 tt) h)
       (ap (tells_use site.own addr) heard ∙ none)
 
@@ -138,11 +137,11 @@ module _ (site : Site) (clean : Type 0) (e : Entry) (past : List Entry) (salt : 
   heard_chosen iface i conflicts addr (Announcing due last) said arp r m stays heard =
       split (is_used site.own addr arp)
       (λ in_use. rw in_use (used_bears iface i conflicts addr (Announcing due last) said last (Announcing due (Some e.moment)) r m stays (λ h. h)))
-      (λ none. rw none (λ h. (r, held_hears iface i conflicts addr (Held last) said last (Held last) arp r m stays heard none h)))
+      (λ none. rw none (λ h. (r, held_hears addr said last arp r m stays heard none h)))
   heard_chosen iface i conflicts addr (Held last) said arp r m stays heard =
       split (is_used site.own addr arp)
       (λ in_use. rw in_use (used_bears iface i conflicts addr (Held last) said last (Held (Some e.moment)) r m stays (λ h. h)))
-      (λ none. rw none (λ h. (r, held_hears iface i conflicts addr (Held last) said last (Held last) arp r m stays heard none h)))
+      (λ none. rw none (λ h. (r, held_hears addr said last arp r m stays heard none h)))
   heard_chosen iface i conflicts addr Over said arp r m stays heard = λ h. (r, tt)
 
   pub heard_bears : (iface : IfIndex) (state : State) (said : List ArpSay) (arp : ArpView) → BearsAmid site clean e said past state
