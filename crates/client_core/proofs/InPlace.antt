@@ -1,9 +1,8 @@
 -- A loop over interfaces that lets each go on in its place.
-use Rattle.std.proofs.Common.{ℕ, ◌≡◌, ◌+◌, ◌<◌, Bool, true, false, ◌||◌, List, [], ◌∷◌, ◌++◌, zero, suc, length, get_or, set, take, drop, refl, sym, ap, ◌∙◌, subst, append_assoc, arith}
+use Rattle.std.proofs.Common.{ℕ, ◌≡◌, ◌+◌, ◌<◌, Bool, true, false, ◌||◌, List, [], ◌∷◌, ◌++◌, zero, suc, length, get_or, set, take, drop, refl, sym, ap, ◌∙◌, arith}
 use Rattle.std.specs.Prelude.{map, flat_map}
 use Rattle.std.proofs.lemmas.List.{take_more, map-append, get_or_default, flat_map_more}
 use Rattle.std.proofs.lemmas.List.Edits.{map_over_more}
-use Rattle.std.proofs.lemmas.Grind.{flat_map-append}
 use Rattle.world.specs.declared.rows.HostRow.{HostRow}
 use Rattle.client_model.specs.declared.interfaces.Iface.{Iface}
 use Rattle.client_model.specs.Clients.{Sending}
@@ -52,7 +51,7 @@ same_more go rows xs ys i d new false here gone goes so_far same none =
     let lt : i < length xs = gone.at in
     let x : Iface = get_or xs i d in
     let alike : rows (go x) ≡ rows x =
-        ap (λ (f : Iface). rows (go f)) (sym (next_of go xs ys i d gone)) ∙ ap rows (sym goes) ∙ same none ∙ ap rows (next_of go xs ys i d gone) in
+    ap (λ (f : Iface). rows (go f)) (sym (next_of go xs ys i d gone)) ∙ ap rows (sym goes) ∙ same none ∙ ap rows (next_of go xs ys i d gone) in
     ap (λ (zs : List Iface). flat_map rows (map go zs)) (take_more xs i d lt)
     ∙ ap (flat_map rows) (map-append go (take i xs) (x ∷ []))
     ∙ flat_end rows (map go (take i xs)) (go x)

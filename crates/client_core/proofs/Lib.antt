@@ -3,4 +3,3 @@ pub mod Order
 pub mod RowsFit
 pub mod SameRows
 pub mod InPlace
-pub mod SendsFit

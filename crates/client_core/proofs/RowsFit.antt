@@ -1,5 +1,5 @@
 -- The rows that interfaces bring are rows that a host takes.
-use Rattle.std.proofs.Common.{ℕ, ◌+◌, ◌-◌, ◌*◌, ◌/◌, ◌%◌, ◌^◌, ◌<◌, ◌≤◌, Bool, true, false, cond, List, [], ◌∷◌, ◌++◌, ◌≡◌, Option, Some, None, refl, ap, ◌∙◌, arith}
+use Rattle.std.proofs.Common.{ℕ, ◌+◌, ◌-◌, ◌*◌, ◌/◌, ◌%◌, ◌^◌, ◌<◌, ◌≤◌, Bool, true, false, cond, List, [], ◌∷◌, ◌≡◌, Option, Some, None, refl, ap, ◌∙◌, arith}
 use Rattle.std.specs.Prelude.{IfSome, not, ◌&&◌, filter, flat_map, nat_lt}
 use Rattle.std.specs.List.{AllByRecursion}
 use Rattle.std.specs.declared.cmp.Ordering.{Ordering}
@@ -26,8 +26,9 @@ use Rattle.ipv4ll.specs.Laws.{chosen_address}
 use Rattle.ipv4ll.specs.Table.{held_in}
 use Rattle.client_model.specs.declared.interfaces.Iface.{Iface}
 use Rattle.client_model.specs.declared.interfaces.StaticLine.{StaticLine}
-use Rattle.client_model.specs.WantedRows.{network_of, is_within, metric_of, is_kept, network_routes, router_routes, address_rows, static_rows, local_net, local_rows, iface_rows, wanted_rows}
+use Rattle.client_model.specs.WantedRows.{network_of, is_within, metric_of, is_kept, router_routes, address_rows, static_rows, local_net, local_rows, iface_rows, wanted_rows}
 use Rattle.client_model.specs.Fitting.{FitsLine, FitsManaged, FitsIface, AreIfaces}
+use Rattle.client_core.proofs.Fit.{both_fit}
 
 -- ---- one interface
 
@@ -36,10 +37,6 @@ no_remainder n k =
     let whole : n / 2 ^ k * 2 ^ k + n % 2 ^ k ≡ n = div-add-mod' n (2 ^ k) in
     let same : n - n % 2 ^ k ≡ n / 2 ^ k * 2 ^ k + 0 = omega arith in
     ap (λ m. m % 2 ^ k) same ∙ mod-mul-add (n / 2 ^ k) (2 ^ k) 0 (pow_pos k)
-
-both_fit : (xs ys : List HostRow) → AllByRecursion IsRow xs → AllByRecursion IsRow ys → AllByRecursion IsRow (xs ++ ys)
-both_fit [] ys fit more = more
-both_fit (x ∷ xs) ys fit more = (fit.0, both_fit xs ys fit.1 more)
 
 network_is_row : (iface : IfIndex) (net : Net4) → IsInterface iface.number → FitsNet4 net → IsRow (Route iface (Family.V4 (network_of net)) OnLink (metric_of iface))
 network_is_row iface net index fits =
@@ -66,8 +63,8 @@ static_fits : (iface : IfIndex) (in_force : Bool) (line : Option StaticLine) →
 static_fits iface false line index fits = tt
 static_fits iface true None index fits = tt
 static_fits iface true (Some line) index fits =
-    both_fit (address_rows iface line.address) (router_routes iface line.address line.router)
-        (address_fits iface line.address index fits.address) (router_fits iface line.address line.router index fits.router)
+    both_fit IsRow (address_rows iface line.address) (router_routes iface line.address line.router)
+    (address_fits iface line.address index fits.address) (router_fits iface line.address line.router index fits.router)
 
 choice_fits : (ip : Ip4) → IsChoice ip → FitsNet4 (local_net ip)
 choice_fits ip choice =
@@ -94,15 +91,15 @@ iface_fits : (f : Iface) → FitsIface f → AllByRecursion IsRow (iface_rows f)
 iface_fits f fits =
     let managed : FitsManaged f.managed = fits.managed in
     let iface = f.managed.spec.index in
-    both_fit (static_rows iface (f.up && not f.stopped) f.managed.conf.line) (local_rows iface (held_in f.local.state))
-        (static_fits iface (f.up && not f.stopped) f.managed.conf.line managed.index managed.line)
-        (local_fits iface (held_in f.local.state) managed.index (held_fits f.local.state fits.local))
+    both_fit IsRow (static_rows iface (f.up && not f.stopped) f.managed.conf.line) (local_rows iface (held_in f.local.state))
+    (static_fits iface (f.up && not f.stopped) f.managed.conf.line managed.index managed.line)
+    (local_fits iface (held_in f.local.state) managed.index (held_fits f.local.state fits.local))
 
 -- ---- all of them
 
 all_fit : (ifaces : List Iface) → AreIfaces ifaces → AllByRecursion IsRow (flat_map iface_rows ifaces)
 all_fit [] fits = tt
-all_fit (f ∷ ifaces) fits = both_fit (iface_rows f) (flat_map iface_rows ifaces) (iface_fits f fits.0) (all_fit ifaces fits.1)
+all_fit (f ∷ ifaces) fits = both_fit IsRow (iface_rows f) (flat_map iface_rows ifaces) (iface_fits f fits.0) (all_fit ifaces fits.1)
 
 kept_fit : (b : Bool) (row : HostRow) (rest : List HostRow) → IsRow row → AllByRecursion IsRow rest → AllByRecursion IsRow (cond b (row ∷ rest) rest)
 kept_fit true row rest fit more = (fit, more)

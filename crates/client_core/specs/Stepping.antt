@@ -1,6 +1,5 @@
 -- A turn of the client, and of its interfaces one after another.
 use Rattle.std.specs.Prelude.{◌≡◌, List, ◌++◌, map, flat_map}
-use Rattle.std.specs.List.{AllByRecursion}
 use Rattle.net_types.specs.declared.address.Mac.{Mac}
 use Rattle.world.specs.Rows.{IsInterface}
 use Rattle.client_model.specs.declared.interfaces.Iface.{Iface}
@@ -12,9 +11,8 @@ pub record Steps (step : ClientStep) (client : Client) (sends : List Sending) : 
   pub goes_on : client ≡ step.client
   pub offers : sends ≡ step.sends
 
--- each frame is offered on an interface
-abbrev pub AreOnInterfaces : List Sending → Type 0
-AreOnInterfaces sends = AllByRecursion (λ s. IsInterface s.iface.number) sends
+abbrev pub IsOnInterface : Sending → Type 0
+IsOnInterface sending = IsInterface sending.iface.number
 
 -- how an interface goes on
 abbrev pub goes_on : List Mac → TurnInput → Iface → Iface

@@ -158,24 +158,13 @@ fn push_static(
 }
 
 /// The rows of a link-local address.
-fn push_local(
-    rows: &mut Vec<HostRow>,
-    iface: IfIndex,
-    local: Option<Ip4>,
-) -> Result<(), AllocError>
+fn push_local(rows: &mut Vec<HostRow>, iface: IfIndex, local: Option<Ip4>) -> Result<(), AllocError>
     requires { iface.number ≤ 64 }
     ensures { OnOk result (rows.new.items ≡ rows.old.items ++ local_rows iface local) }
 {
     match local {
         None => Ok(()),
-        Some(ip) => push_address(
-            rows,
-            iface,
-            Net4 {
-                ip,
-                len: LOCAL_LEN,
-            },
-        ),
+        Some(ip) => push_address(rows, iface, Net4 { ip, len: LOCAL_LEN }),
     }
 }
 

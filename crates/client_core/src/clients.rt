@@ -8,7 +8,7 @@ ghost use Rattle.client_model.specs.Clients.{Client, opening, client_turned, cli
 ghost use Rattle.client_model.specs.Turns.{capped};
 ghost use Rattle.iface_core.specs.Inputs.{turn_of};
 ghost use Rattle.iface_core.specs.Outcomes.{sends_in};
-ghost use Rattle.client_core.specs.Stepping.{Steps, AreOnInterfaces};
+ghost use Rattle.client_core.specs.Stepping.{Steps, IsOnInterface};
 
 use crate::turning::turn_ifaces;
 use crate::wanting::wanted;
@@ -96,7 +96,7 @@ fn renewed(
 pub fn step(core: Core, turn: Turn<'_>) -> Result<(Core, Outs), NoMemory>
     requires { turn.at < 10 ^ 15 }
     ensures steps { IfOk result (λ done. Steps (client_turned (turn_of turn.entry) core) done.0 (sends_in done.1)) }
-    ensures on_interfaces { IfOk result (λ done. AreOnInterfaces (sends_in done.1)) }
+    ensures on_interfaces { IfOk result (λ done. AllByRecursion IsOnInterface (sends_in done.1)) }
 {
     let Core {
         alloc,

@@ -1,5 +1,5 @@
 -- A line: what is read is spelled so, and what is spelled so is read.
-use Rattle.std.proofs.Common.{◌≡◌, ℕ, List, [], ◌∷◌, ◌++◌, Bool, true, false, cond, Option, Some, None, option_map, refl, sym, ap, ◌∙◌, subst}
+use Rattle.std.proofs.Common.{◌≡◌, ℕ, List, [], ◌∷◌, ◌++◌, Bool, true, false, cond, Option, Some, None, option_map, refl, sym, ap, subst}
 use Rattle.std.specs.Prelude.{codes, bytes_eq}
 use Rattle.std.specs.List.{AllByRecursion}
 use Rattle.std.proofs.lemmas.Slice.Eq.{bytes_eq-Decides}
@@ -8,7 +8,7 @@ use Rattle.net_types.specs.Marks.{Lacks}
 use Rattle.net_types.specs.Cutting.{split_at_byte}
 use Rattle.net_types.specs.AddressText.{ip4_text, net4_text}
 use Rattle.net_types.specs.NameText.{name_text}
-use Rattle.net_types.proofs.ReadsLaws.{some_same, passed, step, split_whole, split_sound}
+use Rattle.net_types.proofs.ReadsLaws.{some_same, passed, split_whole, split_sound}
 use Rattle.net_types.proofs.ChoiceLaws.{part_sound}
 use Rattle.net_types.proofs.AddressLaws.{ip4_reads, net4_reads}
 use Rattle.net_types.proofs.NameLaws.{name_reads, name_lacks}
@@ -16,7 +16,7 @@ use Rattle.net_types.proofs.MarkLaws.{lacks-append, ip4_lacks, net4_lacks}
 use Rattle.conf_text.specs.declared.conf.ConfLine.{ConfLine}
 use Rattle.conf_text.specs.declared.conf.ConfLine.TheVariants.{NoScript, NoDhcp, NoIpv4ll, Interface, Address, Router}
 use Rattle.conf_text.specs.ConfLines.{conf_line_text, FitsConfLine}
-use Rattle.conf_text.specs.LineAt.{Words, meaning, Readers, read_by, flags, flag_at, scripts, script_at, settings, setting_at, static_at, directives, directive_at, by_first_word, conf_line_at}
+use Rattle.conf_text.specs.LineAt.{Words, meaning, flags, flag_at, scripts, script_at, settings, setting_at, static_at, directives, directive_at, by_first_word, conf_line_at}
 
 -- what holds of each word and its meaning holds of a word that was found
 meant : {A : Type 0} (P : List ℕ → A → Type 0) (words : Words A) (word : List ℕ) (value : A) → AllByRecursion (λ known. P known.0 known.1) words → meaning words word ≡ Some value → P word value

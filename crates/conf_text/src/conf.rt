@@ -2,6 +2,7 @@ ghost use Rattle.std.specs.Prelude.{◌≡◌};
 ghost use Rattle.conf_text.specs.ConfLines.{empty_block, once, block_after, globals_after};
 
 use net_types::{Ip4, Name, Net4};
+use std::mem::replace;
 
 /// A line of the configuration, as dhcpcd.conf(5) has them.
 #[derive(Clone, Copy, Debug, PartialEq, Eq)]
@@ -54,33 +55,16 @@ fn once<T: Copy>(is_said: bool, value: T) -> Option<T>
 
 impl Globals {
     /// With one line more, where it is a global one that wasn't said.
-    pub fn after(self, line: ConfLine) -> Option<Globals>
+    pub fn after(mut self, line: ConfLine) -> Option<Globals>
         ensures { result ≡ globals_after self line }
     {
-        match line {
-            ConfLine::NoScript => once(
-                self.no_script,
-                Globals {
-                    no_script: true,
-                    ..self
-                },
-            ),
-            ConfLine::NoDhcp => once(
-                self.nodhcp,
-                Globals {
-                    nodhcp: true,
-                    ..self
-                },
-            ),
-            ConfLine::NoIpv4ll => once(
-                self.noipv4ll,
-                Globals {
-                    noipv4ll: true,
-                    ..self
-                },
-            ),
-            ConfLine::Interface(_) | ConfLine::Address(_) | ConfLine::Router(_) => None,
-        }
+        let is_said = match line {
+            ConfLine::NoScript => replace(&mut self.no_script, true),
+            ConfLine::NoDhcp => replace(&mut self.nodhcp, true),
+            ConfLine::NoIpv4ll => replace(&mut self.noipv4ll, true),
+            ConfLine::Interface(_) | ConfLine::Address(_) | ConfLine::Router(_) => return None,
+        };
+        once(is_said, self)
     }
 }
 
@@ -99,39 +83,16 @@ impl Block {
     }
 
     /// With one line more, where it is one of a block that wasn't said.
-    pub fn after(self, line: ConfLine) -> Option<Block>
+    pub fn after(mut self, line: ConfLine) -> Option<Block>
         ensures { result ≡ block_after self line }
     {
-        match line {
-            ConfLine::NoDhcp => once(
-                self.nodhcp,
-                Block {
-                    nodhcp: true,
-                    ..self
-                },
-            ),
-            ConfLine::NoIpv4ll => once(
-                self.noipv4ll,
-                Block {
-                    noipv4ll: true,
-                    ..self
-                },
-            ),
-            ConfLine::Address(net) => once(
-                self.address.is_some(),
-                Block {
-                    address: Some(net),
-                    ..self
-                },
-            ),
-            ConfLine::Router(ip) => once(
-                self.router.is_some(),
-                Block {
-                    router: Some(ip),
-                    ..self
-                },
-            ),
-            ConfLine::NoScript | ConfLine::Interface(_) => None,
-        }
+        let is_said = match line {
+            ConfLine::NoDhcp => replace(&mut self.nodhcp, true),
+            ConfLine::NoIpv4ll => replace(&mut self.noipv4ll, true),
+            ConfLine::Address(net) => self.address.replace(net).is_some(),
+            ConfLine::Router(ip) => self.router.replace(ip).is_some(),
+            ConfLine::NoScript | ConfLine::Interface(_) => return None,
+        };
+        once(is_said, self)
     }
 }

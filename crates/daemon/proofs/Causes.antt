@@ -1,5 +1,6 @@
 -- Causes after calls that were done.
-use Rattle.std.proofs.Common.{ℕ, ◌≡◌, ◌≤◌, arith}
+use Rattle.std.proofs.Common.{ℕ, ◌≡◌, ◌≤◌, Result, Ok, Err, IfErr, sym, subst, arith}
+use Rattle.std.specs.Prelude.{IsErrAnd}
 use Rattle.daemon.specs.declared.serving.ServeEnd.{ServeEnd}
 use Rattle.daemon.specs.declared.serving.ServeEnd.TheVariants as ends
 use Rattle.daemon.specs.Serving.{HasServeCause, HasLifeCause}
@@ -24,3 +25,8 @@ not_turns_over ends.TurnsOver a b p q h e = h
 not_turns_over ends.LinkFault a b p q h e = absurd cc
 not_turns_over ends.WriteFault a b p q h e = absurd cc
 not_turns_over ends.NoMemory a b p q h e = absurd cc
+
+-- what holds of the error that `?` hands on
+pub error_is : {A E : Type 0} (r : Result A E) (error : E) (P : E → Type 0) → IsErrAnd r (λ e. e ≡ error) → P error → IfErr r P
+error_is (Ok a) error P is p = tt
+error_is (Err e) error P is p = subst P (sym is) p

@@ -9,3 +9,4 @@ pub mod OpeningsMade
 pub mod Wakings
 pub mod Causes
 pub mod Whole
+pub mod CutOffs

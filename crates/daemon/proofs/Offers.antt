@@ -6,6 +6,7 @@ use Rattle.world.specs.Causes.{has_number}
 use Rattle.world.specs.LinkCalls.{LinkTold, Given, offered}
 use Rattle.client_model.specs.Clients.{Sending}
 use Rattle.client_model.specs.Sends.{AnswersSends, offered_all, sends_taken}
+use Rattle.iface_core.specs.declared.sendings.Sending as rust
 use Rattle.iface_core.specs.Outcomes.{sending_of}
 use Rattle.daemon.specs.declared.sends.Sent.{Sent}
 use Rattle.daemon.specs.Sends.{TakesNext, TakesForetold, IsOffered, Offering, sendings_of, taken_of}
@@ -90,3 +91,8 @@ offering_more failing here old mid new sent made one here_is so_far next made_is
       told = told_more old mid new (sendings_of sent) (taken_of sent) (sending_of one.sending) one.taken so_far.answers so_far.told step.told;
       foretold = foretold_more failing old mid (sendings_of sent) (taken_of sent) (sending_of one.sending) one.taken so_far.answers so_far.told so_far.foretold step.foretold;
     }))
+
+pub sendings_more : (sent made : List Sent) (one : Sent) (yielded : List rust.Sending) → made ≡ sent ++ one ∷ [] → sendings_of sent ≡ map sending_of yielded → sendings_of made ≡ map sending_of (yielded ++ one.sending ∷ [])
+sendings_more sent made one yielded made_is so_far =
+    ap sendings_of made_is ∙ map-append (λ (s : Sent). sending_of s.sending) sent (one ∷ [])
+    ∙ ap (λ (ss : List Sending). ss ++ sending_of one.sending ∷ []) so_far ∙ sym (map-append sending_of yielded (one.sending ∷ []))

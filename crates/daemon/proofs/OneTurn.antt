@@ -22,7 +22,7 @@ use Rattle.daemon.specs.Serving.{WritesLines, failing_of, told_by, IsRest, AreFo
 use Rattle.daemon.specs.Waking.{WritesBytes}
 use Rattle.daemon.proofs.Offers.{offered_all-sends, offered_all-coming}
 
-abbrev woke : Wake → Result Wake DeviceAnswer
+abbrev pub woke : Wake → Result Wake DeviceAnswer
 woke wake = Ok wake
 
 -- the text of a turn was written
@@ -82,7 +82,7 @@ module _ (managed : List Managed) (failing : Failing) (from : Life) (link : Link
   rest_of : (given : Given) (coming : List Given) → wake ≡ cut_wake given 2048 → bytes ≡ take (frame_len wake.event) given.bytes
       → told_turns managed failing from (told_by link host) (given ∷ coming)
       ≡ met_with wake bytes taken met ∷ told_turns managed failing (turned managed from (met_with wake bytes taken met)) (record { sent = link.sends + frames; host = after_told }) coming
-  unfolding after_told, frames, turn_for
+  unfolding after_told frames turn_for
   rest_of given coming wake_is bytes_are =
       let bytes_is : bytes ≡ told_bytes given = bytes_are ∙ ap (λ (w : Wake). take (frame_len w.event) given.bytes) wake_is in
       let turn_is : told_turn managed failing from (told_by link host) given ≡ turn_for wake bytes =
@@ -101,7 +101,7 @@ module _ (managed : List Managed) (failing : Failing) (from : Life) (link : Link
       → link_to ≡ option_map (offered_all (step_of from wake bytes).sends taken) link_mid
       → length taken ≡ length (step_of from wake bytes).sends
       → IsRest managed failing (told_turns managed failing from (told_by link host) coming) (length coming) (met_with wake bytes taken met ∷ []) (turned managed from (met_with wake bytes taken met)) host_to link_to
-  unfolding after_told, frames
+  unfolding after_told frames
   comes_foretold until [] link_mid link_to buffer room bytes_are comes offers answers = absurd (let bad : false ≡ true = sym more ∙ ap is_end comes.0 in cc)
   comes_foretold until (given ∷ coming) link_mid link_to buffer room bytes_are comes offers answers =
       let sends : List Sending = (step_of from wake bytes).sends in

@@ -9,10 +9,12 @@ use Rattle.client_model.specs.Lines.{Line, line_text, lines_text}
 use Rattle.client_model.specs.Lines as lines
 use Rattle.world.specs.declared.rows.HostRow.TheVariants.{Addr, Route}
 use Rattle.lease_file.specs.declared.clearing.Cleared.{Cleared}
-use Rattle.client_model.specs.Lives.{call_lines, host_lines, removal_line, hold_lines}
+use Rattle.client_model.specs.Lives.{call_lines, host_lines, removal_line, hold_lines, send_lines}
 use Rattle.daemon.specs.declared.host_changes.Made.{Made}
 use Rattle.daemon.specs.HostTurns.{made_call}
 use Rattle.daemon.specs.Openings.{aside_of}
+use Rattle.daemon.specs.declared.sends.Sent.{Sent}
+use Rattle.daemon.specs.Sends.{sendings_of, taken_of}
 use Rattle.daemon.specs.Printing.{Prints}
 
 lines_text-append : (a b : List Line) → lines_text (a ++ b) ≡ lines_text a ++ lines_text b
@@ -60,3 +62,17 @@ hold_lines-append (Route i d w m ∷ a) b = hold_lines-append a b
 -- a loop that prints each address
 pub holds_more : (rows : List HostRow) (i : ℕ) (d : HostRow) (t u v : List ℕ) → i < length rows → Prints t u (hold_lines (take i rows)) → Prints u v (hold_lines (get_or rows i d ∷ [])) → Prints t v (hold_lines (take (i + 1) rows))
 holds_more rows i d t u v lt p q = prints_same (prints_then p q) (sym (hold_lines-append (take i rows) (get_or rows i d ∷ [])) ∙ ap hold_lines (sym (take_more rows i d lt)))
+
+-- a loop that prints each frame that was offered
+send_lines-more : (sent : List Sent) (one : Sent)
+    → send_lines (sendings_of (sent ++ one ∷ [])) (taken_of (sent ++ one ∷ [])) ≡ send_lines (sendings_of sent) (taken_of sent) ++ lines.Send one.sending.iface one.sending.bytes.items one.taken ∷ []
+send_lines-more [] one = refl
+send_lines-more (s ∷ sent) one = ap (λ (ls : List Line). lines.Send s.sending.iface s.sending.bytes.items s.taken ∷ ls) (send_lines-more sent one)
+
+pub sends_more : (sent : List Sent) (i : ℕ) (d : Sent) (bytes t u v : List ℕ) → i < length sent → bytes ≡ (get_or sent i d).sending.bytes.items
+    → Prints t u (send_lines (sendings_of (take i sent)) (taken_of (take i sent))) → Prints u v (lines.Send (get_or sent i d).sending.iface bytes (get_or sent i d).taken ∷ [])
+    → Prints t v (send_lines (sendings_of (take (i + 1) sent)) (taken_of (take (i + 1) sent)))
+sends_more sent i d bytes t u v lt same p q =
+    let one : Sent = get_or sent i d in
+    prints_same (prints_then p (prints_same q (ap (λ (bs : List ℕ). lines.Send one.sending.iface bs one.taken ∷ []) same)))
+    (sym (send_lines-more (take i sent) one) ∙ ap (λ (ss : List Sent). send_lines (sendings_of ss) (taken_of ss)) (sym (take_more sent i d lt)))

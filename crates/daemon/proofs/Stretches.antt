@@ -11,17 +11,17 @@ use Rattle.client_model.specs.Lines.{Line, line_text, lines_text}
 use Rattle.client_model.specs.ToldDevices.{Failing, told_turns}
 use Rattle.daemon.specs.Serving.{WritesLines, told_by, IsRest, AreForetold, AreWhole, Passes, Goes, Ends}
 
-life_after-append : (managed : List Managed) (from : Life) (a b : List Met) → life_after managed from (a ++ b) ≡ life_after managed (life_after managed from a) b
+pub life_after-append : (managed : List Managed) (from : Life) (a b : List Met) → life_after managed from (a ++ b) ≡ life_after managed (life_after managed from a) b
 life_after-append managed from [] b = refl
 life_after-append managed from (m ∷ a) b = life_after-append managed (turned managed from m) a b
 
-turns_lines-append : (managed : List Managed) (from : Life) (a b : List Met) → turns_lines managed from (a ++ b) ≡ turns_lines managed from a ++ turns_lines managed (life_after managed from a) b
+pub turns_lines-append : (managed : List Managed) (from : Life) (a b : List Met) → turns_lines managed from (a ++ b) ≡ turns_lines managed from a ++ turns_lines managed (life_after managed from a) b
 turns_lines-append managed from [] b = refl
 turns_lines-append managed from (m ∷ a) b =
     ap (λ (ls : List Line). turn_lines managed from m ++ ls) (turns_lines-append managed (turned managed from m) a b)
     ∙ sym (append_assoc (turn_lines managed from m) (turns_lines managed (turned managed from m) a) (turns_lines managed (life_after managed (turned managed from m) a) b))
 
-answered-append : (managed : List Managed) (from : Life) (a b : List Met) → AllAnswered managed from a → AllAnswered managed (life_after managed from a) b → AllAnswered managed from (a ++ b)
+pub answered-append : (managed : List Managed) (from : Life) (a b : List Met) → AllAnswered managed from a → AllAnswered managed (life_after managed from a) b → AllAnswered managed from (a ++ b)
 answered-append managed from [] b p q = q
 answered-append managed from (m ∷ a) b p q = (p.0, answered-append managed (turned managed from m) a b p.1 q)
 
@@ -83,7 +83,7 @@ whole_rest managed failing foretold count a b mid None link_mid p q = absurd p
 whole_rest managed failing foretold count a b mid (Some h) None p q = absurd p
 whole_rest managed failing foretold count a b mid (Some h) (Some l) p q = p.0 ∙ ap (λ (ms : List Met). a ++ ms) q
 
-whole_then : (managed : List Managed) (failing : Option Failing) (a b : List Met) (from mid : Life) (host host_mid : Option HostTold) (link link_mid : Option LinkTold)
+pub whole_then : (managed : List Managed) (failing : Option Failing) (a b : List Met) (from mid : Life) (host host_mid : Option HostTold) (link link_mid : Option LinkTold)
     → AreForetold managed failing from host link a mid host_mid link_mid → AreWhole managed failing mid host_mid link_mid b → AreWhole managed failing from host link (a ++ b)
 whole_then managed None a b from mid host host_mid link link_mid p q = tt
 whole_then managed (Some f) a b from mid None host_mid link link_mid p q = tt

@@ -19,7 +19,7 @@ use Rattle.daemon.specs.Waking.{WritesBytes, EndsThere}
 use Rattle.daemon.specs.Served.{OpensForetold, Served}
 use Rattle.daemon.proofs.Stretches.{lines_then}
 
-abbrev begun : Begin → Result Begin Failed
+abbrev pub begun : Begin → Result Begin Failed
 begun begin = Ok begin
 
 met_is : (managed : List Managed) (failing : List ℕ) (host : HostTold) (begin : Begin) (met : OpeningMet) → met.begin ≡ begin → FindsNothing met
@@ -44,7 +44,7 @@ both_told managed failing here host host_mid link link_mid begin met mets life s
           (subst (λ (f : Option Failing). AreWhole managed f life host_mid link_mid mets) same whole))),
     )
 
-opens_foretold : (managed : List Managed) (sends failing : Option (List ℕ)) (here : Option Failing) (host host_mid : Option HostTold) (link link_mid : Option LinkTold) (begin : Begin) (met : OpeningMet) (mets : List Met) (life : Life)
+pub opens_foretold : (managed : List Managed) (sends failing : Option (List ℕ)) (here : Option Failing) (host host_mid : Option HostTold) (link link_mid : Option LinkTold) (begin : Begin) (met : OpeningMet) (mets : List Met) (life : Life)
     → here ≡ failing_of sends failing → met.begin ≡ begin → FindsNothing met
     → Determined (told_host_for managed None (rows_of (opened_client managed met))) failing host met.host host_mid
     → Begins link link_mid (begun begin) → life ≡ opened_life managed met → AreWhole managed here life host_mid link_mid mets
@@ -56,7 +56,7 @@ opens_foretold managed (Some s) (Some f) here (Some h) host_mid None link_mid be
 opens_foretold managed (Some s) (Some f) here (Some h) host_mid (Some l) link_mid begin met mets life same begins nothing told starts after whole =
     both_told managed (record { sends = s; host = f }) here h host_mid l link_mid begin met mets life same begins nothing told starts after whole
 
-opening_written : (old new : Option (List ℕ)) (text : List ℕ) (lines : List Line) → WritesBytes old new text → Prints [] text lines → WritesLines old new lines
+pub opening_written : (old new : Option (List ℕ)) (text : List ℕ) (lines : List Line) → WritesBytes old new text → Prints [] text lines → WritesLines old new lines
 opening_written None new text lines w p = w
 opening_written (Some written) new text lines w p = w ∙ ap (λ (x : List ℕ). Some (written ++ x)) p.appended
 

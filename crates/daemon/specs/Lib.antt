@@ -7,3 +7,4 @@ pub mod Serving
 pub mod Waking
 pub mod Openings
 pub mod Served
+pub mod Cuts

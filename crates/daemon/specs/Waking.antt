@@ -1,5 +1,5 @@
 -- One wake of a life.
-use Rattle.std.specs.Prelude.{ℕ, ◌≡◌, false, List, [], ◌∷◌, ◌++◌, Option, Some, None}
+use Rattle.std.specs.Prelude.{ℕ, ◌≡◌, false, List, [], ◌∷◌, ◌++◌, take, Option, Some, None}
 use Rattle.world.specs.HostCalls.{HostTold}
 use Rattle.world.specs.LinkCalls.{LinkTold}
 use Rattle.client_model.specs.declared.interfaces.Managed.{Managed}
@@ -15,6 +15,11 @@ use Rattle.daemon.specs.Serving.{Goes, Ends}
 abbrev pub WritesBytes : Option (List ℕ) → Option (List ℕ) → List ℕ → Type 0
 WritesBytes None new bytes = new ≡ None
 WritesBytes (Some written) new bytes = new ≡ Some (written ++ bytes)
+
+-- a front of the bytes was written, where it is told what is written
+abbrev pub WritesSome : Option (List ℕ) → Option (List ℕ) → List ℕ → Type 0
+WritesSome None new bytes = new ≡ None
+WritesSome (Some written) new bytes = (n : ℕ) × (new ≡ Some (written ++ take n bytes))
 
 -- a life goes on after exactly one turn
 pub record GoesOn (managed : List Managed) (failing : Option Failing) (from : model.Life) (host : Option HostTold) (link : Option LinkTold) (out : Option (List ℕ))

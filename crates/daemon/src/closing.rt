@@ -1,9 +1,10 @@
 ghost use Rattle.std.specs.Prelude.{◌≡◌, ◌≤◌, OnOk, IfOk, IfErr, [], ◌∷◌};
-ghost use Rattle.client_model.specs.Interfaces.{rows_of};
+ghost use Rattle.client_model.specs.Clients.{rows_of};
 ghost use Rattle.client_model.specs.Lives.{hold_lines, closing_lines};
 ghost use Rattle.daemon.specs.Lives.{life_of};
 ghost use Rattle.daemon.specs.Printing.{Prints};
 ghost use Rattle.daemon.specs.Serving.{HasServeCause, WritesLines};
+ghost use Rattle.daemon.specs.Cuts.{WritesFront};
 
 use crate::host_lines::say;
 use crate::lives::Life;
@@ -49,6 +50,7 @@ pub fn close<O: Sink>(
     text: &mut Vec<u8>,
 ) -> Result<(), ServeEnd>
     ensures ok { IfOk result (λ _. (O.faults out.old ≤ O.faults out.new) × WritesLines (O.written out.old) (O.written out.new) (closing_lines (life_of life.now))) }
+    ensures front { IfErr result (λ _. WritesFront (O.written out.old) (O.written out.new) [] (closing_lines (life_of life.now))) }
     ensures cause { IfErr result (λ end. HasServeCause end (O.faults out.old) (O.faults out.new) 0 0) }
 {
     text.clear();

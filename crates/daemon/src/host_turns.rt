@@ -3,7 +3,7 @@ ghost use Rattle.std.specs.List.{AllByRecursion};
 ghost use Rattle.world.specs.RowOrder.{in_row_order};
 ghost use Rattle.world.specs.Rows.{IsRow};
 ghost use Rattle.world.specs.HostCalls.{HostTold};
-ghost use Rattle.client_model.specs.Interfaces.{is_managed};
+ghost use Rattle.client_model.specs.Clients.{is_managed};
 ghost use Rattle.client_model.specs.HostTurn.{HostMet, learnt, listing_calls, known_after};
 ghost use Rattle.client_model.specs.ToldDevices.{HostStep, listing_from, fails_next, told_listing_for, told_host_for, Determined};
 ghost use Rattle.daemon.specs.HostTurns.{IsHostTurn, met_of, keys_of, asked_listing, listing_call, listing_rows};

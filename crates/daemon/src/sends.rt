@@ -1,8 +1,9 @@
 ghost use Rattle.std.specs.Prelude.{◌≡◌, ◌-◌, ◌^◌, IfOk, map};
+ghost use Rattle.std.specs.List.{AllByRecursion};
 ghost use Rattle.world.specs.Rows.{IsInterface};
 ghost use Rattle.client_model.specs.Sends.{unsent_after};
 ghost use Rattle.iface_core.specs.Outcomes.{sending_of};
-ghost use Rattle.client_core.specs.Stepping.{AreOnInterfaces};
+ghost use Rattle.client_core.specs.Stepping.{IsOnInterface};
 ghost use Rattle.daemon.specs.Sends.{Offering, IsOffered, sendings_of, taken_of};
 
 use client_core::Sending;
@@ -59,7 +60,7 @@ fn only(index: IfIndex) -> u64
 
 /// The interfaces on which a send failed: bit `i - 1` is interface `i`.
 pub fn unsent_on(sent: &[Sent]) -> u64
-    requires { AreOnInterfaces (sendings_of sent.now) }
+    requires { AllByRecursion IsOnInterface (sendings_of sent.now) }
     ensures { result ≡ unsent_after (sendings_of sent.now) (taken_of sent.now) }
 {
     match sent {

@@ -4,7 +4,8 @@ ghost use Rattle.client_model.specs.Lines as lines;
 ghost use Rattle.client_model.specs.Turns.{is_over, is_end};
 ghost use Rattle.daemon.specs.Lives.{life_of, IsTimely};
 ghost use Rattle.daemon.specs.Serving.{HasServeCause, failing_of};
-ghost use Rattle.daemon.specs.Waking.{WritesBytes, IsOneTurn};
+ghost use Rattle.daemon.specs.Waking.{WritesBytes, WritesSome, IsOneTurn};
+ghost use Rattle.daemon.specs.Cuts.{BreaksOff};
 
 use crate::devices::Devices;
 use crate::lives::Life;
@@ -17,6 +18,7 @@ use world::{DeviceAnswer, Event, Hooks, Host, Link, NoMemory, Sink, Store, Wake}
 /// Writes all the bytes.
 pub fn write_all<O: Sink>(out: &mut O, bytes: &[u8]) -> Result<(), ServeEnd>
     ensures ok { IfOk result (λ _. (O.faults out.old ≤ O.faults out.new) × WritesBytes (O.written out.old) (O.written out.new) bytes.now) }
+    ensures some { IfErr result (λ _. WritesSome (O.written out.old) (O.written out.new) bytes.now) }
     ensures cause { IfErr result (λ end. HasServeCause end (O.faults out.old) (O.faults out.new) 0 0) }
 {
     match out.write(bytes) {
@@ -101,6 +103,7 @@ pub fn one_turn<O: Sink, L: Link, S: Store, H: Host, K: Hooks>(
     requires going { is_over (life_of life) ≡ false }
     requires room { length buf.old ≡ 2048 }
     ensures ok { IfOk result (λ woken. IsOneTurn managed.now (failing_of (L.failing_sends live.old.link) (H.failing live.old.host)) (life_of life) (H.told live.old.host) (L.told live.old.link) (O.written out.old) woken (H.told live.new.host) (L.told live.new.link) (O.written out.new)) }
+    ensures cut { IfErr result (λ end. BreaksOff end managed.now (failing_of (L.failing_sends live.old.link) (H.failing live.old.host)) (life_of life) (H.told live.old.host) (L.told live.old.link) (O.written out.old) (O.written out.new)) }
     ensures later { IfOk result (λ woken. (O.faults out.old ≤ O.faults out.new) × (L.faults live.old.link ≤ L.faults live.new.link)) }
     ensures cause { IfErr result (λ end. HasServeCause end (O.faults out.old) (O.faults out.new) (L.faults live.old.link) (L.faults live.new.link)) }
     ensures foretold { L.failing_waits live.old.link ≡ Some [] → result ≢ Err ServeEnd.LinkFault }

@@ -1,7 +1,11 @@
 -- Reading an input piece by piece.
-use Rattle.std.proofs.Common.{ℕ, ◌≡◌, ◌<◌, List, [], ◌++◌, length, take, drop, Option, Some, None, refl, sym, ap, subst, ◌∙◌, append_assoc, append-nil, arith}
+use Rattle.std.proofs.Common.{ℕ, ◌≡◌, ◌<◌, ◌≤◌, ◌+◌, ◌^◌, ◌-◌, List, [], ◌++◌, length, take, drop, Option, Some, None, Ok, Err, refl, sym, ap, subst, ◌∙◌, append_assoc, append-nil, arith}
 use Rattle.std.proofs.lemmas.List.{take-append-drop, length-append}
-use Rattle.dhcpcd.specs.Input.{limit, Moves, IsFront, HasRead, IsInput, IsTooLong}
+use Rattle.std.proofs.Math.Seq.{drop-append-add}
+use Rattle.std.proofs.Math.Nat.{min-le_left}
+use Rattle.net_types.specs.declared.fault.Failed.{Failed}
+use Rattle.world.specs.Streams.{Reads, count_after}
+use Rattle.dhcpcd.specs.Input.{limit, Moves, Takes, TakesSome, ReadsWithin, IsFront, HasRead, IsInput, IsTooLong}
 
 pub read_none : (input : Option (List ℕ)) → HasRead input [] input
 read_none None = tt
@@ -35,3 +39,51 @@ front_long input read (Some bytes) long front = omega (arith, ap length front, l
 pub read_long : (input left : Option (List ℕ)) (read : List ℕ) → limit < length read → HasRead input read left → IsTooLong input
 read_long None left read long has = tt
 read_long (Some input) left read long has = front_long input read left long has
+
+-- a read that failed took nothing
+pub takes_none : (room : ℕ) (old new : Option (List ℕ)) (buffer : List ℕ) (e : Failed) → Reads old new buffer (Err e) → TakesSome room old new
+takes_none room None new buffer e read = (0, omega arith, tt)
+takes_none room (Some bytes) new buffer e read = (0, omega arith, (omega arith, read))
+
+pub takes_some : (room : ℕ) (old new : Option (List ℕ)) (buffer : List ℕ) (n : ℕ) → n ≤ room → Reads old new buffer (Ok n) → TakesSome room old new
+takes_some room None new buffer n few read = (n, few, tt)
+takes_some room (Some bytes) new buffer n few read = (n, few, (read.0, read.2))
+
+pub reads_once : (old new : ℕ) → new ≡ count_after old → new ≤ old + 1
+reads_once old new is = subst (λ (k : ℕ). k ≤ old + 1) (sym is) (min-le_left (old + 1) (2 ^ 64 - 1))
+
+front_takes : (input read : List ℕ) (mid new : Option (List ℕ)) (n : ℕ) → IsFront input read mid → Takes n mid new → (length read + n ≤ length input) × (new ≡ Some (drop (length read + n) input))
+front_takes input read None new n front takes = absurd front
+front_takes input read (Some bytes) new n front takes = (
+  omega (arith, ap length front, length-append read bytes, takes.0),
+  takes.1 ∙ ap (λ (b : List ℕ). Some b) (sym (drop-append-add read bytes n) ∙ ap (drop (length read + n)) (sym front)),
+)
+
+takes_after : (input mid new : Option (List ℕ)) (read : List ℕ) (n : ℕ) → HasRead input read mid → Takes n mid new → Takes (length read + n) input new
+takes_after None mid new read n has takes = tt
+takes_after (Some input) mid new read n has takes = front_takes input read mid new n has takes
+
+-- a read gave nothing that was kept, after all that was read before
+pub within_stopped : (input mid new : Option (List ℕ)) (read : List ℕ) (room a b d : ℕ) → HasRead input read mid → TakesSome room mid new → length read + room ≤ limit + 1 → b ≤ a + length read → d ≤ b + 1 → ReadsWithin input new a d
+within_stopped input mid new read room a b d has takes fits before once = record {
+  taken = length read + takes.0;
+  few = omega (arith, fits, takes.1);
+  takes = takes_after input mid new read takes.0 has takes.2;
+  reads = omega (arith, before, once);
+}
+
+nothing_more : (left : Option (List ℕ)) → Takes 0 left left
+nothing_more None = tt
+nothing_more (Some bytes) = (omega arith, refl)
+
+-- all that was taken was read
+pub within_read : (input new : Option (List ℕ)) (read : List ℕ) (a d : ℕ) → HasRead input read new → length read ≤ limit + 1 → d ≤ a + length read + 1 → ReadsWithin input new a d
+within_read input new read a d has fits few = record {
+  taken = length read + 0;
+  few = omega (arith, fits);
+  takes = takes_after input new new read 0 has (nothing_more new);
+  reads = omega (arith, few);
+}
+
+pub within_none : (left : Option (List ℕ)) (reads : ℕ) → ReadsWithin left left reads reads
+within_none left reads = within_read left left [] reads reads (read_none left) (omega arith) (omega arith)

@@ -1,3 +1,4 @@
+pub mod Endings
 pub mod HeadLines
 pub mod Inputs
 pub mod OneWord

@@ -1,5 +1,5 @@
 -- Why bytes are no script.
-use Rattle.std.proofs.Common.{ℕ, ◌≡◌, ◌≤◌, List, length, All, Option, Some, None, Result, Ok, Err, IfErr, sym, ap, subst, ◌∙◌}
+use Rattle.std.proofs.Common.{ℕ, ◌≡◌, ◌≤◌, List, length, All, Option, Some, None, Result, Ok, Err, IfErr, inl, sym, ap, subst, ◌∙◌}
 use Rattle.std.specs.Prelude.{flat_map, option_map, IsErrAnd}
 use Rattle.std.proofs.lemmas.List.Elements.{All-weaker}
 use Rattle.net_types.specs.declared.interface.IfSpec.{IfSpec}
@@ -110,7 +110,7 @@ refused_answer (status.Script fault) (Some input) old new bytes read within same
 refused_answer status.ReadFault input old new bytes read within same refused = absurd refused
 refused_answer status.WriteFault input old new bytes read within same refused = absurd refused
 refused_answer status.TooLong input old new bytes read within same refused = absurd refused
-refused_answer status.NoMemory input old new bytes read within same refused = tt
+refused_answer status.NoMemory input old new bytes read within same refused = inl same
 
 pub some_of : {A B : Type 0} (f : A → B) (found : Option A) (made : Option B) (x : A) → found ≡ Some x → option_map f found ≡ made → made ≡ Some (f x)
 some_of f found made x some same = sym same ∙ ap (option_map f) some

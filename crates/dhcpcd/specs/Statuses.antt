@@ -1,8 +1,9 @@
 -- What the answers of the top call mean.
-use Rattle.std.specs.Prelude.{ℕ, ◌≡◌, ◌≢◌, ◌<◌, ◌≤◌, List, length, Option, Some, None}
+use Rattle.std.specs.Prelude.{ℕ, ◌≡◌, ◌≢◌, ◌<◌, ◌≤◌, ◌⊎◌, List, [], length, Option, Some, None}
 use Rattle.client_model.specs.declared.interfaces.Managed.{Managed}
 use Rattle.client_model.specs.Scripts.{ScriptLines, FitsScript, script_text}
 use Rattle.daemon.specs.Serving.{WritesLines}
+use Rattle.daemon.specs.Cuts.{WritesFront}
 use Rattle.dhcpcd.specs.declared.status.Status.{Status}
 use Rattle.dhcpcd.specs.declared.status.Status.TheVariants as status
 use Rattle.dhcpcd.specs.Input.{limit, IsInput, IsInLimit, IsTooLong}
@@ -28,6 +29,25 @@ pub record IsReplayed (input : Option (List ℕ)) (old new : Option (List ℕ)) 
   pub is_script : IsScript bytes script managed
   pub written : WritesLines old new (transcript managed script)
 
+-- the input was a script, and a front of the bytes of its transcript was written
+pub record IsStopped (input : Option (List ℕ)) (old new : Option (List ℕ)) : Type 0 where
+  pub bytes : List ℕ
+  pub script : ScriptLines
+  pub managed : List Managed
+  pub read : IsInput input bytes
+  pub in_limit : length bytes ≤ limit
+  pub is_script : IsScript bytes script managed
+  pub written : WritesFront old new [] (transcript managed script)
+
+-- the input is told, and it is a script within the limit
+pub record SpellsScript (input : Option (List ℕ)) : Type 0 where
+  pub bytes : List ℕ
+  pub script : ScriptLines
+  pub managed : List Managed
+  pub told : input ≡ Some bytes
+  pub in_limit : length bytes ≤ limit
+  pub is_script : IsScript bytes script managed
+
 -- no script spells the input, where it is told
 abbrev pub IsNoScript : List ℕ → Type 0
 IsNoScript bytes = (script : ScriptLines) (managed : List Managed) → IsScript bytes script managed → ⊥
@@ -42,9 +62,15 @@ IsAnswer status.Done input old new = IsReplayed input old new
 IsAnswer status.Usage input old new = ⊥
 IsAnswer (status.Script fault) input old new = SpellsNoScript input × IsInLimit input × (new ≡ old)
 IsAnswer status.ReadFault input old new = new ≡ old
-IsAnswer status.WriteFault input old new = Unit {0}
+IsAnswer status.WriteFault input old new = IsStopped input old new
 IsAnswer status.TooLong input old new = IsTooLong input × (new ≡ old)
-IsAnswer status.NoMemory input old new = Unit {0}
+IsAnswer status.NoMemory input old new = (new ≡ old) ⊎ IsStopped input old new
+
+-- the answers to a script over streams that don't fail
+abbrev pub CompletesScript : Status → Type 0
+CompletesScript status.Done = Unit {0}
+CompletesScript status.NoMemory = Unit {0}
+CompletesScript other = ⊥
 
 -- faults come only where the count of that stream rose
 abbrev pub HasStatusCause : Status → ℕ → ℕ → ℕ → ℕ → Type 0

@@ -1,5 +1,5 @@
 ghost use Rattle.std.specs.Prelude.{◌≡◌, ◌≢◌, ◌≤◌, ◌<◌, ◌+◌, Ok, Err, IfOk, IfErr, length, vec_len};
-ghost use Rattle.dhcpcd.specs.Input.{Moves, IsInput, IsTooLong, limit};
+ghost use Rattle.dhcpcd.specs.Input.{Moves, TakesSome, ReadsWithin, IsInput, IsTooLong, limit};
 ghost use Rattle.dhcpcd.specs.Statuses.{HasStatusCause, StopsReading};
 
 use crate::status::Status;
@@ -13,11 +13,14 @@ const LIMIT: usize = 16_777_216;
 const PIECE: usize = 65_536;
 
 /// Reads some bytes, at most as many as the piece has room for, and appends them.
+#[tactic(auto, using(crate::proofs::Inputs::takes_none, crate::proofs::Inputs::takes_some, crate::proofs::Inputs::reads_once))]
 fn read_some<I: Source>(input: &mut I, piece: &mut [u8], all: &mut Vec<u8>) -> Result<usize, Status>
     requires { 0 < length piece.old }
     ensures moved { IfOk result (λ n. Moves (I.left input.old) (I.left input.new) all.old.items all.new.items n) }
     ensures count { IfOk result (λ n. (vec_len all.new ≡ vec_len all.old + n) × (n ≤ length piece.old) × (I.faults input.old ≤ I.faults input.new)) }
     ensures cause { IfErr result (λ status. HasStatusCause status (I.faults input.old) (I.faults input.new) 0 0 × StopsReading status) }
+    ensures taken { IfErr result (λ _. TakesSome (length piece.old) (I.left input.old) (I.left input.new)) }
+    ensures reads { I.reads input.new ≤ I.reads input.old + 1 }
     ensures any_length { result ≢ Err Status.TooLong }
 {
     match input.read(piece) {
@@ -37,11 +40,13 @@ fn piece_buffer(alloc: Global) -> Result<Vec<u8>, NoMemory>
 }
 
 /// Reads all of the input, up to its limit.
+#[tactic(auto, using(crate::proofs::Inputs::within_none, crate::proofs::Inputs::within_read, crate::proofs::Inputs::within_stopped))]
 pub fn read_all<I: Source>(alloc: Global, input: &mut I) -> Result<Vec<u8>, Status>
     ensures ok { IfOk result (λ all. IsInput (I.left input.old) all.items × (I.faults input.old ≤ I.faults input.new)) }
     ensures in_limit { IfOk result (λ all. length all.items ≤ limit) }
     ensures cause { IfErr result (λ status. HasStatusCause status (I.faults input.old) (I.faults input.new) 0 0 × StopsReading status) }
     ensures too_long { result ≡ Err Status.TooLong → IsTooLong (I.left input.old) }
+    ensures reads { ReadsWithin (I.left input.old) (I.left input.new) (I.reads input.old) (I.reads input.new) }
 {
     let mut all = Vec::new(alloc);
     let mut buf = piece_buffer(alloc)?;

@@ -1,12 +1,14 @@
-ghost use Rattle.std.specs.Prelude.{◌≡◌, ◌≢◌, ◌≤◌, Err, IfOk, IfErr, All};
+ghost use Rattle.std.specs.Prelude.{◌≡◌, ◌≢◌, ◌≤◌, [], Err, IfOk, IfErr, All};
 ghost use Rattle.world.specs.Rows.{IsRow};
 ghost use Rattle.client_model.specs.Fitting.{AreManaged};
 ghost use Rattle.client_model.specs.Scripts.{script_text, FitsScript};
 ghost use Rattle.conf_text.specs.Settings.{configuration};
 ghost use Rattle.conf_text.specs.Reading.{IsConfigurationOf, IsNoConfiguration};
-ghost use Rattle.daemon.specs.Waking.{WritesBytes};
+ghost use Rattle.daemon.specs.Cuts.{WritesFront};
+ghost use Rattle.daemon.specs.Waking.{WritesBytes, WritesSome};
 ghost use Rattle.replay_text.specs.ScriptContent as content;
 ghost use Rattle.daemon.specs.Serving.{WritesLines};
+ghost use Rattle.dhcpcd.specs.Input.{ReadsWithin};
 ghost use Rattle.dhcpcd.specs.Replays.{IsScript, life_of_script, transcript};
 ghost use Rattle.dhcpcd.specs.Statuses.{HasStatusCause, StopsWriting, IsNoScript, IsUnspelled, IsRefused, IsReplayed, IsAnswer};
 
@@ -22,7 +24,7 @@ use std::alloc::Global;
 use world::{DeviceAnswer, Sink, Source};
 
 /// Lives the script's life over devices in memory, and writes its lines.
-#[tactic(auto, using(crate::proofs::WholeLife::lived, crate::proofs::WholeLife::all_come))]
+#[tactic(auto, using(crate::proofs::WholeLife::lived, crate::proofs::WholeLife::all_come, crate::proofs::WholeLife::stops_life, daemon::proofs::CutOffs::front_none))]
 fn replay_life<O: Sink>(
     alloc: Global,
     managed: &[Managed],
@@ -32,6 +34,7 @@ fn replay_life<O: Sink>(
     requires managed { AreManaged managed.now }
     requires rows { All IsRow script.rows.items }
     ensures ok { IfOk result (λ _. (O.faults out.old ≤ O.faults out.new) × WritesLines (O.written out.old) (O.written out.new) (life_of_script managed.now (content.script_of script))) }
+    ensures front { IfErr result (λ _. WritesFront (O.written out.old) (O.written out.new) [] (life_of_script managed.now (content.script_of script))) }
     ensures cause { IfErr result (λ status. HasStatusCause status 0 0 (O.faults out.old) (O.faults out.new) × StopsWriting status) }
 {
     let Script {
@@ -105,6 +108,7 @@ fn settle(alloc: Global, bytes: &[u8]) -> Result<Settled, Status>
 
 fn write_text<O: Sink>(out: &mut O, text: &[u8]) -> Result<(), Status>
     ensures ok { IfOk result (λ _. (O.faults out.old ≤ O.faults out.new) × WritesBytes (O.written out.old) (O.written out.new) text.now) }
+    ensures some { IfErr result (λ _. WritesSome (O.written out.old) (O.written out.new) text.now) }
     ensures cause { IfErr result (λ status. HasStatusCause status 0 0 (O.faults out.old) (O.faults out.new) × StopsWriting status) }
 {
     match out.write(text) {
@@ -115,11 +119,12 @@ fn write_text<O: Sink>(out: &mut O, text: &[u8]) -> Result<(), Status>
 }
 
 /// Writes the head of a transcript, and then the life.
-#[tactic(auto, using(crate::proofs::WholeLife::written_then))]
+#[tactic(auto, using(crate::proofs::WholeLife::written_then, crate::proofs::WholeLife::front_of_head, crate::proofs::WholeLife::front_of_both, daemon::proofs::CutOffs::front_none))]
 fn write_transcript<O: Sink>(alloc: Global, settled: Settled, out: &mut O) -> Result<(), Status>
     requires managed { AreManaged settled.managed.items }
     requires rows { All IsRow settled.script.rows.items }
     ensures ok { IfOk result (λ _. (O.faults out.old ≤ O.faults out.new) × WritesLines (O.written out.old) (O.written out.new) (transcript settled.managed.items (content.script_of settled.script))) }
+    ensures front { IfErr result (λ _. WritesFront (O.written out.old) (O.written out.new) [] (transcript settled.managed.items (content.script_of settled.script))) }
     ensures cause { IfErr result (λ status. HasStatusCause status 0 0 (O.faults out.old) (O.faults out.new) × StopsWriting status) }
 {
     let mut text = Vec::new(alloc);
@@ -131,12 +136,13 @@ fn write_transcript<O: Sink>(alloc: Global, settled: Settled, out: &mut O) -> Re
 }
 
 /// Replays the script that the input spells, and writes its transcript.
-#[tactic(auto, using(crate::proofs::Refusals::settled_fit, crate::proofs::Refusals::settled_rows, crate::proofs::Refusals::refused_answer))]
+#[tactic(auto, using(crate::proofs::Refusals::settled_fit, crate::proofs::Refusals::settled_rows, crate::proofs::Refusals::refused_answer, crate::proofs::Endings::stopped_answer))]
 pub fn replay<I: Source, O: Sink>(alloc: Global, input: &mut I, out: &mut O) -> Result<(), Status>
     ensures ok { IfOk result (λ _. IsReplayed (I.left input.old) (O.written out.old) (O.written out.new) × (I.faults input.old ≤ I.faults input.new) × (O.faults out.old ≤ O.faults out.new)) }
     ensures err { IfErr result (λ status. IsAnswer status (I.left input.old) (O.written out.old) (O.written out.new)) }
     ensures cause { IfErr result (λ status. HasStatusCause status (I.faults input.old) (I.faults input.new) (O.faults out.old) (O.faults out.new)) }
     ensures not_done { result ≢ Err Status.Done }
+    ensures reads { ReadsWithin (I.left input.old) (I.left input.new) (I.reads input.old) (I.reads input.new) }
 {
     let bytes = read_all(alloc, input)?;
     let settled = settle(alloc, &bytes)?;

@@ -1,6 +1,7 @@
 ghost use Rattle.std.specs.Prelude.{◌≡◌, true, codes, map};
 ghost use Rattle.std.specs.String.{string_bytes};
-ghost use Rattle.dhcpcd.specs.Statuses.{HasStatusCause, IsAnswer};
+ghost use Rattle.dhcpcd.specs.Input.{ReadsWithin};
+ghost use Rattle.dhcpcd.specs.Statuses.{HasStatusCause, IsAnswer, SpellsScript, CompletesScript};
 ghost use Rattle.dhcpcd.specs.Words.{AskReplay};
 
 use crate::replaying::replay;
@@ -28,7 +29,8 @@ fn ask_replay(words: &[String]) -> bool
 
 /// Does what the words after the program's name ask for: `replay` reads a script of at most 16,777,216 bytes from the
 /// input, and writes its transcript. Other words are `Usage`, and touch nothing. Where the input can't be read, is too
-/// long or is no script, nothing is written; after `WriteFault` and `NoMemory` some of the transcript may stand.
+/// long or is no script, nothing is written; after `WriteFault` and `NoMemory` a front of the transcript stands written.
+#[tactic(auto, using(crate::proofs::Endings::completes))]
 pub fn run<I: Source, O: Sink>(
     alloc: Global,
     words: &[String],
@@ -36,8 +38,10 @@ pub fn run<I: Source, O: Sink>(
     out: &mut O,
 ) -> Status
     ensures answer { AskReplay (map string_bytes words.now) → IsAnswer result (I.left input.old) (O.written out.old) (O.written out.new) }
-    ensures usage { (AskReplay (map string_bytes words.now) → ⊥) → (result ≡ Status.Usage) × (I.left input.new ≡ I.left input.old) × (O.written out.new ≡ O.written out.old) }
+    ensures usage { (AskReplay (map string_bytes words.now) → ⊥) → (result ≡ Status.Usage) × (I.reads input.new ≡ I.reads input.old) × (I.left input.new ≡ I.left input.old) × (O.written out.new ≡ O.written out.old) }
     ensures cause { HasStatusCause result (I.faults input.old) (I.faults input.new) (O.faults out.old) (O.faults out.new) }
+    ensures complete { AskReplay (map string_bytes words.now) → SpellsScript (I.left input.old) → I.faults input.new ≡ I.faults input.old → O.faults out.new ≡ O.faults out.old → CompletesScript result }
+    ensures reads { AskReplay (map string_bytes words.now) → ReadsWithin (I.left input.old) (I.left input.new) (I.reads input.old) (I.reads input.new) }
 {
     if !ask_replay(words) {
         return Status::Usage;

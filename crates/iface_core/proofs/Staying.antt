@@ -13,7 +13,7 @@ use Rattle.world.specs.declared.wakes.Event.{Event}
 use Rattle.world.specs.declared.wakes.Event.TheVariants.{Frame, Carrier, Duplicate, Release, Rebind, Stop, Quiet, End}
 use Rattle.client_model.specs.declared.interfaces.Managed.{Managed}
 use Rattle.client_model.specs.declared.interfaces.Iface.{Iface}
-use Rattle.client_model.specs.Interfaces.{IfaceStep, TurnInput, index_of, chooses_local, begun, opened, opened_local, is_up, silent, is_in, restarted, unsent_in, ticked, machines_off, begins, carried, rebound, halted, hears, arp_heard, taken, input_step, then_step, iface_turned}
+use Rattle.client_model.specs.Interfaces.{IfaceStep, TurnInput, index_of, chooses_local, opened, opened_local, is_up, silent, is_in, restarted, unsent_in, ticked, machines_off, begins, carried, rebound, halted, hears, arp_heard, taken, input_step, then_step, iface_turned}
 use Rattle.client_model.specs.Clients.{Sending, sends_of, spelled}
 use Rattle.client_model.specs.Fitting.{FitsManaged, FitsIface}
 use Rattle.iface_core.specs.Outcomes.{Goes}
@@ -110,11 +110,13 @@ goes_then first next f g none some all same one two = record {
   where
     spell : IfaceStep → List ArpSay → List Sending
     spell step said = map (spelled step.iface.managed.spec) said
+
     later : all ≡ none ++ (sends_of first ++ sends_of (next first.iface))
     later =
         two.offers ∙ ap (λ (s : List Sending). s ++ sends_of (next f)) one.offers
         ∙ ap (λ (i : Iface). (none ++ sends_of first) ++ sends_of (next i)) one.goes_on
         ∙ append_assoc none (sends_of first) (sends_of (next first.iface))
+
     together : sends_of first ++ sends_of (next first.iface) ≡ sends_of (then_step first next)
     together =
         ap (λ (m : Managed). map (spelled m.spec) first.said ++ sends_of (next first.iface)) (sym same)

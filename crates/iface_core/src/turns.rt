@@ -48,8 +48,9 @@ pub fn iface_input(
         return Ok(());
     }
     match turn.input {
-        TurnInput::Frame { iface, bytes } if is_numbered(f, iface) =>
-            hear(f, bytes, turn, own, outs),
+        TurnInput::Frame { iface, bytes } if is_numbered(f, iface) => hear(
+            f, bytes, turn, own, outs,
+        ),
         TurnInput::Carrier { iface, up } if is_numbered(f, iface) => {
             carry(f, up, turn.at);
             Ok(())

@@ -1,5 +1,5 @@
 -- What reading and writing do to the bytes of a stream, where these are told.
-use Rattle.std.specs.Prelude.{ℕ, List, [], ◌++◌, ◌<◌, ◌≤◌, ◌≡◌, length, take, drop, Option, Some, None, Result, Ok, Err}
+use Rattle.std.specs.Prelude.{ℕ, List, [], ◌++◌, ◌+◌, ◌-◌, ◌^◌, ◌<◌, ◌≤◌, ◌≡◌, min, length, take, drop, Option, Some, None, Result, Ok, Err}
 use Rattle.net_types.specs.declared.fault.Failed.{Failed}
 use Rattle.world.specs.declared.faults.DeviceAnswer.{DeviceAnswer}
 
@@ -14,3 +14,7 @@ abbrev pub Writes : {T : Type 0} → Option (List ℕ) → Option (List ℕ) →
 Writes None new bytes result = new ≡ None
 Writes (Some written) new bytes (Ok x) = new ≡ Some (written ++ bytes)
 Writes (Some written) new bytes (Err e) = (n : ℕ) × (new ≡ Some (written ++ take n bytes))
+
+-- the count of calls after one more; it stays at the end of its range
+abbrev pub count_after : ℕ → ℕ
+count_after count = min (count + 1) (2 ^ 64 - 1)

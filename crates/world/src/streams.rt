@@ -1,6 +1,6 @@
 ghost use Rattle.std.specs.Prelude.{◌≡◌, ◌≤◌, ℕ, Option, List, length, IfOk};
 ghost use Rattle.world.specs.Causes.{HasCause, HasDeviceCause};
-ghost use Rattle.world.specs.Streams.{Reads, Writes};
+ghost use Rattle.world.specs.Streams.{Reads, Writes, count_after};
 
 use crate::faults::DeviceAnswer;
 use net_types::Failed;
@@ -10,12 +10,16 @@ pub trait Source {
     /// How many calls failed.
     ghost faults: { Self → ℕ };
 
+    /// How many calls were made, counted up to 2^64 - 1.
+    ghost reads: { Self → ℕ };
+
     /// The bytes left, where these are told.
     ghost left: { Self → Option (List ℕ) };
 
     /// Puts the next bytes at the front of `buf` and says how many; 0 for a buffer with room is the end of input.
     fn read(&mut self, buf: &mut [u8]) -> Result<usize, Failed>
         ensures cause { HasCause (faults self.old) (faults self.new) result }
+        ensures counted { reads self.new ≡ count_after (reads self.old) }
         ensures room { IfOk result (λ n. n ≤ length buf.new) }
         ensures told { Reads (left self.old) (left self.new) buf.new result };
 }

@@ -3,3 +3,4 @@ mod HostSteps
 mod FileMaps
 mod StoreSteps
 mod FoundNumbers
+mod CallCounts

@@ -1,5 +1,5 @@
 -- What input and output in memory hold, and which of their calls fail.
-use Rattle.std.specs.Prelude.{ℕ, Bool, true, false, ◌≡◌, ◌+◌, ◌<◌, ◌^◌, nat_lt, List, Option, Some, None, Result, Ok, Err, if◌then◌else◌}
+use Rattle.std.specs.Prelude.{ℕ, Bool, true, false, ◌≡◌, ◌+◌, ◌-◌, ◌<◌, ◌^◌, nat_lt, List, Option, Some, None, Result, Ok, Err, if◌then◌else◌}
 use Rattle.world.specs.Causes.{has_number}
 use Rattle.net_types.specs.declared.fault.Failed.{Failed}
 use Rattle.world.specs.declared.faults.DeviceAnswer.{DeviceAnswer}
@@ -28,6 +28,11 @@ call_fails (Some number) failing = has_number failing number
 abbrev pub next_call : Option ℕ → Option ℕ
 next_call None = None
 next_call (Some number) = if nat_lt (number + 1) (2 ^ 64) then Some (number + 1) else None
+
+-- how many calls were made before the next, counted up to 2^64 - 1
+abbrev pub calls_before : Option ℕ → ℕ
+calls_before None = 2 ^ 64 - 1
+calls_before (Some number) = number - 1
 
 -- fewer calls failed than were made
 abbrev pub FewFailed : ℕ → Option ℕ → Type 0

@@ -1,7 +1,7 @@
 ghost use Rattle.std.specs.Prelude.{◌≡◌, ◌≤◌, [], Some, length, IfOk};
 ghost use Rattle.world.specs.Causes.{HasCause, HasDeviceCause};
-ghost use Rattle.world.specs.Streams.{Reads, Writes};
-ghost use Rattle.world_mem.specs.StreamRecord.{SourceState, SinkState, call_fails, next_call, Counts, CountsWrite};
+ghost use Rattle.world.specs.Streams.{Reads, Writes, count_after};
+ghost use Rattle.world_mem.specs.StreamRecord.{SourceState, SinkState, call_fails, next_call, calls_before, Counts, CountsWrite};
 
 use crate::record::{Numbers, fill_front};
 use net_types::Failed;
@@ -69,11 +69,15 @@ impl MemSource {
 impl Source for MemSource {
     ghost faults = { λ source. source.failed };
 
+    ghost reads = { λ source. calls_before source.next };
+
     ghost left = { λ source. Some source.left };
 
     /// Fails exactly at the calls that it is told.
+    #[tactic(auto, using(crate::proofs::CallCounts::counted_once))]
     fn read(&mut self, buf: &mut [u8]) -> Result<usize, Failed>
         ensures cause { HasCause self.old.failed self.new.failed result }
+        ensures counted { calls_before self.new.next ≡ count_after (calls_before self.old.next) }
         ensures room { IfOk result (λ n. n ≤ length buf.new) }
         ensures told { Reads (Some self.old.left) (Some self.new.left) buf.new result }
         ensures counts { Counts self.old self.new result }
