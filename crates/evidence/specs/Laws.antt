@@ -47,6 +47,7 @@ pub record HasBasis (managed : List Managed) (opening : OpeningMet) (mets : List
 abbrev pub AreNumbered : List Managed → Type 0
 AreNumbered managed = IsDistinct nat_eq (map (λ m. m.spec.index.number) managed)
 
+-- Each address that the client wants after some turns has its basis in them.
 abbrev pub AddressesHaveBasis : Type 0
 AddressesHaveBasis = (managed : List Managed) (opening : OpeningMet) (mets : List Met)
     → AreNumbered managed → AllAnswered managed (opened_life managed opening) mets → (index : IfIndex) (net : Net)
