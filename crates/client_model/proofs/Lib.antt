@@ -1,7 +1,8 @@
 mod Apart
 mod Elsewhere
-mod HostTableRows
+pub mod HostTableRows
 mod HostTableChanges
 mod HostTableTurns
 mod HostTableWanted
-mod HostInLifeTurns
+pub mod HostInLifeTurns
+pub mod SameInterfaces

@@ -1,0 +1,12 @@
+use Rattle.evidence.proofs.Foretold.{foretold}
+use Rattle.evidence.proofs.HostRests.{opening_rests, turns_rest}
+use Rattle.evidence.proofs.laws.held_addresses_have_a_basis.Goals as goal
+
+pub returns-clause-opening : goal.returns-clause-opening
+returns-clause-opening c = opening_rests
+
+pub returns-clause-turns : goal.returns-clause-turns
+returns-clause-turns c = turns_rest
+
+pub returns-clause-foretold : goal.returns-clause-foretold
+returns-clause-foretold c = foretold

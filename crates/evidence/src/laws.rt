@@ -1,0 +1,44 @@
+ghost use Rattle.std.specs.Prelude.{◌≡◌, ◌∷◌, List, [], true};
+ghost use Rattle.world.specs.RowOrder.{has_row};
+ghost use Rattle.world.specs.declared.rows.HostRow.TheVariants.{Addr};
+ghost use Rattle.client_model.specs.Clients.{rows_of};
+ghost use Rattle.client_model.specs.Turns.{life_after};
+ghost use Rattle.client_model.specs.Opening.{opened_life};
+ghost use Rattle.client_model.specs.Lives.{AllAnswered};
+ghost use Rattle.evidence.specs.HeldAddresses.{ForetoldAreMet, OpeningRests, TurnsRest};
+ghost use Rattle.evidence.specs.Laws.{AddressesHaveBasis, CountedAreNumbered, NeedsThreeProbes, shown_of, site_of};
+ghost use Rattle.evidence.specs.LinkLocalBasis.{LinkLocalBasis};
+ghost use Rattle.evidence.specs.SevenTurns.{chosen_net, interface, opens, seven_shown, seven_turns};
+
+/// Law: over every list of turns and outcomes, each address that the client wants has its basis in what the life showed
+/// of its interface: a static line, or a choice that passed its probes (RFC 3927, sections 2.2.1 and 2.5).
+pub fn addresses_have_a_basis()
+    ensures { AddressesHaveBasis }
+{}
+
+/// Law: over devices that tell what they hold and which of their calls fail, after an opening and after every turn in which
+/// no host call failed, each address that the host holds on a managed interface has its basis in the same life. The turns
+/// are those that the devices foretell.
+pub fn held_addresses_have_a_basis()
+    ensures opening { OpeningRests }
+    ensures turns { TurnsRest }
+    ensures foretold { ForetoldAreMet }
+{}
+
+/// Law: interfaces that count from 1, as those of a script do, have unlike numbers.
+pub fn counted_interfaces_are_numbered()
+    ensures { CountedAreNumbered }
+{}
+
+/// Law: no link-local address has a basis before the link took three probes for it (RFC 5227, section 2.1.1).
+pub fn needs_three_probes()
+    ensures { NeedsThreeProbes }
+{}
+
+/// Law: a run of seven turns in which the client wants a link-local address, with its basis written out.
+pub fn seven_turns_give_a_basis()
+    ensures answered { AllAnswered (interface ∷ []) (opened_life (interface ∷ []) opens) seven_turns }
+    ensures wanted { has_row (rows_of (life_after (interface ∷ []) (opened_life (interface ∷ []) opens) seven_turns).client) (Addr interface.spec.index chosen_net) ≡ true }
+    ensures shown { shown_of (interface ∷ []) opens seven_turns interface ≡ seven_shown }
+    ensures basis { LinkLocalBasis (site_of (interface ∷ []) opens interface) chosen_net seven_shown }
+{}

@@ -1,0 +1,10 @@
+//! Why an address may be held: what a life shows of an interface, and what of it is evidence. Definitions, and the laws
+//! about them.
+#![tactic(auto)]
+
+mod laws;
+
+pub use laws::{
+    addresses_have_a_basis, counted_interfaces_are_numbered, held_addresses_have_a_basis,
+    needs_three_probes, seven_turns_give_a_basis,
+};
