@@ -1,4 +1,4 @@
-ghost use Rattle.std.specs.Prelude.{◌≤◌, length};
+ghost use Rattle.std.specs.Prelude.{◌<◌, length};
 
 use super::*;
 use net_types::{Ip4, Mac};
@@ -74,8 +74,13 @@ fn refusals(rt: HostRuntime) {
 
 // An OFFER as a server sends it: each form of value in the options area.
 fn offer() -> [u8; 300] {
-    let mut data = ack();
-    data[44..51].copy_from_slice(&[0; 7]);
+    let mut data = [0; 300];
+    // op, htype, hlen, hops, xid
+    data[..8].copy_from_slice(&[2, 1, 6, 0, 0, 0, 0, 1]);
+    // yiaddr
+    data[16..20].copy_from_slice(&[10, 0, 0, 50]);
+    data[28..34].copy_from_slice(&[2, 0, 0, 0, 0, 1]);
+    data[236..240].copy_from_slice(&[0x63, 0x82, 0x53, 0x63]);
     data[240..296].copy_from_slice(&OFFERED);
     data
 }
@@ -113,7 +118,9 @@ fn read_whole(rt: &HostRuntime, data: &[u8]) -> Result<usize, Fail> {
     let message = match read4(data) {
         Ok(message) => message,
         Err(Bad4::Malformed { place }) => {
-            assert!(rt; place < data.len());
+            if place >= data.len() {
+                return Err(Fail::from("a place past the message"));
+            }
             return Ok(0);
         }
         Err(_) => return Ok(0),
@@ -131,7 +138,9 @@ fn read_whole(rt: &HostRuntime, data: &[u8]) -> Result<usize, Fail> {
 fn spoil(rt: &HostRuntime, whole: [u8; 300]) -> Result<(), Fail> {
     for len in 0..300 {
         let read = read_whole(rt, &whole[..len])?;
-        assert!(rt; len >= 240 || read == 0);
+        if len < 240 && read != 0 {
+            return Err(Fail::from("a short message is read"));
+        }
     }
     for at in 0..300 {
         for byte in [0, 255] {
@@ -145,9 +154,11 @@ fn spoil(rt: &HostRuntime, whole: [u8; 300]) -> Result<(), Fail> {
 
 #[test]
 fn spoiled_replies(rt: HostRuntime) -> Result<(), Fail> {
-    // The addresses, and the time, are numbers of 4 bytes and addresses too.
-    assert_eq!(rt; read_whole(&rt, &offer())?, 20);
+    // Five values of 4 bytes, each an address, a list of one and a number; a domain; a search list; and a route, whose
+    // 8 bytes are two addresses too.
+    assert_eq!(rt; read_whole(&rt, &offer())?, 19);
     spoil(&rt, offer())?;
+    // Two servers of names.
     assert_eq!(rt; read_whole(&rt, &ack())?, 1);
     spoil(&rt, ack())
 }
@@ -169,33 +180,33 @@ fn said(kind: Kind4) -> Said4 {
 }
 
 // The message of a client with this vendor and host.
-fn written(rt: &HostRuntime, said: &Said4, vendor: &[u8], host: &[u8]) -> Result<Vec<u8>, Fail> {
+fn written(rt: &HostRuntime, said: &Said4, vendor: &[u8], host: &[u8]) -> Result<Vec<u8>, Fail>
+    requires vendor { length vendor.now < 256 }
+    requires host { length host.now < 256 }
+{
     let ask = Ask4 {
         client_id: Vec::from_slice(rt.alloc(), &[1, 2, 0, 0, 0, 0, 1])?,
         vendor: Vec::from_slice(rt.alloc(), vendor)?,
         host: Vec::from_slice(rt.alloc(), host)?,
         list: Vec::from_slice(rt.alloc(), &LIST)?,
     };
-    assert!(rt; ask.client_id.len() < 256);
-    assert!(rt; ask.vendor.len() < 256);
-    assert!(rt; ask.host.len() < 256);
-    assert!(rt; ask.list.len() < 256);
     Ok(write4(rt.alloc(), said, &ask)?)
 }
 
 // The message of 300 bytes with these options.
-fn message_with(ciaddr: [u8; 4], options: &[u8]) -> [u8; 300]
-    requires { length options.now ≤ 60 }
-{
-    let mut message = [0; 300];
-    // op, htype, hlen, hops, xid
-    message[..8].copy_from_slice(&[1, 1, 6, 0, 0, 0, 0, 1]);
-    message[12..16].copy_from_slice(&ciaddr);
+fn message_with(rt: &HostRuntime, ciaddr: [u8; 4], options: &[u8]) -> Result<Vec<u8>, Fail> {
+    let mut message = Vec::new(rt.alloc());
+    // op, htype, hlen, hops, xid, secs, flags
+    message.extend_from_slice(&[1, 1, 6, 0, 0, 0, 0, 1, 0, 0, 0, 0])?;
+    message.extend_from_slice(&ciaddr)?;
+    message.extend_from_slice(&[0; 12])?;
     // chaddr
-    message[28..34].copy_from_slice(&[2, 0, 0, 0, 0, 1]);
-    message[236..240].copy_from_slice(&[0x63, 0x82, 0x53, 0x63]);
-    message[240..240 + options.len()].copy_from_slice(options);
-    message
+    message.extend_from_slice(&[2, 0, 0, 0, 0, 1])?;
+    message.extend_from_slice(&[0; 202])?;
+    message.extend_from_slice(&[0x63, 0x82, 0x53, 0x63])?;
+    message.extend_from_slice(options)?;
+    message.resize(300, 0)?;
+    Ok(message)
 }
 
 // type, client identifier, largest message, codes wanted, end
@@ -234,21 +245,33 @@ fn writes_each_kind(rt: HostRuntime) -> Result<(), Fail> {
         number: 0x0a00_0001,
     };
     let bytes = written(&rt, &said(Kind4::Discover), b"", b"")?;
-    assert_eq!(rt; bytes.as_slice(), message_with([0; 4], &DISCOVER).as_slice());
+    assert_eq!(rt;
+        bytes.as_slice(),
+        message_with(&rt, [0; 4], &DISCOVER)?.as_slice()
+    );
     let mut selecting = said(Kind4::Request);
     selecting.asked = Some(address);
     selecting.server = Some(server);
     let bytes = written(&rt, &selecting, b"v", b"h")?;
-    assert_eq!(rt; bytes.as_slice(), message_with([0; 4], &SELECTING).as_slice());
+    assert_eq!(rt;
+        bytes.as_slice(),
+        message_with(&rt, [0; 4], &SELECTING)?.as_slice()
+    );
     let mut decline = said(Kind4::Decline);
     decline.asked = Some(address);
     decline.server = Some(server);
     let bytes = written(&rt, &decline, b"v", b"h")?;
-    assert_eq!(rt; bytes.as_slice(), message_with([0; 4], &DECLINE).as_slice());
+    assert_eq!(rt;
+        bytes.as_slice(),
+        message_with(&rt, [0; 4], &DECLINE)?.as_slice()
+    );
     let mut release = said(Kind4::Release);
     release.ciaddr = address;
     release.server = Some(server);
     let bytes = written(&rt, &release, b"v", b"h")?;
-    assert_eq!(rt; bytes.as_slice(), message_with([10, 0, 0, 50], &RELEASE).as_slice());
+    assert_eq!(rt;
+        bytes.as_slice(),
+        message_with(&rt, [10, 0, 0, 50], &RELEASE)?.as_slice()
+    );
     Ok(())
 }
