@@ -4,8 +4,7 @@
 
 use net_types::NoMemory;
 use std::alloc::Global;
-use std::env;
-use std::io;
+use std::{env, io};
 use v4_message::{Msg4, read4};
 use v4_options::{code, value};
 
