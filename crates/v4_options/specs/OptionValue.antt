@@ -1,11 +1,14 @@
 -- The value of an option is that of all its instances, end to end (RFC 3396, section 7).
 use Rattle.std.specs.Prelude.{ℕ, List, [], ◌∷◌, ◌++◌, map, filter, Option, Some, None, ◌==◌}
 use Rattle.std.specs.List.{flat_map}
-use Rattle.v4_options.specs.OptionArea.{Instance}
+use Rattle.v4_options.specs.OptionArea.{Instance, instances_in}
 
 -- the values of a code's instances
 abbrev pub pieces : ℕ → List Instance → List (List ℕ)
 pieces code instances = map (λ i. i.1) (filter (λ i. i.0 == code) instances)
+
+abbrev pub pieces_in : ℕ → List ℕ → List (List ℕ)
+pieces_in code area = pieces code (instances_in area)
 
 -- the pieces end to end, where there is one
 abbrev pub joined : List (List ℕ) → Option (List ℕ)

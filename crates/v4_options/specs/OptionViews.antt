@@ -2,10 +2,9 @@
 use Rattle.std.specs.Prelude.{ℕ, ◌+◌, List, ◌++◌, length, Option}
 use Rattle.v4_options.specs.declared.view.Areas.{Areas}
 use Rattle.v4_options.specs.declared.view.OptionView.{OptionView}
-use Rattle.v4_options.specs.declared.instances.Instances.{Instances}
 use Rattle.v4_options.specs.declared.instances.Pieces.{Pieces}
-use Rattle.v4_options.specs.OptionArea.{Instance, instances_in}
-use Rattle.v4_options.specs.OptionValue.{pieces}
+use Rattle.v4_options.specs.OptionArea.{Instance}
+use Rattle.v4_options.specs.OptionValue.{pieces_in}
 use Rattle.v4_options.specs.Overload.{Begins, overload_in, instances_over, malformed_over}
 
 -- the bytes of the areas options, file and sname
@@ -29,10 +28,6 @@ malformed_of areas =
 abbrev pub view_instances : OptionView → List Instance
 view_instances view = instances_over view.overload view.areas.options.now view.areas.file.now view.areas.sname.now
 
--- the instances that are left of a walk
-abbrev pub instances_left : Instances → List Instance
-instances_left walk = instances_in walk.options.now ++ instances_in walk.file.now ++ instances_in walk.sname.now
-
 -- the values of a code that are left of a walk
 abbrev pub pieces_left : Pieces → List (List ℕ)
-pieces_left walk = pieces walk.code (instances_left walk.instances)
+pieces_left walk = pieces_in walk.code walk.options.now ++ pieces_in walk.code walk.file.now ++ pieces_in walk.code walk.sname.now

@@ -2,6 +2,7 @@
 
 ghost use Rattle.std.specs.Prelude.{◌≡◌, ◌+◌, ◌^◌, ◌<◌, ℕ, [], ◌∷◌, length, Some, None, MatchOption, IfOk, IfErr};
 ghost use Rattle.v4_options.specs.OptionArea.{front_of, instances_in, malformed_in};
+ghost use Rattle.v4_options.specs.OptionValue.{pieces_in};
 ghost use Rattle.v4_options.specs.Overload.{overload_by, overload_in};
 ghost use Rattle.v4_options.specs.AreaSteps.{HasRoom, InstancesBy, MalformedBy, OverloadBy};
 
@@ -80,6 +81,20 @@ pub(crate) fn split_option(area: &[u8]) -> Option<(u8, &[u8], &[u8])>
             }
         }
     }
+}
+
+/// The value of an area's first instance of a code, and the area after it.
+pub(crate) fn find_option(area: &[u8], code: u8) -> Option<(&[u8], &[u8])>
+    ensures { MatchOption result (pieces_in code area.now ≡ []) (λ x. pieces_in code area.now ≡ x.0.now ∷ pieces_in code x.1.now) }
+{
+    let mut rest = area;
+    'instances: while let Some((found, value, others)) = split_option(rest) {
+        if found == code {
+            return Some((value, others));
+        }
+        rest = others;
+    }
+    None
 }
 
 /// What the value of an option 52 says of the other areas (RFC 2132, section 9.3).

@@ -1,20 +1,21 @@
-//! The walk over the instances of a message's options, which copies nothing, and the value of a code.
+//! The walk over the instances of a code, and its value.
 
 ghost use Rattle.std.specs.Prelude.{◌≡◌, ◌↔◌, ◌≢◌, [], IfOk, if◌then◌else◌};
 ghost use Rattle.std.specs.Option.{option_map};
 ghost use Rattle.std.specs.Iterator.{YieldsFirstBy, item_count};
 ghost use Rattle.v4_options.specs.OptionArea.{instances_in};
 ghost use Rattle.v4_options.specs.OptionValue.{pieces, joined, value_of, byte_of};
-ghost use Rattle.v4_options.specs.OptionViews.{view_instances, instances_left, pieces_left};
+ghost use Rattle.v4_options.specs.OptionViews.{view_instances, pieces_left};
 
-use crate::area::split_option;
+use crate::area::find_option;
 use crate::view::{OptionView, reads_file, reads_sname};
 use net_types::NoMemory;
 use std::alloc::{AllocError, Global};
 
-/// The instances of all options, each as its code and its value, in the order options, file, sname.
+/// The values of one code's instances that are left of a walk over the areas.
 #[derive(Clone, Copy, Debug)]
-pub struct Instances<'a> {
+pub struct Pieces<'a> {
+    code: u8,
     options: &'a [u8],
     file: &'a [u8],
     sname: &'a [u8],
@@ -28,56 +29,16 @@ fn area_where(is_read: bool, area: &[u8]) -> &[u8]
     if is_read { area } else { &[] }
 }
 
-/// The instances of the view's options.
-pub fn instances_of<'a>(view: &OptionView<'a>) -> Instances<'a>
-    ensures { instances_left result ≡ view_instances view.now }
-{
-    Instances {
-        options: view.areas.options,
-        file: area_where(reads_file(view.overload), view.areas.file),
-        sname: area_where(reads_sname(view.overload), view.areas.sname),
-    }
-}
-
-impl<'a> Iterator for Instances<'a> {
-    type Item = (u8, &'a [u8]);
-
-    ghost next_gives = { YieldsFirstBy (λ instance. (instance.0, instance.1.now)) instances_left };
-
-    ghost remaining = { item_count instances_left };
-
-    #[tactic(auto, using(crate::proofs::Fronts::instances_empty))]
-    fn next(&mut self) -> Option<(u8, &'a [u8])> {
-        if let Some((code, value, rest)) = split_option(self.options) {
-            self.options = rest;
-            return Some((code, value));
-        }
-        self.options = &[];
-        if let Some((code, value, rest)) = split_option(self.file) {
-            self.file = rest;
-            return Some((code, value));
-        }
-        self.file = &[];
-        let (code, value, rest) = split_option(self.sname)?;
-        self.sname = rest;
-        Some((code, value))
-    }
-}
-
-/// The values of one code's instances, in order.
-#[derive(Clone, Copy, Debug)]
-pub struct Pieces<'a> {
-    instances: Instances<'a>,
-    code: u8,
-}
-
-/// The values of the code's instances. End to end they are its value (RFC 3396).
+/// The values of the code's instances, in the order options, file, sname. End to end they are its value (RFC 3396).
+/// The walk copies nothing.
 pub fn pieces_of<'a>(view: &OptionView<'a>, code: u8) -> Pieces<'a>
     ensures { pieces_left result ≡ pieces code (view_instances view.now) }
 {
     Pieces {
-        instances: instances_of(view),
         code,
+        options: view.areas.options,
+        file: area_where(reads_file(view.overload), view.areas.file),
+        sname: area_where(reads_sname(view.overload), view.areas.sname),
     }
 }
 
@@ -88,13 +49,21 @@ impl<'a> Iterator for Pieces<'a> {
 
     ghost remaining = { item_count pieces_left };
 
+    #[tactic(auto, using(crate::proofs::Fronts::instances_empty))]
     fn next(&mut self) -> Option<&'a [u8]> {
-        while let Some((code, value)) = self.instances.next() {
-            if code == self.code {
-                return Some(value);
-            }
+        if let Some((piece, rest)) = find_option(self.options, self.code) {
+            self.options = rest;
+            return Some(piece);
         }
-        None
+        self.options = &[];
+        if let Some((piece, rest)) = find_option(self.file, self.code) {
+            self.file = rest;
+            return Some(piece);
+        }
+        self.file = &[];
+        let (piece, rest) = find_option(self.sname, self.code)?;
+        self.sname = rest;
+        Some(piece)
     }
 }
 

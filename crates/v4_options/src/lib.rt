@@ -11,7 +11,7 @@ mod routes;
 mod view;
 
 pub use domain_names::{search_of, text_of};
-pub use instances::{Instances, Pieces, byte_at, instances_of, pieces_of, value};
+pub use instances::{Pieces, byte_at, pieces_of, value};
 pub use laws::area_law;
 pub use numbers::{addr_of, addrs_of, u16_of, u32_of};
 pub use routes::{ClasslessRoute, routes_of};

@@ -30,11 +30,6 @@ fn split_option_over_areas(rt: HostRuntime) -> Result<(), Fail> {
     let view = options_of(areas)?;
     let servers = value(rt.alloc(), &view, code::DOMAIN_NAME_SERVERS)?.ok_or("no servers")?;
     assert_eq!(rt; servers.as_slice(), [10, 0, 0, 1, 10, 0, 0, 2].as_slice());
-    let mut last = code::PAD;
-    for (code, _) in instances_of(&view) {
-        last = code;
-    }
-    assert_eq!(rt; last, code::DOMAIN_NAME_SERVERS);
     for piece in pieces_of(&view, code::DOMAIN_NAME_SERVERS) {
         assert_eq!(rt; piece.len(), 4);
     }
@@ -44,12 +39,64 @@ fn split_option_over_areas(rt: HostRuntime) -> Result<(), Fail> {
 }
 
 #[test]
+fn split_number(rt: HostRuntime) -> Result<(), Fail> {
+    let view = options_of(Areas {
+        options: &[51, 2, 0, 0, 51, 2, 14, 16],
+        file: &[],
+        sname: &[],
+    })?;
+    let mut pieces = pieces_of(&view, code::LEASE_TIME);
+    assert!(rt; pieces.next().is_some());
+    assert!(rt; pieces.next().is_some());
+    assert!(rt; pieces.next().is_none());
+    let time = value(rt.alloc(), &view, code::LEASE_TIME)?.ok_or("no time")?;
+    assert_eq!(rt; u32_of(&time), Some(3600));
+    // The second part with one byte alone.
+    let view = options_of(Areas {
+        options: &[51, 2, 0, 0, 51, 1, 14],
+        file: &[],
+        sname: &[],
+    })?;
+    let time = value(rt.alloc(), &view, code::LEASE_TIME)?.ok_or("no time")?;
+    assert_eq!(rt; u32_of(&time), None);
+    Ok(())
+}
+
+const OVERLOADS: [(&[u8], u8); 8] = [
+    (&[], 0),
+    (&[52, 1, 1], 1),
+    (&[52, 1, 3], 3),
+    // A value or a length that counts as none.
+    (&[52, 1, 4], 0),
+    (&[52, 2, 1, 1], 0),
+    // The first one counts, also where it says none.
+    (&[52, 1, 1, 52, 1, 2], 1),
+    (&[52, 0, 52, 1, 2], 0),
+    // What stands behind the end.
+    (&[0, 255, 52, 1, 2], 0),
+];
+
+#[test]
+fn overloads(rt: HostRuntime) -> Result<(), Fail> {
+    for (options, overload) in &OVERLOADS {
+        let areas = Areas {
+            options,
+            file: &[],
+            sname: &[],
+        };
+        assert_eq!(rt; options_of(areas)?.overload, *overload);
+    }
+    Ok(())
+}
+
+#[test]
 fn malformed_places(rt: HostRuntime) {
-    // A value past its area, a missing length byte, and a fault in file behind 8 bytes of options.
-    let places: [(&[u8], &[u8], usize); 3] = [
+    // A value past its area, a missing length byte, a fault in file behind 8 bytes of options, and faults in both.
+    let places: [(&[u8], &[u8], usize); 4] = [
         (&[0, 53, 1, 5, 6, 4, 10], &[], 4),
         (&[53, 1, 5, 6], &[], 3),
         (&[52, 1, 1, 0, 0, 0, 0, 255], &[0, 6, 9], 9),
+        (&[52, 1, 1, 6], &[6, 9], 3),
     ];
     for (options, file, place) in &places {
         let areas = Areas {
