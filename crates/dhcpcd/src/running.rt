@@ -1,4 +1,4 @@
-ghost use Rattle.std.specs.Prelude.{◌≡◌, true, codes, map};
+ghost use Rattle.std.specs.Prelude.{◌≡◌, [], ◌∷◌, true, map};
 ghost use Rattle.std.specs.String.{string_bytes};
 ghost use Rattle.dhcpcd.specs.Statuses.{HasStatusCause, IsAnswer};
 ghost use Rattle.dhcpcd.specs.Words.{AskReplay};
@@ -8,20 +8,14 @@ use crate::status::Status;
 use std::alloc::Global;
 use world::{Sink, Source};
 
-fn is_replay(word: &str) -> bool
-    ensures yes { result ≡ true → word.now ≡ codes "replay" }
-    ensures no { word.now ≡ codes "replay" → result ≡ true }
-{
-    word == "replay"
-}
-
+/// Whether the words are this one, and no other.
 #[tactic(auto, using(crate::proofs::OneWord::one_word))]
-fn ask_replay(words: &[String]) -> bool
-    ensures yes { result ≡ true → AskReplay (map string_bytes words.now) }
-    ensures no { AskReplay (map string_bytes words.now) → result ≡ true }
+pub fn is_alone(words: &[String], word: &str) -> bool
+    ensures yes { result ≡ true → map string_bytes words.now ≡ word.now ∷ [] }
+    ensures no { map string_bytes words.now ≡ word.now ∷ [] → result ≡ true }
 {
     match words {
-        [word] => is_replay(word.as_str()),
+        [only] => only.as_str() == word,
         _ => false,
     }
 }
@@ -39,7 +33,7 @@ pub fn run<I: Source, O: Sink>(
     ensures usage { (AskReplay (map string_bytes words.now) → ⊥) → (result ≡ Status.Usage) × (I.left input.new ≡ I.left input.old) × (O.written out.new ≡ O.written out.old) }
     ensures cause { HasStatusCause result (I.faults input.old) (I.faults input.new) (O.faults out.old) (O.faults out.new) }
 {
-    if !ask_replay(words) {
+    if !is_alone(words, "replay") {
         return Status::Usage;
     }
     match replay(alloc, input, out) {
