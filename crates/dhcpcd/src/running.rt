@@ -8,6 +8,13 @@ use crate::status::Status;
 use std::alloc::Global;
 use world::{Sink, Source};
 
+fn is_same(given: &str, word: &str) -> bool
+    ensures yes { result ≡ true → given.now ≡ word.now }
+    ensures no { given.now ≡ word.now → result ≡ true }
+{
+    given == word
+}
+
 /// Whether the words are this one, and no other.
 #[tactic(auto, using(crate::proofs::OneWord::one_word))]
 pub fn is_alone(words: &[String], word: &str) -> bool
@@ -15,7 +22,7 @@ pub fn is_alone(words: &[String], word: &str) -> bool
     ensures no { map string_bytes words.now ≡ word.now ∷ [] → result ≡ true }
 {
     match words {
-        [only] => only.as_str() == word,
+        [only] => is_same(only.as_str(), word),
         _ => false,
     }
 }
