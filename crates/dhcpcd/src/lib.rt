@@ -10,5 +10,6 @@ mod status;
 #[cfg(test)]
 mod tests;
 
-pub use running::run;
+pub use replaying::write_text;
+pub use running::{is_alone, run};
 pub use status::Status;

@@ -106,7 +106,8 @@ fn settle(alloc: Global, bytes: &[u8]) -> Result<Settled, Status>
     }
 }
 
-fn write_text<O: Sink>(out: &mut O, text: &[u8]) -> Result<(), Status>
+/// Writes a text in one call.
+pub fn write_text<O: Sink>(out: &mut O, text: &[u8]) -> Result<(), Status>
     ensures ok { IfOk result (λ _. (O.faults out.old ≤ O.faults out.new) × WritesBytes (O.written out.old) (O.written out.new) text.now) }
     ensures some { IfErr result (λ _. WritesSome (O.written out.old) (O.written out.new) text.now) }
     ensures cause { IfErr result (λ status. HasStatusCause status 0 0 (O.faults out.old) (O.faults out.new) × StopsWriting status) }

@@ -1,4 +1,4 @@
-ghost use Rattle.std.specs.Prelude.{◌≡◌, true, codes, map};
+ghost use Rattle.std.specs.Prelude.{◌≡◌, [], ◌∷◌, true, map};
 ghost use Rattle.std.specs.String.{string_bytes};
 ghost use Rattle.dhcpcd.specs.Input.{ReadsWithin};
 ghost use Rattle.dhcpcd.specs.Statuses.{HasStatusCause, IsAnswer, SpellsScript, CompletesScript};
@@ -9,20 +9,21 @@ use crate::status::Status;
 use std::alloc::Global;
 use world::{Sink, Source};
 
-fn is_replay(word: &str) -> bool
-    ensures yes { result ≡ true → word.now ≡ codes "replay" }
-    ensures no { word.now ≡ codes "replay" → result ≡ true }
+fn is_same(given: &str, word: &str) -> bool
+    ensures yes { result ≡ true → given.now ≡ word.now }
+    ensures no { given.now ≡ word.now → result ≡ true }
 {
-    word == "replay"
+    given == word
 }
 
+/// Whether the words are this one, and no other.
 #[tactic(auto, using(crate::proofs::OneWord::one_word))]
-fn ask_replay(words: &[String]) -> bool
-    ensures yes { result ≡ true → AskReplay (map string_bytes words.now) }
-    ensures no { AskReplay (map string_bytes words.now) → result ≡ true }
+pub fn is_alone(words: &[String], word: &str) -> bool
+    ensures yes { result ≡ true → map string_bytes words.now ≡ word.now ∷ [] }
+    ensures no { map string_bytes words.now ≡ word.now ∷ [] → result ≡ true }
 {
     match words {
-        [word] => is_replay(word.as_str()),
+        [only] => is_same(only.as_str(), word),
         _ => false,
     }
 }
@@ -43,7 +44,7 @@ pub fn run<I: Source, O: Sink>(
     ensures complete { AskReplay (map string_bytes words.now) → SpellsScript (I.left input.old) → I.faults input.new ≡ I.faults input.old → O.faults out.new ≡ O.faults out.old → CompletesScript result }
     ensures reads { AskReplay (map string_bytes words.now) → ReadsWithin (I.left input.old) (I.left input.new) (I.reads input.old) (I.reads input.new) }
 {
-    if !ask_replay(words) {
+    if !is_alone(words, "replay") {
         return Status::Usage;
     }
     match replay(alloc, input, out) {

@@ -5,7 +5,9 @@ use std::io::Result;
 fn line(rt: &HostRuntime, status: Status) -> Result<()> {
     match status {
         Status::Done => Ok(()),
-        Status::Usage => eprintln!(rt; "dhcpcd: usage: replay"),
+        Status::Usage => eprintln!(rt;
+            "dhcpcd: usage: replay / check / live PORT PEER DIR SCRIPT IFACE.."
+        ),
         Status::Script(ScriptFault { line, cause }) => {
             eprintln!(rt; "dhcpcd: script line {line}: {cause:?}")
         }

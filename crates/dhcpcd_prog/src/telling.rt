@@ -1,0 +1,40 @@
+ghost use Rattle.dhcpcd.specs.Statuses.{HasStatusCause};
+ghost use Rattle.dhcpcd_prog.specs.Telling.{IsTold};
+
+use dhcpcd::{Status, write_text};
+use world::Sink;
+
+/// What `--help` prints.
+pub const HELP: &str = "dhcpcd: a DHCP client daemon; so far it replays event scripts
+
+usage: dhcpcd replay < SCRIPT > TRANSCRIPT
+       dhcpcd --help
+       dhcpcd --version
+
+replay reads a script from standard input, at most 16777216 bytes, lives it over
+devices in memory, and writes the transcript of every call to standard output.
+The words `check` and `live PORT PEER DIR SCRIPT IFACE..` aren't built yet.
+
+exit status, with a line on standard error for each but 0:
+   0  all was read and written
+   2  the words are of no form
+   3  the input is no script, or asks for what isn't built
+   5  standard input can't be read
+   6  standard output can't be written
+   9  the input is too long
+  10  no memory
+";
+
+/// What `--version` prints.
+pub const VERSION: &str = "dhcpcd 0.1.0\n";
+
+/// Writes a text of the program's own.
+pub fn tell<O: Sink>(out: &mut O, text: &str) -> Status
+    ensures told { IsTold result (O.written out.old) (O.written out.new) text.now }
+    ensures cause { HasStatusCause result 0 0 (O.faults out.old) (O.faults out.new) }
+{
+    match write_text(out, text.as_bytes()) {
+        Ok(()) => Status::Done,
+        Err(status) => status,
+    }
+}
