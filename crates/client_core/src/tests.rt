@@ -1,8 +1,14 @@
+ghost use Rattle.std.specs.Prelude.{IfSome};
+ghost use Rattle.client_model.specs.Fitting.{FitsLine};
+
 use crate::{Core, Outs, Turn, TurnInput, core_due, core_open, rows, step};
 use client_model::{IfConf, Managed, StaticLine};
-use net_types::{IfIndex, IfSpec, Mac, Name, read_ip4, read_net4};
+use frame_link::arp_frame;
+use machine::clamp_moment;
+use net_types::{IfIndex, IfSpec, Ip4, Mac, Name, read_ip4, read_net4};
 use std::alloc::Global;
 use std::fmt::Write;
+use std::process::Abort;
 use std::test::Fail;
 use world::Begin;
 
@@ -17,6 +23,9 @@ const ETH0: IfSpec = IfSpec {
     },
 };
 
+/// 169.254.1.1
+const CHOSEN: u32 = 0xa9fe_0101;
+
 /// Another host, 02:00:00:00:00:aa, answers that it has 169.254.1.1.
 const REPLY: [u8; 42] = [
     2, 0, 0, 0, 0, 1, 2, 0, 0, 0, 0, 0xaa, 8, 6, // Ethernet
@@ -26,7 +35,9 @@ const REPLY: [u8; 42] = [
 ];
 
 /// The client over eth0, which has carrier at the moment 0.
-fn opened(alloc: Global, conf: IfConf) -> Result<Core, Fail> {
+fn opened(alloc: Global, conf: IfConf) -> Result<Core, Fail>
+    requires { IfSome conf.line FitsLine }
+{
     let managed = [Managed { spec: ETH0, conf }];
     let begin = Begin {
         at: 0,
@@ -62,7 +73,7 @@ fn with_local(alloc: Global) -> Result<Core, Fail> {
 
 fn turned(core: Core, at: u64, input: TurnInput<'_>) -> Result<(Core, Outs), Fail> {
     let turn = Turn {
-        at: at.min(999_999_999_999_999),
+        at: clamp_moment(at),
         salt: 0,
         unsent: 0,
         input,
@@ -70,14 +81,23 @@ fn turned(core: Core, at: u64, input: TurnInput<'_>) -> Result<(Core, Outs), Fai
     Ok(step(core, turn)?)
 }
 
-/// After quiet turns at these moments.
-fn after(core: Core, moments: &[u64]) -> Result<Core, Fail> {
-    let mut core = core;
-    for at in moments {
-        let (next, _) = turned(core, *at, TurnInput::Quiet)?;
-        core = next;
-    }
+/// The client after a quiet turn.
+fn after(core: Core, at: u64) -> Result<Core, Fail> {
+    let (core, _) = turned(core, at, TurnInput::Quiet)?;
     Ok(core)
+}
+
+/// Whether the frames are one frame of this sender that asks for this address, or none where there is no sender.
+fn is_said(outs: &Outs, sender: Option<u32>, target: u32) -> bool {
+    match (sender, outs.sends.first()) {
+        (None, None) => true,
+        (Some(number), Some(sending)) => {
+            let frame = arp_frame(ETH0.mac, Ip4 { number }, Ip4 { number: target });
+            sending.iface == ETH0.index && sending.bytes.as_slice() == &frame[..]
+        }
+        (None, Some(_)) => false,
+        (Some(_), None) => false,
+    }
 }
 
 /// The rows that are wanted, a line each.
@@ -145,38 +165,36 @@ fn rows_go_with_the_carrier_and_at_a_stop(rt: HostRuntime) -> Result<(), Fail> {
     Ok(())
 }
 
+/// A quiet turn in which eth0 says this of 169.254.1.1, after which its machine is due at `due`.
+fn says(
+    rt: &impl Abort,
+    core: Core,
+    at: u64,
+    sender: Option<u32>,
+    due: Option<u64>,
+) -> Result<Core, Fail> {
+    let (core, outs) = turned(core, at, TurnInput::Quiet)?;
+    assert!(rt; is_said(&outs, sender, CHOSEN));
+    assert!(rt; outs.sends.len() < 2);
+    assert_eq!(rt; core_due(&core), due);
+    Ok(core)
+}
+
 #[test]
 fn a_link_local_address_is_probed_and_announced(rt: HostRuntime) -> Result<(), Fail> {
     let alloc = rt.alloc();
-    let mut core = with_local(alloc)?;
-    let text = "addr 1 169.254.1.1/16\nroute 1 169.254.0.0/16 metric 1001\n";
-    // The moment, the sender's address in the frame, whether the address is wanted, and when the machine is due next.
-    let turns = [
-        (0, None, false, Some(1)),
-        (1, Some([0; 4]), false, Some(1002)),
-        (1002, Some([0; 4]), false, Some(2003)),
-        (2003, Some([0; 4]), false, Some(4003)),
-        (4003, Some([169, 254, 1, 1]), true, Some(6003)),
-        (6003, Some([169, 254, 1, 1]), true, None),
-    ];
+    let core = with_local(alloc)?;
     assert_eq!(rt; core_due(&core), Some(0));
-    for (at, sender, is_held, due) in turns {
-        let (next, outs) = turned(core, at, TurnInput::Quiet)?;
-        core = next;
-        match (sender, outs.sends.first()) {
-            (None, None) => {}
-            (Some(sender), Some(sending)) => {
-                assert_eq!(rt; sending.iface.number, 1);
-                assert_eq!(rt; &sending.bytes[28..32], &sender[..]);
-                assert_eq!(rt; &sending.bytes[38..42], &[169, 254, 1, 1][..]);
-            }
-            (_, _) => assert!(rt; false),
-        }
-        assert!(rt; outs.sends.len() < 2);
-        let wanted = wanted_text(alloc, &core)?;
-        assert_eq!(rt; wanted.as_str(), if is_held { text } else { "" });
-        assert_eq!(rt; core_due(&core), due);
-    }
+    let core = says(&rt, core, 0, None, Some(1))?;
+    let core = says(&rt, core, 1, Some(0), Some(1002))?;
+    let core = says(&rt, core, 1002, Some(0), Some(2003))?;
+    let core = says(&rt, core, 2003, Some(0), Some(4003))?;
+    assert!(rt; rows(&core).is_empty());
+    let text = "addr 1 169.254.1.1/16\nroute 1 169.254.0.0/16 metric 1001\n";
+    let core = says(&rt, core, 4003, Some(CHOSEN), Some(6003))?;
+    assert_eq!(rt; wanted_text(alloc, &core)?.as_str(), text);
+    let core = says(&rt, core, 6003, Some(CHOSEN), None)?;
+    assert_eq!(rt; wanted_text(alloc, &core)?.as_str(), text);
     let (core, _) = turned(core, 7000, TurnInput::Stop)?;
     assert!(rt; rows(&core).is_empty());
     Ok(())
@@ -184,15 +202,18 @@ fn a_link_local_address_is_probed_and_announced(rt: HostRuntime) -> Result<(), F
 
 #[test]
 fn a_conflict_gives_another_choice(rt: HostRuntime) -> Result<(), Fail> {
-    let alloc = rt.alloc();
-    let core = after(with_local(alloc)?, &[0, 1, 1002])?;
+    let core = after(after(after(with_local(rt.alloc())?, 0)?, 1)?, 1002)?;
+    let elsewhere = TurnInput::Frame {
+        iface: 2,
+        bytes: &REPLY,
+    };
     let reply = TurnInput::Frame {
         iface: 1,
         bytes: &REPLY,
     };
-    let elsewhere = TurnInput::Frame {
-        iface: 2,
-        bytes: &REPLY,
+    let lost = TurnInput::Carrier {
+        iface: 1,
+        up: false,
     };
     let (core, _) = turned(core, 1400, elsewhere)?;
     assert_eq!(rt; core_due(&core), Some(2003));
@@ -200,12 +221,7 @@ fn a_conflict_gives_another_choice(rt: HostRuntime) -> Result<(), Fail> {
     assert!(rt; outs.sends.is_empty());
     assert_eq!(rt; core_due(&core), Some(1501));
     let (core, outs) = turned(core, 1501, TurnInput::Quiet)?;
-    let probe = outs.sends.first().ok_or("a probe is sent")?;
-    assert_eq!(rt; &probe.bytes[38..42], &[169, 254, 1, 2][..]);
-    let lost = TurnInput::Carrier {
-        iface: 1,
-        up: false,
-    };
+    assert!(rt; is_said(&outs, Some(0), CHOSEN + 1));
     let (core, _) = turned(core, 2000, lost)?;
     assert_eq!(rt; core_due(&core), None);
     Ok(())
