@@ -238,13 +238,13 @@ front_wider (Some w) new whole lines more p =
     let is : lines_text (whole ++ (lines ++ more)) ≡ front ++ rest =
     flat_map-append line_text whole (lines ++ more)
     ∙ ap (λ (x : List ℕ). lines_text whole ++ x) (flat_map-append line_text lines more
-      ∙ ap (λ (x : List ℕ). x ++ lines_text more) (sym (take-append-drop p.0 (lines_text lines)))
-      ∙ append_assoc some (drop p.0 (lines_text lines)) (lines_text more))
+    ∙ ap (λ (x : List ℕ). x ++ lines_text more) (sym (take-append-drop p.0 (lines_text lines)))
+    ∙ append_assoc some (drop p.0 (lines_text lines)) (lines_text more))
     ∙ sym (append_assoc (lines_text whole) some rest) in (
       length front,
       p.1 ∙ ap (λ (x : List ℕ). Some x) (append_assoc w (lines_text whole) some
-        ∙ ap (λ (x : List ℕ). x ++ front) (sym (append-nil w))
-        ∙ ap (λ (x : List ℕ). (w ++ []) ++ x) (sym (take-append_seam front rest) ∙ ap (λ (x : List ℕ). take (length front) x) (sym is))),
+          ∙ ap (λ (x : List ℕ). x ++ front) (sym (append-nil w))
+          ∙ ap (λ (x : List ℕ). (w ++ []) ++ x) (sym (take-append_seam front rest) ∙ ap (λ (x : List ℕ). take (length front) x) (sym is))),
     )
 
 -- lines were written, and then a front of others

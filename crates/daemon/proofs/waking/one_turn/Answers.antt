@@ -54,5 +54,5 @@ pub returns-in_err-write_all-clause-cut : goal.returns-in_err-write_all-clause-c
 returns-in_err-write_all-clause-cut g c =
     error_is c.from_residual-in_err-write_all.result c.in_err-write_all.field-0.0 (λ end. BreaksOff end c.args.managed.now (g.H.Host.failing c.args.live.now.host) (life_of c.args.life) (g.H.Host.told c.args.live.now.host) (g.L.Link.told c.args.live.now.link) (g.O.Sink.written c.args.out.now) (g.O.Sink.written c.write_all.new.out)) c.from_residual-in_err-write_all.ensures.1
     (breaks_in_turn c.in_err-write_all.field-0.0 c.args.managed.now (g.H.Host.failing c.args.live.now.host) (life_of c.args.life) (life_of c.in_ok-life.life) (g.H.Host.told c.args.live.now.host) (g.H.Host.told c.turn.new.host) (g.L.Link.told c.args.live.now.link) (g.L.Link.told c.wait.new.link) (g.O.Sink.written c.args.out.now) (g.O.Sink.written c.write_all.new.out) c.in_ok-wake.wake c.front.result.now c.clear.new.self.items c.turn.new.text.items c.deref.result.now _ c.wait.new.buf _ _
-        c.in_ok-life.ensures.made c.clear.ensures.items c.deref.ensures.value c.in_err-write_all.ensures.some
-        c.requires.going (sym c.ends_life.ensures ∙ c.if-ends_life.false) (c.wait.auto.buf ∙ c.requires.room) (c.front.ensures ∙ ap (λ n. take n c.wait.new.buf) c.frame_size-len.ensures) c.in_ok-wake.ensures.ok.2 c.in_err-write_all.ensures.cause)
+    c.in_ok-life.ensures.made c.clear.ensures.items c.deref.ensures.value c.in_err-write_all.ensures.some
+    c.requires.going (sym c.ends_life.ensures ∙ c.if-ends_life.false) (c.wait.auto.buf ∙ c.requires.room) (c.front.ensures ∙ ap (λ n. take n c.wait.new.buf) c.frame_size-len.ensures) c.in_ok-wake.ensures.ok.2 c.in_err-write_all.ensures.cause)
