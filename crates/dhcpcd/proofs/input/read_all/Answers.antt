@@ -1,4 +1,4 @@
-use Rattle.std.proofs.Common.{◌≤◌, ◌+◌, ◌-◌, length, take, arith}
+use Rattle.std.proofs.Common.{◌-◌, length, take, arith}
 use Rattle.std.proofs.Math.Nat.{min-le_left, min-le_right}
 use Rattle.std.proofs.lemmas.List.{length-take}
 use Rattle.dhcpcd.proofs.Inputs.{within_stopped}
