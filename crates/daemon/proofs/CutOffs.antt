@@ -1,5 +1,5 @@
 -- Lives that are cut off.
-use Rattle.std.proofs.Common.{ℕ, ◌≡◌, ◌<◌, ◌≤◌, false, List, [], ◌∷◌, ◌++◌, length, take, drop, Option, Some, None, inl, inr, refl, sym, ap, subst, ◌∙◌, append_assoc, append-nil, arith}
+use Rattle.std.proofs.Common.{ℕ, ◌≡◌, false, List, [], ◌∷◌, ◌++◌, length, take, drop, Option, Some, None, inl, inr, refl, sym, ap, subst, ◌∙◌, append_assoc, append-nil, arith}
 use Rattle.std.proofs.Math.Seq.{take-append_seam}
 use Rattle.std.proofs.lemmas.List.{take-append-drop}
 use Rattle.std.proofs.lemmas.List.Concat.{flat_map-append}
@@ -239,13 +239,13 @@ front_wider (Some w) new whole lines more p =
     let is : lines_text (whole ++ (lines ++ more)) ≡ front ++ rest =
     flat_map-append line_text whole (lines ++ more)
     ∙ ap (λ (x : List ℕ). lines_text whole ++ x) (flat_map-append line_text lines more
-      ∙ ap (λ (x : List ℕ). x ++ lines_text more) (sym (take-append-drop p.0 (lines_text lines)))
-      ∙ append_assoc some (drop p.0 (lines_text lines)) (lines_text more))
+    ∙ ap (λ (x : List ℕ). x ++ lines_text more) (sym (take-append-drop p.0 (lines_text lines)))
+    ∙ append_assoc some (drop p.0 (lines_text lines)) (lines_text more))
     ∙ sym (append_assoc (lines_text whole) some rest) in (
       length front,
       p.1 ∙ ap (λ (x : List ℕ). Some x) (append_assoc w (lines_text whole) some
-        ∙ ap (λ (x : List ℕ). x ++ front) (sym (append-nil w))
-        ∙ ap (λ (x : List ℕ). (w ++ []) ++ x) (sym (take-append_seam front rest) ∙ ap (λ (x : List ℕ). take (length front) x) (sym is))),
+          ∙ ap (λ (x : List ℕ). x ++ front) (sym (append-nil w))
+          ∙ ap (λ (x : List ℕ). (w ++ []) ++ x) (sym (take-append_seam front rest) ∙ ap (λ (x : List ℕ). take (length front) x) (sym is))),
     )
 
 -- lines were written, and then a front of others

@@ -1,5 +1,5 @@
 -- What the answers of the top call come to.
-use Rattle.std.proofs.Common.{ℕ, ◌≡◌, ◌≤◌, ◌<◌, List, [], length, Option, Some, None, inl, inr, sym, subst, ◌∙◌, arith}
+use Rattle.std.proofs.Common.{ℕ, ◌≡◌, ◌≤◌, List, [], length, Option, Some, None, inr, sym, subst, arith}
 use Rattle.client_model.specs.declared.interfaces.Managed.{Managed}
 use Rattle.client_model.specs.Scripts.{ScriptLines}
 use Rattle.daemon.specs.Cuts.{WritesFront}

@@ -1,6 +1,6 @@
 -- Why bytes are no script.
-use Rattle.std.proofs.Common.{ℕ, ◌≡◌, ◌≤◌, List, length, All, Option, Some, None, Result, Ok, Err, IfErr, inl, sym, ap, subst, ◌∙◌}
-use Rattle.std.specs.Prelude.{flat_map, option_map, IsErrAnd}
+use Rattle.std.proofs.Common.{ℕ, ◌≡◌, ◌≤◌, List, length, All, Option, Some, None, inl, sym, ap, subst, ◌∙◌}
+use Rattle.std.specs.Prelude.{flat_map, option_map}
 use Rattle.std.proofs.lemmas.List.Elements.{All-weaker}
 use Rattle.net_types.specs.declared.interface.IfSpec.{IfSpec}
 use Rattle.net_types.proofs.ReadsLaws.{texts_apart}
@@ -88,10 +88,6 @@ settled_rows bytes script managed is = All-weaker IsBuiltRow IsRow (λ r b. b.is
 
 pub refused_for_configuration : (answer : Status) (bytes : List ℕ) (script : Script) → IsRead bytes script → IsRefused answer (IsNoConfiguration script.conf.items) → IsRefused answer (IsNoScript bytes)
 refused_for_configuration answer bytes script read refused = refused_on answer (IsNoConfiguration script.conf.items) (IsNoScript bytes) (conf_refused bytes script read) refused
-
-pub error_is : {A : Type 0} (r : Result A Status) (answer : Status) (P : Status → Type 0) → IsErrAnd r (λ e. e ≡ answer) → P answer → IfErr r P
-error_is (Ok a) answer P is p = tt
-error_is (Err e) answer P is p = subst P (sym is) p
 
 none_of : {A B : Type 0} (f : A → B) (found : Option A) (made : Option B) → found ≡ None → option_map f found ≡ made → made ≡ None
 none_of f found made none same = sym same ∙ ap (option_map f) none

@@ -24,7 +24,7 @@ use std::alloc::Global;
 use world::{DeviceAnswer, Sink, Source};
 
 /// Lives the script's life over devices in memory, and writes its lines.
-#[tactic(auto, using(crate::proofs::WholeLife::lived, crate::proofs::WholeLife::all_come, crate::proofs::WholeLife::stops_life, daemon::proofs::CutOffs::front_none))]
+#[tactic(auto, using(crate::proofs::WholeLife::lived, crate::proofs::WholeLife::stops_life, daemon::proofs::CutOffs::front_none))]
 fn replay_life<O: Sink>(
     alloc: Global,
     managed: &[Managed],

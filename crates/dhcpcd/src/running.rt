@@ -31,7 +31,6 @@ pub fn is_alone(words: &[String], word: &str) -> bool
 /// Does what the words after the program's name ask for: `replay` reads a script of at most 16,777,216 bytes from the
 /// input, and writes its transcript. Other words are `Usage`, and touch nothing. Where the input can't be read, is too
 /// long or is no script, nothing is written; after `WriteFault` and `NoMemory` a front of the transcript stands written.
-#[tactic(auto, using(crate::proofs::Endings::completes))]
 pub fn run<I: Source, O: Sink>(
     alloc: Global,
     words: &[String],

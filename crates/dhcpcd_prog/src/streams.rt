@@ -9,20 +9,28 @@ use world::{DeviceAnswer, Failed, Sink, Source};
 pub struct StdSource {
     stdin: Stdin,
     faults: u64,
+    reads: u64,
 }
 
 impl StdSource {
     pub fn new(stdin: Stdin) -> StdSource {
-        StdSource { stdin, faults: 0 }
+        StdSource {
+            stdin,
+            faults: 0,
+            reads: 0,
+        }
     }
 }
 
 impl Source for StdSource {
     ghost faults = { λ source. source.faults };
 
+    ghost reads = { λ source. source.reads };
+
     ghost left = { λ source. None };
 
     fn read(&mut self, buf: &mut [u8]) -> Result<usize, Failed> {
+        self.reads = self.reads.saturating_add(1);
         match self.stdin.read(buf) {
             Ok(n) => Ok(n),
             Err(_) => match self.faults.checked_add(1) {

@@ -1,6 +1,7 @@
 use Rattle.std.proofs.Common.{refl, subst}
+use Rattle.daemon.proofs.Causes.{error_is}
 use Rattle.dhcpcd.specs.Statuses.{IsAnswer, IsRefused, IsNoScript}
-use Rattle.dhcpcd.proofs.Refusals.{error_is, refused_answer}
+use Rattle.dhcpcd.proofs.Refusals.{refused_answer}
 use Rattle.dhcpcd.proofs.replaying.replay.Goals as goal
 
 pub returns-in_err-settled-clause-err : goal.returns-in_err-settled-clause-err

@@ -3,8 +3,9 @@ use Rattle.conf_text.specs.Settings.{configuration, managed_of}
 use Rattle.conf_text.specs.Reading.{IsConfigurationOf, IsNoConfiguration}
 use Rattle.std.specs.Prelude.{option_map}
 use Rattle.replay_text.specs.declared.script.ScriptCause.TheVariants.{NotBuilt}
+use Rattle.daemon.proofs.Causes.{error_is}
 use Rattle.dhcpcd.specs.Statuses.{IsNoScript, IsRefused}
-use Rattle.dhcpcd.proofs.Refusals.{error_is, refused_for_configuration, refused_for_settings, settled, some_of}
+use Rattle.dhcpcd.proofs.Refusals.{refused_for_configuration, refused_for_settings, settled, some_of}
 use Rattle.dhcpcd.proofs.replaying.settle.Goals as goal
 
 pub returns-in_err-conf-clause-bad : goal.returns-in_err-conf-clause-bad
