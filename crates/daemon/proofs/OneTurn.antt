@@ -110,11 +110,12 @@ module _ (managed : List Managed) (failing : Failing) (from : Life) (link : Link
       let told_after : told_by link_after after_told ≡ record { sent = link.sends + frames; host = after_told } =
       ap (λ (n : ℕ). record { sent = n; host = after_told }) (offered_all-sends sends taken (waited until (Some (record { wake = wake; bytes = take (frame_len wake.event) given.bytes })) coming link) answers) in
       let comes_on : link_after.coming ≡ coming = offered_all-coming sends taken (waited until (Some (record { wake = wake; bytes = take (frame_len wake.event) given.bytes })) coming link) in
-      let base : IsRest managed failing (told_turns managed failing from (told_by link host) (given ∷ coming)) (length (given ∷ coming)) (met_with wake bytes taken met ∷ []) (turned managed from (met_with wake bytes taken met)) (Some after_told) (Some link_after) =
-      (rest_of given coming wake_is (bytes_are ∙ comes.1)
-          ∙ ap (λ (t : Told). met_with wake bytes taken met ∷ told_turns managed failing (turned managed from (met_with wake bytes taken met)) t coming) (sym told_after)
-          ∙ ap (λ (c : List Given). met_with wake bytes taken met ∷ told_turns managed failing (turned managed from (met_with wake bytes taken met)) (told_by link_after after_told) c) (sym comes_on),
-        omega (arith, ap length comes_on)) in
+      let base : IsRest managed failing (told_turns managed failing from (told_by link host) (given ∷ coming)) (length (given ∷ coming)) (met_with wake bytes taken met ∷ []) (turned managed from (met_with wake bytes taken met)) (Some after_told) (Some link_after) = (
+        rest_of given coming wake_is (bytes_are ∙ comes.1)
+            ∙ ap (λ (t : Told). met_with wake bytes taken met ∷ told_turns managed failing (turned managed from (met_with wake bytes taken met)) t coming) (sym told_after)
+            ∙ ap (λ (c : List Given). met_with wake bytes taken met ∷ told_turns managed failing (turned managed from (met_with wake bytes taken met)) (told_by link_after after_told) c) (sym comes_on),
+        omega (arith, ap length comes_on),
+      ) in
       subst (λ (l : Option LinkTold). IsRest managed failing (told_turns managed failing from (told_by link host) (given ∷ coming)) (length (given ∷ coming)) (met_with wake bytes taken met ∷ []) (turned managed from (met_with wake bytes taken met)) host_to l) (sym (offers ∙ ap (option_map (offered_all sends taken)) comes.2))
       (subst (λ (h : Option HostTold). IsRest managed failing (told_turns managed failing from (told_by link host) (given ∷ coming)) (length (given ∷ coming)) (met_with wake bytes taken met ∷ []) (turned managed from (met_with wake bytes taken met)) h (Some link_after)) (sym told.1) base)
 

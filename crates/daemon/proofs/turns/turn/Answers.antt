@@ -17,7 +17,7 @@ returns-clause-made g c =
     let turn_is : turn ≡ input_of life c.args.wake c.args.bytes.now =
     λ i. record { at = c.raised-moment.ensures.value i; salt = c.args.wake.salt; unsent = c.args.life.unsent; event = c.input.ensures.event i; bytes = c.input.ensures.bytes i } in
     let after = turned_is c.args.managed.now life c.args.wake c.args.bytes.now turn c.in_ok-core.core (sends_in c.in_ok-core.outs) c.in_ok-sent.sent.items c.in_ok-asked.asked c.rows.result.now.keys turn_is c.in_ok-core.ensures.steps c.in_ok-sent.ensures.sendings c.rows.ensures.rows
-        (keys_of c.in_ok-asked.known) c.raised-moment.result c.stop_moment.result c.unsent_on.result c.deref.result.now c.in_ok-asked.ensures.known c.raised-moment.ensures.value c.stop_moment.ensures c.deref.ensures.value c.unsent_on.ensures in
+    (keys_of c.in_ok-asked.known) c.raised-moment.result c.stop_moment.result c.unsent_on.result c.deref.result.now c.in_ok-asked.ensures.known c.raised-moment.ensures.value c.stop_moment.ensures c.deref.ensures.value c.unsent_on.ensures in
     record {
       taken = taken_of c.in_ok-sent.sent.items;
       host = met_of c.in_ok-asked.asked;

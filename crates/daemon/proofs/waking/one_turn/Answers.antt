@@ -25,9 +25,9 @@ returns-then-is_over-clause-ok g c = record {
   ends = one_ends c.args.managed.now (failing_of (g.L.Link.failing_sends c.args.live.now.link) (g.H.Host.failing c.args.live.now.host)) (life_of c.args.life) (life_of c.in_ok-life.life) (g.H.Host.told c.args.live.now.host) (g.H.Host.told c.turn.new.host) (g.L.Link.told c.args.live.now.link) (g.L.Link.told c.turn.new.link) (g.O.Sink.written c.args.out.now) (g.O.Sink.written c.write_all.new.out) _
       (sym c.is_over.ensures ∙ c.if-is_over.true)
       (subst (λ sends. Goes c.args.managed.now (failing_of sends (g.H.Host.failing c.args.live.now.host)) (life_of c.args.life) (g.H.Host.told c.args.live.now.host) (g.L.Link.told c.args.live.now.link) (g.O.Sink.written c.args.out.now) (life_of c.in_ok-life.life) (g.H.Host.told c.turn.new.host) (g.L.Link.told c.turn.new.link) (g.O.Sink.written c.write_all.new.out) (met_with c.in_ok-wake.wake c.front.result.now c.in_ok-life.ensures.made.taken c.in_ok-life.ensures.made.host ∷ [])) c.wait.ensures.failing.1
-    (one_goes c.args.managed.now (life_of c.args.life) (life_of c.in_ok-life.life) (record { failing_sends = g.L.Link.failing_sends c.wait.new.link; failing_host = g.H.Host.failing c.args.live.now.host; link_old = g.L.Link.told c.wait.new.link; link_new = g.L.Link.told c.turn.new.link; host_old = g.H.Host.told c.args.live.now.host; host_new = g.H.Host.told c.turn.new.host }) (g.L.Link.told c.args.live.now.link) (g.O.Sink.written c.args.out.now) (g.O.Sink.written c.write_all.new.out) c.in_ok-wake.wake c.front.result.now c.clear.new.self.items c.turn.new.text.items c.deref.result.now _ c.wait.new.buf
-    c.in_ok-life.ensures.made c.clear.ensures.items c.deref.ensures.value c.in_ok-write_all.ensures.ok.1
-    c.requires.going (sym c.ends_life.ensures ∙ c.if-ends_life.false) (c.wait.auto.buf ∙ c.requires.room) (c.front.ensures ∙ ap (λ n. take n c.wait.new.buf) c.frame_size-len.ensures) c.in_ok-wake.ensures.ok.2));
+      (one_goes c.args.managed.now (life_of c.args.life) (life_of c.in_ok-life.life) (record { failing_sends = g.L.Link.failing_sends c.wait.new.link; failing_host = g.H.Host.failing c.args.live.now.host; link_old = g.L.Link.told c.wait.new.link; link_new = g.L.Link.told c.turn.new.link; host_old = g.H.Host.told c.args.live.now.host; host_new = g.H.Host.told c.turn.new.host }) (g.L.Link.told c.args.live.now.link) (g.O.Sink.written c.args.out.now) (g.O.Sink.written c.write_all.new.out) c.in_ok-wake.wake c.front.result.now c.clear.new.self.items c.turn.new.text.items c.deref.result.now _ c.wait.new.buf
+      c.in_ok-life.ensures.made c.clear.ensures.items c.deref.ensures.value c.in_ok-write_all.ensures.ok.1
+      c.requires.going (sym c.ends_life.ensures ∙ c.if-ends_life.false) (c.wait.auto.buf ∙ c.requires.room) (c.front.ensures ∙ ap (λ n. take n c.wait.new.buf) c.frame_size-len.ensures) c.in_ok-wake.ensures.ok.2));
 }
 
 pub returns-clause-ok : goal.returns-clause-ok
@@ -36,9 +36,9 @@ returns-clause-ok g c = (
   record {
     met = met_with c.in_ok-wake.wake c.front.result.now c.in_ok-life.ensures.made.taken c.in_ok-life.ensures.made.host;
     goes = (subst (λ sends. Goes c.args.managed.now (failing_of sends (g.H.Host.failing c.args.live.now.host)) (life_of c.args.life) (g.H.Host.told c.args.live.now.host) (g.L.Link.told c.args.live.now.link) (g.O.Sink.written c.args.out.now) (life_of c.in_ok-life.life) (g.H.Host.told c.turn.new.host) (g.L.Link.told c.turn.new.link) (g.O.Sink.written c.write_all.new.out) (met_with c.in_ok-wake.wake c.front.result.now c.in_ok-life.ensures.made.taken c.in_ok-life.ensures.made.host ∷ [])) c.wait.ensures.failing.1
-    (one_goes c.args.managed.now (life_of c.args.life) (life_of c.in_ok-life.life) (record { failing_sends = g.L.Link.failing_sends c.wait.new.link; failing_host = g.H.Host.failing c.args.live.now.host; link_old = g.L.Link.told c.wait.new.link; link_new = g.L.Link.told c.turn.new.link; host_old = g.H.Host.told c.args.live.now.host; host_new = g.H.Host.told c.turn.new.host }) (g.L.Link.told c.args.live.now.link) (g.O.Sink.written c.args.out.now) (g.O.Sink.written c.write_all.new.out) c.in_ok-wake.wake c.front.result.now c.clear.new.self.items c.turn.new.text.items c.deref.result.now _ c.wait.new.buf
-    c.in_ok-life.ensures.made c.clear.ensures.items c.deref.ensures.value c.in_ok-write_all.ensures.ok.1
-    c.requires.going (sym c.ends_life.ensures ∙ c.if-ends_life.false) (c.wait.auto.buf ∙ c.requires.room) (c.front.ensures ∙ ap (λ n. take n c.wait.new.buf) c.frame_size-len.ensures) c.in_ok-wake.ensures.ok.2));
+        (one_goes c.args.managed.now (life_of c.args.life) (life_of c.in_ok-life.life) (record { failing_sends = g.L.Link.failing_sends c.wait.new.link; failing_host = g.H.Host.failing c.args.live.now.host; link_old = g.L.Link.told c.wait.new.link; link_new = g.L.Link.told c.turn.new.link; host_old = g.H.Host.told c.args.live.now.host; host_new = g.H.Host.told c.turn.new.host }) (g.L.Link.told c.args.live.now.link) (g.O.Sink.written c.args.out.now) (g.O.Sink.written c.write_all.new.out) c.in_ok-wake.wake c.front.result.now c.clear.new.self.items c.turn.new.text.items c.deref.result.now _ c.wait.new.buf
+        c.in_ok-life.ensures.made c.clear.ensures.items c.deref.ensures.value c.in_ok-write_all.ensures.ok.1
+        c.requires.going (sym c.ends_life.ensures ∙ c.if-ends_life.false) (c.wait.auto.buf ∙ c.requires.room) (c.front.ensures ∙ ap (λ n. take n c.wait.new.buf) c.frame_size-len.ensures) c.in_ok-wake.ensures.ok.2));
     going = sym c.is_over.ensures ∙ c.if-is_over.false;
   },
 )
@@ -58,5 +58,5 @@ returns-in_err-write_all-clause-cut g c =
     error_is c.from_residual-in_err-write_all.result c.in_err-write_all.field-0.0 (λ end. BreaksOff end c.args.managed.now (failing_of (g.L.Link.failing_sends c.args.live.now.link) (g.H.Host.failing c.args.live.now.host)) (life_of c.args.life) (g.H.Host.told c.args.live.now.host) (g.L.Link.told c.args.live.now.link) (g.O.Sink.written c.args.out.now) (g.O.Sink.written c.write_all.new.out)) c.from_residual-in_err-write_all.ensures.1
     (subst (λ sends. BreaksOff c.in_err-write_all.field-0.0 c.args.managed.now (failing_of sends (g.H.Host.failing c.args.live.now.host)) (life_of c.args.life) (g.H.Host.told c.args.live.now.host) (g.L.Link.told c.args.live.now.link) (g.O.Sink.written c.args.out.now) (g.O.Sink.written c.write_all.new.out)) c.wait.ensures.failing.1
     (breaks_in_turn c.in_err-write_all.field-0.0 c.args.managed.now (life_of c.args.life) (life_of c.in_ok-life.life) (record { failing_sends = g.L.Link.failing_sends c.wait.new.link; failing_host = g.H.Host.failing c.args.live.now.host; link_old = g.L.Link.told c.wait.new.link; link_new = g.L.Link.told c.turn.new.link; host_old = g.H.Host.told c.args.live.now.host; host_new = g.H.Host.told c.turn.new.host }) (g.L.Link.told c.args.live.now.link) (g.O.Sink.written c.args.out.now) (g.O.Sink.written c.write_all.new.out) c.in_ok-wake.wake c.front.result.now c.clear.new.self.items c.turn.new.text.items c.deref.result.now _ c.wait.new.buf _ _
-        c.in_ok-life.ensures.made c.clear.ensures.items c.deref.ensures.value c.in_err-write_all.ensures.some
-        c.requires.going (sym c.ends_life.ensures ∙ c.if-ends_life.false) (c.wait.auto.buf ∙ c.requires.room) (c.front.ensures ∙ ap (λ n. take n c.wait.new.buf) c.frame_size-len.ensures) c.in_ok-wake.ensures.ok.2 c.in_err-write_all.ensures.cause))
+    c.in_ok-life.ensures.made c.clear.ensures.items c.deref.ensures.value c.in_err-write_all.ensures.some
+    c.requires.going (sym c.ends_life.ensures ∙ c.if-ends_life.false) (c.wait.auto.buf ∙ c.requires.room) (c.front.ensures ∙ ap (λ n. take n c.wait.new.buf) c.frame_size-len.ensures) c.in_ok-wake.ensures.ok.2 c.in_err-write_all.ensures.cause))
