@@ -4,3 +4,4 @@ pub mod Inputs
 pub mod OneWord
 pub mod Refusals
 pub mod WholeLife
+pub mod HostRightly

@@ -8,6 +8,7 @@ use Rattle.dhcpcd.specs.declared.status.Status.{Status}
 use Rattle.dhcpcd.specs.declared.status.Status.TheVariants as status
 use Rattle.dhcpcd.specs.Input.{limit, IsInput, IsInLimit, IsTooLong}
 use Rattle.dhcpcd.specs.Replays.{IsScript, transcript}
+use Rattle.dhcpcd.specs.HostHeld.{HoldsRightly}
 
 -- the exit status
 abbrev pub status_number : Status → ℕ
@@ -19,7 +20,7 @@ status_number status.WriteFault = 6
 status_number status.TooLong = 9
 status_number status.NoMemory = 10
 
--- the input was a script, and its transcript was written
+-- the input was a script, and its transcript was written; in its life the host holds what it shall
 pub record IsReplayed (input : Option (List ℕ)) (old new : Option (List ℕ)) : Type 0 where
   pub bytes : List ℕ
   pub script : ScriptLines
@@ -28,6 +29,7 @@ pub record IsReplayed (input : Option (List ℕ)) (old new : Option (List ℕ)) 
   pub in_limit : length bytes ≤ limit
   pub is_script : IsScript bytes script managed
   pub written : WritesLines old new (transcript managed script)
+  pub host : HoldsRightly managed script
 
 -- the input was a script, and a front of the bytes of its transcript was written
 pub record IsStopped (input : Option (List ℕ)) (old new : Option (List ℕ)) : Type 0 where
