@@ -23,9 +23,10 @@ use Rattle.daemon.specs.Serving.{WritesLines, failing_of, told_by, AreForetold, 
 use Rattle.daemon.specs.Waking.{WritesBytes, WritesSome, EndsThere}
 use Rattle.daemon.specs.Cuts.{WritesFront, CutAt, Between, InTurn, AtEnd, cut_lines, cut_turns, turns_left, CutsAt, BreaksOff, CutOpening, CutLife, Leaves}
 use Rattle.daemon.proofs.Stretches.{answered-append, life_after-append, turns_lines-append, whole_then}
-use Rattle.daemon.proofs.OneTurn.{woke, turn_foretold}
+use Rattle.daemon.proofs.Wakes.{woke, begun}
+use Rattle.daemon.proofs.OneTurn.{turn_foretold}
 use Rattle.daemon.proofs.Wakings.{TakesTurns}
-use Rattle.daemon.proofs.Whole.{begun, opens_foretold, opening_written}
+use Rattle.daemon.proofs.Whole.{opens_foretold, opening_written}
 
 -- nothing was written of these lines
 pub front_none : (old : Option (List ℕ)) (lines : List Line) → WritesFront old old [] lines
@@ -150,10 +151,10 @@ takes_over managed failing from to host host_to link link_to out out_to count p 
     takes_breaks ends.TurnsOver managed failing failing from to host host_to link link_to out out_to out_to count refl p (breaks_now ends.TurnsOver managed failing to host_to link_to out_to tt)
 
 -- the lines after the last turn were not all written
-pub breaks_at_end : (end : ServeEnd) (managed : List Managed) (failing : Option Failing) (from last : Life) (host : Option HostTold) (link : Option LinkTold) (out out_mid out_to : Option (List ℕ)) (a b : ℕ)
-    → EndsThere managed failing from host link out last out_mid → WritesFront out_mid out_to [] (closing_lines last) → HasServeCause end a b 0 0
+pub breaks_at_end : (end : ServeEnd) (managed : List Managed) (failing : Option Failing) (from last : Life) (host : Option HostTold) (link link_mid : Option LinkTold) (out out_mid out_to : Option (List ℕ)) (a b : ℕ)
+    → EndsThere managed failing from host link out last link_mid out_mid → WritesFront out_mid out_to [] (closing_lines last) → HasServeCause end a b 0 0
     → BreaksOff end managed failing from host link out out_to
-breaks_at_end end managed failing from last host link out out_mid out_to a b p front cause = record {
+breaks_at_end end managed failing from last host link link_mid out out_mid out_to a b p front cause = record {
   mets = p.mets;
   at = AtEnd;
   cuts = cuts_at_end end a b cause;

@@ -2,6 +2,8 @@ pub mod ChangeLists
 pub mod Makings
 pub mod Calls
 pub mod Printings
+pub mod Wakes
+pub mod Asking
 pub mod Stretches
 pub mod Offers
 pub mod TurnSteps

@@ -6,11 +6,12 @@ use Rattle.world.specs.declared.wakes.Wake.{Wake}
 use Rattle.world.specs.declared.wakes.Event.{Event}
 use Rattle.world.specs.declared.wakes.Event.TheVariants.{Frame, Carrier, Duplicate, Release, Rebind, Stop, Quiet, End}
 use Rattle.world.specs.HostCalls.{HostTold}
-use Rattle.world.specs.LinkCalls.{LinkTold, Given, frame_len, cut_event, cut_wake, waited, Comes, Waits}
+use Rattle.world.specs.LinkCalls.{LinkCall, LinkTold, Given, frame_len, cut_event, cut_wake, waited, Comes, Waits}
 use Rattle.client_model.specs.declared.interfaces.Managed.{Managed}
 use Rattle.client_model.specs.Clients.{Sending}
 use Rattle.client_model.specs.HostTurn.{HostMet}
 use Rattle.client_model.specs.Sends.{offered_all, sends_taken}
+use Rattle.client_model.specs.Turns as turns
 use Rattle.client_model.specs.Turns.{Life, Met, step_of, wanted_in, turned, is_over, is_end}
 use Rattle.client_model.specs.Lives.{turn_lines}
 use Rattle.client_model.specs.Lines.{Line, lines_text}
@@ -18,12 +19,12 @@ use Rattle.client_model.specs.ToldDevices.{Failing, Told, TurnStep, told_host, t
 use Rattle.daemon.specs.Printing.{Prints}
 use Rattle.daemon.specs.Sends.{TakesForetold, Offering}
 use Rattle.daemon.specs.TurnsMade.{met_with, DevicesSeen, MakesTurn}
+use Rattle.daemon.specs.Asked.{turns_ask, AddsCalls}
 use Rattle.daemon.specs.Serving.{WritesLines, failing_of, told_by, IsRest, AreForetold, AreWhole, Passes, Goes, Ends}
 use Rattle.daemon.specs.Waking.{WritesBytes}
+use Rattle.daemon.proofs.Wakes.{woke}
+use Rattle.daemon.proofs.Asking.{turn_asked}
 use Rattle.daemon.proofs.Offers.{offered_all-sends, offered_all-coming}
-
-abbrev pub woke : Wake → Result Wake DeviceAnswer
-woke wake = Ok wake
 
 -- the text of a turn was written
 written_once : (old new : Option (List ℕ)) (text : List ℕ) (lines : List Line) → WritesBytes old new text → Prints [] text lines → WritesLines old new (lines ++ [])
@@ -186,17 +187,21 @@ over_whole managed (Some f) from (Some h) (Some l) mets to host_to link_to over 
 pub one_goes : (managed : List Managed) (from to : Life) (seen : DevicesSeen) (link : Option LinkTold) (out out_to : Option (List ℕ)) (wake : Wake) (bytes text_old text bytes_written : List ℕ) (until : Option ℕ) (buffer : List ℕ)
     → (made : MakesTurn managed from wake bytes to seen text_old text) → text_old ≡ [] → bytes_written ≡ text → WritesBytes out out_to bytes_written
     → is_over from ≡ false → is_end wake.event ≡ false → length buffer ≡ 2048 → bytes ≡ take (frame_len wake.event) buffer
-    → Waits until link seen.link_old buffer (woke wake)
+    → Waits until link seen.link_old buffer (woke wake) → until ≡ turns.until from
     → Goes managed (failing_of seen.failing_sends seen.failing_host) from seen.host_old link out to seen.host_new seen.link_new out_to (met_with wake bytes made.taken made.host ∷ [])
-one_goes managed from to seen link out out_to wake bytes text_old text bytes_written until buffer made empty same written going more room bytes_are waits = record {
+one_goes managed from to seen link out out_to wake bytes text_old text bytes_written until buffer made empty same written going more room bytes_are waits asked_is = record {
   passes = turn_passes managed from to wake bytes seen text_old text out out_to made empty (subst (λ (t : List ℕ). WritesBytes out out_to t) same written);
   foretold = subst (λ (life : Life). AreForetold managed (failing_of seen.failing_sends seen.failing_host) from seen.host_old link (met_with wake bytes made.taken made.host ∷ []) life seen.host_new seen.link_new) (sym made.after)
       (turn_foretold managed seen.failing_sends seen.failing_host from seen.host_old wake bytes made.taken made.host seen.host_new until link seen.link_old seen.link_new buffer going more (record { offers = made.offers; told = made.told }) room bytes_are waits);
+  asked = turn_asked managed from until link seen.link_old seen.link_new buffer wake bytes made.taken made.host asked_is more bytes_are waits made.offers.told;
 }
 
 pub one_ends : (managed : List Managed) (failing : Option Failing) (from to : Life) (host host_to : Option HostTold) (link link_to : Option LinkTold) (out out_to : Option (List ℕ)) (mets : List Met)
-    → is_over to ≡ true → Goes managed failing from host link out to host_to link_to out_to mets → Ends managed failing from host link out to out_to mets
+    → is_over to ≡ true → Goes managed failing from host link out to host_to link_to out_to mets → Ends managed failing from host link out to link_to out_to mets
 one_ends managed failing from to host host_to link link_to out out_to mets over goes = record {
   passes = goes.passes;
   whole = over_whole managed failing from host link mets to host_to link_to over goes.foretold;
+  last = [];
+  last_is = tt;
+  asked = subst (λ (cs : List LinkCall). AddsCalls link link_to cs) (sym (append-nil (turns_ask managed from mets))) goes.asked;
 }

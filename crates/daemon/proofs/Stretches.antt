@@ -3,12 +3,14 @@ use Rattle.std.proofs.Common.{ℕ, ◌≡◌, List, [], ◌∷◌, ◌++◌, len
 use Rattle.std.proofs.lemmas.List.{length-append}
 use Rattle.std.proofs.lemmas.List.Concat.{flat_map-append}
 use Rattle.world.specs.HostCalls.{HostTold}
-use Rattle.world.specs.LinkCalls.{LinkTold}
+use Rattle.world.specs.LinkCalls.{LinkCall, LinkTold}
 use Rattle.client_model.specs.declared.interfaces.Managed.{Managed}
 use Rattle.client_model.specs.Turns.{Life, Met, life_after, turned}
 use Rattle.client_model.specs.Lives.{AllAnswered, turn_lines, turns_lines}
 use Rattle.client_model.specs.Lines.{Line, line_text, lines_text}
 use Rattle.client_model.specs.ToldDevices.{Failing, told_turns}
+use Rattle.daemon.specs.Asked.{turns_ask, AddsCalls}
+use Rattle.daemon.proofs.Asking.{adds_none, adds_then, turns_ask-append}
 use Rattle.daemon.specs.Serving.{WritesLines, told_by, IsRest, AreForetold, AreWhole, Passes, Goes, Ends}
 
 pub life_after-append : (managed : List Managed) (from : Life) (a b : List Met) → life_after managed from (a ++ b) ≡ life_after managed (life_after managed from a) b
@@ -75,6 +77,9 @@ pub goes_then : (managed : List Managed) (failing : Option Failing) (from mid to
 goes_then managed failing from mid to host host_mid host_to link link_mid link_to out out_mid out_to a b p q = record {
   passes = passes_then managed from mid to out out_mid out_to a b p.passes q.passes;
   foretold = foretold_then managed failing a b from mid to host host_mid host_to link link_mid link_to p.foretold q.foretold;
+  asked = subst (λ (cs : List LinkCall). AddsCalls link link_to cs) (sym (turns_ask-append managed from a b))
+      (adds_then link link_mid link_to (turns_ask managed from a) (turns_ask managed (life_after managed from a) b) p.asked
+      (subst (λ (life : Life). AddsCalls link_mid link_to (turns_ask managed life b)) p.passes.after q.asked));
 }
 
 whole_rest : (managed : List Managed) (failing : Failing) (foretold : List Met) (count : ℕ) (a b : List Met) (mid : Life) (host_mid : Option HostTold) (link_mid : Option LinkTold)
@@ -90,12 +95,18 @@ whole_then managed (Some f) a b from mid None host_mid link link_mid p q = tt
 whole_then managed (Some f) a b from mid (Some h) host_mid None link_mid p q = tt
 whole_then managed (Some f) a b from mid (Some h) host_mid (Some l) link_mid p q = whole_rest managed f (told_turns managed f from (told_by l h) l.coming) (length l.coming) a b mid host_mid link_mid p q
 
-pub ends_then : (managed : List Managed) (failing : Option Failing) (from mid to : Life) (host host_mid : Option HostTold) (link link_mid : Option LinkTold) (out out_mid out_to : Option (List ℕ)) (a b : List Met)
-    → Goes managed failing from host link out mid host_mid link_mid out_mid a → Ends managed failing mid host_mid link_mid out_mid to out_to b
-    → Ends managed failing from host link out to out_to (a ++ b)
-ends_then managed failing from mid to host host_mid link link_mid out out_mid out_to a b p q = record {
+pub ends_then : (managed : List Managed) (failing : Option Failing) (from mid to : Life) (host host_mid : Option HostTold) (link link_mid link_to : Option LinkTold) (out out_mid out_to : Option (List ℕ)) (a b : List Met)
+    → Goes managed failing from host link out mid host_mid link_mid out_mid a → Ends managed failing mid host_mid link_mid out_mid to link_to out_to b
+    → Ends managed failing from host link out to link_to out_to (a ++ b)
+ends_then managed failing from mid to host host_mid link link_mid link_to out out_mid out_to a b p q = record {
   passes = passes_then managed from mid to out out_mid out_to a b p.passes q.passes;
   whole = whole_then managed failing a b from mid host host_mid link link_mid p.foretold q.whole;
+  last = q.last;
+  last_is = q.last_is;
+  asked = subst (λ (cs : List LinkCall). AddsCalls link link_to cs)
+      (sym (append_assoc (turns_ask managed from a) (turns_ask managed (life_after managed from a) b) q.last) ∙ ap (λ (cs : List LinkCall). cs ++ q.last) (sym (turns_ask-append managed from a b)))
+      (adds_then link link_mid link_to (turns_ask managed from a) (turns_ask managed (life_after managed from a) b ++ q.last) p.asked
+      (subst (λ (life : Life). AddsCalls link_mid link_to (turns_ask managed life b ++ q.last)) p.passes.after q.asked));
 }
 
 rest_here : (managed : List Managed) (failing : Option Failing) (life : Life) (host : Option HostTold) (link : Option LinkTold) → AreForetold managed failing life host link [] life host link
@@ -109,4 +120,4 @@ passes_none managed life out = record { after = refl; answers = tt; written = li
 
 pub goes_nowhere : (managed : List Managed) (failing : Option Failing) (life : Life) (host : Option HostTold) (link : Option LinkTold) (out : Option (List ℕ))
     → Goes managed failing life host link out life host link out []
-goes_nowhere managed failing life host link out = record { passes = passes_none managed life out; foretold = rest_here managed failing life host link }
+goes_nowhere managed failing life host link out = record { passes = passes_none managed life out; foretold = rest_here managed failing life host link; asked = adds_none link }

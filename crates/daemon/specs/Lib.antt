@@ -3,6 +3,7 @@ pub mod Printing
 pub mod Lives
 pub mod Sends
 pub mod TurnsMade
+pub mod Asked
 pub mod Serving
 pub mod Waking
 pub mod Openings
