@@ -4,6 +4,7 @@ pub mod Calls
 pub mod Printings
 pub mod Wakes
 pub mod Asking
+pub mod HostAsking
 pub mod Stretches
 pub mod Offers
 pub mod TurnSteps

@@ -1,9 +1,12 @@
--- What a life asks of its link, where that tells: each wait until the moment that was said, and each frame that was offered.
+-- What a life asks of its link and its host, where these tell: each wait until the moment that was said, each frame that was
+-- offered, and each call of a turn.
 use Rattle.std.specs.Prelude.{ℕ, ◌≡◌, Bool, true, List, [], ◌∷◌, ◌++◌, Option, Some, None}
 use Rattle.world.specs.LinkCalls.{LinkCall, LinkTold, Waited, Offered}
+use Rattle.world.specs.HostCalls.{HostCall, HostTold}
 use Rattle.client_model.specs.declared.interfaces.Managed.{Managed}
 use Rattle.client_model.specs.Clients.{Sending}
-use Rattle.client_model.specs.Turns.{Life, Met, step_of, turned, until, is_end}
+use Rattle.client_model.specs.HostTurn.{host_calls}
+use Rattle.client_model.specs.Turns.{Life, Met, step_of, wanted_in, turned, until, is_end}
 
 abbrev pub frame_calls : List Sending → List Bool → List LinkCall
 frame_calls [] taken = []
@@ -30,3 +33,15 @@ abbrev pub AddsCalls : Option LinkTold → Option LinkTold → List LinkCall →
 AddsCalls None new calls = Unit {0}
 AddsCalls (Some told) None calls = ⊥
 AddsCalls (Some told) (Some new) calls = new.calls ≡ told.calls ++ calls
+
+-- the host tells these calls after those before
+abbrev pub AddsHostCalls : Option HostTold → Option HostTold → List HostCall → Type 0
+AddsHostCalls None new calls = Unit {0}
+AddsHostCalls (Some told) None calls = ⊥
+AddsHostCalls (Some told) (Some new) calls = new.calls ≡ told.calls ++ calls
+
+-- what a life asks of its host
+abbrev pub turns_change : List Managed → Life → List Met → List HostCall
+turns_change managed life [] = []
+turns_change managed life (met ∷ mets) =
+    host_calls managed life.known (wanted_in life met.wake met.bytes) met.host ++ turns_change managed (turned managed life met) mets

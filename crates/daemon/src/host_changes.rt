@@ -2,9 +2,10 @@ ghost use Rattle.std.specs.Prelude.{◌≡◌, ◌≤◌, ◌+◌, ◌++◌, [],
 ghost use Rattle.std.specs.List.{list_all, AllByRecursion};
 ghost use Rattle.world.specs.RowOrder.{rows_beyond, with_row, without_row};
 ghost use Rattle.world.specs.Rows.{IsRow};
-ghost use Rattle.client_model.specs.HostTurn.{changes, applied, after_changes};
+ghost use Rattle.client_model.specs.HostTurn.{changes, applied, after_changes, change_call};
+ghost use Rattle.daemon.specs.Asked.{AddsHostCalls};
 ghost use Rattle.client_model.specs.ToldDevices.{told_change, told_changes_for, Determined};
-ghost use Rattle.daemon.specs.HostTurns.{change_of, FitsChange, keys_of, known_with, known_through, made_outcomes};
+ghost use Rattle.daemon.specs.HostTurns.{change_of, FitsChange, keys_of, known_with, known_through, made_outcomes, made_call};
 
 use std::alloc::{AllocError, Global};
 use std::collections::BTreeSet;
@@ -64,11 +65,13 @@ pub fn changes_between(
 }
 
 /// Asks the host for one change, and says whether it was done.
+#[tactic(auto, using(crate::proofs::HostAsking::done_adds, crate::proofs::HostAsking::failed_adds))]
 pub fn make_change<H: Host>(host: &mut H, change: HostChange) -> Result<bool, NoMemory>
     requires { FitsChange change }
     ensures later { H.faults host.old ≤ H.faults host.new }
     ensures failing { H.failing host.new ≡ H.failing host.old }
     ensures told { IfOk result (λ done. Determined (told_change (change_of change)) (H.failing host.old) (H.told host.old) done (H.told host.new)) }
+    ensures asked { IfOk result (λ done. AddsHostCalls (H.told host.old) (H.told host.new) (change_call (change_of change) done ∷ [])) }
 {
     let answer = match change {
         HostChange::Remove(row) => host.remove(&row),
@@ -131,6 +134,7 @@ pub fn make_changes<H: Host>(
     ensures made { IfOk result (λ making. map (λ m. m.change) making.made.items ≡ changes.now) }
     ensures known { IfOk result (λ making. keys_of making.known ≡ known_through (made_outcomes making.made.items) (map change_of changes.now) (Some known.keys)) }
     ensures told { IfOk result (λ making. Determined (told_changes_for (map change_of changes.now)) (H.failing host.old) (H.told host.old) (made_outcomes making.made.items) (H.told host.new)) }
+    ensures asked { IfOk result (λ making. AddsHostCalls (H.told host.old) (H.told host.new) (map made_call making.made.items)) }
 {
     let mut making = Making {
         made: Vec::new(alloc),

@@ -1,12 +1,13 @@
-ghost use Rattle.std.specs.Prelude.{◌≡◌, ◌≤◌, ◌++◌, List, [], Bool, Option, Some, None, IfOk, OnOk, IsTrue, map, filter, option_map};
+ghost use Rattle.std.specs.Prelude.{◌≡◌, ◌≤◌, ◌++◌, List, [], ◌∷◌, Bool, Option, Some, None, IfOk, OnOk, IsTrue, map, filter, option_map};
 ghost use Rattle.std.specs.List.{AllByRecursion};
 ghost use Rattle.world.specs.RowOrder.{in_row_order};
 ghost use Rattle.world.specs.Rows.{IsRow};
-ghost use Rattle.world.specs.HostCalls.{HostTold};
+ghost use Rattle.world.specs.HostCalls.{HostTold, Listed};
+ghost use Rattle.daemon.specs.Asked.{AddsHostCalls};
 ghost use Rattle.client_model.specs.Clients.{is_managed};
 ghost use Rattle.client_model.specs.HostTurn.{HostMet, learnt, listing_calls, known_after};
 ghost use Rattle.client_model.specs.ToldDevices.{HostStep, listing_from, fails_next, told_listing_for, told_host_for, Determined};
-ghost use Rattle.daemon.specs.HostTurns.{IsHostTurn, met_of, keys_of, asked_listing, listing_call, listing_rows};
+ghost use Rattle.daemon.specs.HostTurns.{IsHostTurn, met_of, keys_of, asked_listing, listing_call, listing_rows, calls_of};
 
 use crate::host_changes::{Made, changes_between, make_changes};
 use client_model::Managed;
@@ -42,10 +43,12 @@ fn ordered(alloc: Global, rows: &[HostRow]) -> Result<BTreeSet<HostRow>, AllocEr
 }
 
 /// Asks the host for its rows; `None` where that failed.
+#[tactic(auto, using(crate::proofs::HostAsking::list_adds, crate::proofs::HostAsking::failed_list_adds))]
 fn list_rows<H: Host>(alloc: Global, host: &mut H) -> Result<Option<BTreeSet<HostRow>>, NoMemory>
     ensures later { H.faults host.old ≤ H.faults host.new }
     ensures failing { H.failing host.new ≡ H.failing host.old }
     ensures told { IfOk result (λ rows. Determined asked_listing (H.failing host.old) (H.told host.old) (keys_of rows) (H.told host.new)) }
+    ensures asked { IfOk result (λ rows. AddsHostCalls (H.told host.old) (H.told host.new) (Listed (keys_of rows) ∷ [])) }
 {
     let mut rows = Vec::new(alloc);
     match host.list(&mut rows) {
@@ -93,6 +96,7 @@ fn managed_rows(
     ordered(alloc, &rows_on_managed(alloc, managed, &all)?)
 }
 
+#[tactic(auto, using(crate::proofs::HostAsking::adds_none))]
 fn learn<H: Host>(
     alloc: Global,
     host: &mut H,
@@ -104,6 +108,7 @@ fn learn<H: Host>(
     ensures calls { IfOk result (λ l. listing_call l.listing ≡ listing_calls (keys_of known) (listing_rows l.listing)) }
     ensures known { IfOk result (λ l. keys_of l.known ≡ learnt managed.now (keys_of known) (listing_rows l.listing)) }
     ensures told { IfOk result (λ l. Determined (told_listing_for (keys_of known)) (H.failing host.old) (H.told host.old) (listing_rows l.listing) (H.told host.new)) }
+    ensures asked { IfOk result (λ l. AddsHostCalls (H.told host.old) (H.told host.new) (listing_call l.listing)) }
 {
     match known {
         Some(known) => Ok(Learnt {
@@ -128,6 +133,7 @@ fn learn<H: Host>(
 
 /// The host calls of a turn: a listing where the table isn't known, then the changes to the wanted rows.
 /// Answers what was asked with its answers, and leaves in `known` the table where it is known then.
+#[tactic(auto, using(crate::proofs::HostAsking::adds_then, crate::proofs::HostAsking::adds_none))]
 pub fn host_turn<H: Host>(
     alloc: Global,
     host: &mut H,
@@ -141,6 +147,7 @@ pub fn host_turn<H: Host>(
     ensures turn { IfOk result (λ x. IsHostTurn managed.now (keys_of known) wanted.now.keys x.0) }
     ensures known { IfOk result (λ x. keys_of x.1 ≡ known_after managed.now (keys_of known) wanted.now.keys (met_of x.0)) }
     ensures told { IfOk result (λ x. Determined (told_host_for managed.now (keys_of known) wanted.now.keys) (H.failing host.old) (H.told host.old) (met_of x.0) (H.told host.new)) }
+    ensures asked { IfOk result (λ x. AddsHostCalls (H.told host.old) (H.told host.new) (calls_of x.0)) }
 {
     let learnt = learn(alloc, host, managed, known)?;
     let Learnt { listing, known } = learnt;
