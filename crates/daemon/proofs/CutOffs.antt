@@ -151,10 +151,10 @@ takes_over managed failing from to host host_to link link_to out out_to count p 
     takes_breaks ends.TurnsOver managed failing failing from to host host_to link link_to out out_to out_to count refl p (breaks_now ends.TurnsOver managed failing to host_to link_to out_to tt)
 
 -- the lines after the last turn were not all written
-pub breaks_at_end : (end : ServeEnd) (managed : List Managed) (failing : Option Failing) (from last : Life) (host : Option HostTold) (link link_mid : Option LinkTold) (out out_mid out_to : Option (List ℕ)) (a b : ℕ)
-    → EndsThere managed failing from host link out last link_mid out_mid → WritesFront out_mid out_to [] (closing_lines last) → HasServeCause end a b 0 0
+pub breaks_at_end : (end : ServeEnd) (managed : List Managed) (failing : Option Failing) (from last : Life) (host host_mid : Option HostTold) (link link_mid : Option LinkTold) (out out_mid out_to : Option (List ℕ)) (a b : ℕ)
+    → EndsThere managed failing from host link out last host_mid link_mid out_mid → WritesFront out_mid out_to [] (closing_lines last) → HasServeCause end a b 0 0
     → BreaksOff end managed failing from host link out out_to
-breaks_at_end end managed failing from last host link link_mid out out_mid out_to a b p front cause = record {
+breaks_at_end end managed failing from last host host_mid link link_mid out out_mid out_to a b p front cause = record {
   mets = p.mets;
   at = AtEnd;
   cuts = cuts_at_end end a b cause;

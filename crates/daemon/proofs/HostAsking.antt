@@ -14,15 +14,15 @@ use Rattle.daemon.specs.declared.host_changes.Made.{Made}
 use Rattle.daemon.specs.HostTurns.{made_call}
 use Rattle.daemon.specs.Asked.{AddsHostCalls, turns_change}
 
-pub adds_none : (told : Option HostTold) → AddsHostCalls told told []
-adds_none None = tt
-adds_none (Some told) = sym (append-nil told.calls)
+pub host_adds_none : (told : Option HostTold) → AddsHostCalls told told []
+host_adds_none None = tt
+host_adds_none (Some told) = sym (append-nil told.calls)
 
-pub adds_then : (old mid new : Option HostTold) (a b : List HostCall) → AddsHostCalls old mid a → AddsHostCalls mid new b → AddsHostCalls old new (a ++ b)
-adds_then None mid new a b p q = tt
-adds_then (Some old) None new a b p q = absurd p
-adds_then (Some old) (Some mid) None a b p q = absurd q
-adds_then (Some old) (Some mid) (Some new) a b p q = q ∙ ap (λ (cs : List HostCall). cs ++ b) p ∙ append_assoc old.calls a b
+pub host_adds_then : (old mid new : Option HostTold) (a b : List HostCall) → AddsHostCalls old mid a → AddsHostCalls mid new b → AddsHostCalls old new (a ++ b)
+host_adds_then None mid new a b p q = tt
+host_adds_then (Some old) None new a b p q = absurd p
+host_adds_then (Some old) (Some mid) None a b p q = absurd q
+host_adds_then (Some old) (Some mid) (Some new) a b p q = q ∙ ap (λ (cs : List HostCall). cs ++ b) p ∙ append_assoc old.calls a b
 
 pub turns_change-append : (managed : List Managed) (from : Life) (a b : List Met) → turns_change managed from (a ++ b) ≡ turns_change managed from a ++ turns_change managed (life_after managed from a) b
 turns_change-append managed from [] b = refl
@@ -74,4 +74,4 @@ pub made_adds : (old mid next : Option HostTold) (made new : List Made) (one : M
     → AddsHostCalls old next (map made_call new)
 made_adds old mid next made new one p q new_is =
     subst (λ (cs : List HostCall). AddsHostCalls old next cs) (sym (ap (map made_call) new_is ∙ map-append made_call made (one ∷ [])))
-    (adds_then old mid next (map made_call made) (made_call one ∷ []) p q)
+    (host_adds_then old mid next (map made_call made) (made_call one ∷ []) p q)

@@ -5,11 +5,11 @@ use Rattle.world.specs.declared.faults.DeviceAnswer.{DeviceAnswer}
 use Rattle.world.specs.declared.wakes.Wake.{Wake}
 use Rattle.world.specs.declared.wakes.Event.{Event}
 use Rattle.world.specs.declared.wakes.Event.TheVariants.{Frame, Carrier, Duplicate, Release, Rebind, Stop, Quiet, End}
-use Rattle.world.specs.HostCalls.{HostTold}
+use Rattle.world.specs.HostCalls.{HostCall, HostTold}
 use Rattle.world.specs.LinkCalls.{LinkCall, LinkTold, Given, frame_len, cut_event, cut_wake, waited, Comes, Waits}
 use Rattle.client_model.specs.declared.interfaces.Managed.{Managed}
 use Rattle.client_model.specs.Clients.{Sending}
-use Rattle.client_model.specs.HostTurn.{HostMet}
+use Rattle.client_model.specs.HostTurn.{HostMet, host_calls}
 use Rattle.client_model.specs.Sends.{offered_all, sends_taken}
 use Rattle.client_model.specs.Turns as turns
 use Rattle.client_model.specs.Turns.{Life, Met, step_of, wanted_in, turned, is_over, is_end}
@@ -19,7 +19,7 @@ use Rattle.client_model.specs.ToldDevices.{Failing, Told, TurnStep, told_host, t
 use Rattle.daemon.specs.Printing.{Prints}
 use Rattle.daemon.specs.Sends.{TakesForetold, Offering}
 use Rattle.daemon.specs.TurnsMade.{met_with, DevicesSeen, MakesTurn}
-use Rattle.daemon.specs.Asked.{turns_ask, AddsCalls}
+use Rattle.daemon.specs.Asked.{turns_ask, AddsCalls, AddsHostCalls}
 use Rattle.daemon.specs.Serving.{WritesLines, failing_of, told_by, IsRest, AreForetold, AreWhole, Passes, Goes, Ends}
 use Rattle.daemon.specs.Waking.{WritesBytes}
 use Rattle.daemon.proofs.Wakes.{woke}
@@ -194,14 +194,16 @@ one_goes managed from to seen link out out_to wake bytes text_old text bytes_wri
   foretold = subst (λ (life : Life). AreForetold managed (failing_of seen.failing_sends seen.failing_host) from seen.host_old link (met_with wake bytes made.taken made.host ∷ []) life seen.host_new seen.link_new) (sym made.after)
       (turn_foretold managed seen.failing_sends seen.failing_host from seen.host_old wake bytes made.taken made.host seen.host_new until link seen.link_old seen.link_new buffer going more (record { offers = made.offers; told = made.told }) room bytes_are waits);
   asked = turn_asked managed from until link seen.link_old seen.link_new buffer wake bytes made.taken made.host asked_is more bytes_are waits made.offers.told;
+  changed = subst (λ (cs : List HostCall). AddsHostCalls seen.host_old seen.host_new cs) (sym (append-nil (host_calls managed from.known (wanted_in from wake bytes) made.host))) made.asked;
 }
 
 pub one_ends : (managed : List Managed) (failing : Option Failing) (from to : Life) (host host_to : Option HostTold) (link link_to : Option LinkTold) (out out_to : Option (List ℕ)) (mets : List Met)
-    → is_over to ≡ true → Goes managed failing from host link out to host_to link_to out_to mets → Ends managed failing from host link out to link_to out_to mets
+    → is_over to ≡ true → Goes managed failing from host link out to host_to link_to out_to mets → Ends managed failing from host link out to host_to link_to out_to mets
 one_ends managed failing from to host host_to link link_to out out_to mets over goes = record {
   passes = goes.passes;
   whole = over_whole managed failing from host link mets to host_to link_to over goes.foretold;
   last = [];
   last_is = tt;
   asked = subst (λ (cs : List LinkCall). AddsCalls link link_to cs) (sym (append-nil (turns_ask managed from mets))) goes.asked;
+  changed = goes.changed;
 }

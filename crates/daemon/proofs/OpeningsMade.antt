@@ -19,6 +19,7 @@ use Rattle.client_model.specs.ToldDevices.{Determined, told_host_for}
 use Rattle.lease_file.specs.declared.clearing.Cleared.{Cleared}
 use Rattle.daemon.specs.declared.host_turns.HostTurn.{HostTurn}
 use Rattle.daemon.specs.HostTurns.{calls_of, met_of}
+use Rattle.daemon.specs.Asked.{AddsHostCalls}
 use Rattle.daemon.specs.Printing.{Prints}
 use Rattle.daemon.specs.Openings.{aside_of}
 use Rattle.daemon.proofs.Printings.{prints_then, prints_same}
@@ -58,6 +59,11 @@ module _ (managed : List Managed) (begin : Begin) (asides : Option (List Aside))
     readings = refl;
     host = subst (λ (w : List HostRow). AnswersAll managed None w (met_of asked)) wanted_here answers;
   }
+
+  pub asked_is : (old new : Option HostTold) → AddsHostCalls old new (calls_of asked) → calls_of asked ≡ host_calls managed None wanted (met_of asked)
+      → AddsHostCalls old new (host_calls managed None (rows_of (opening managed begin.up (capped begin.at))) (met_of asked))
+  asked_is old new adds calls =
+      subst (λ (w : List HostRow). AddsHostCalls old new (host_calls managed None w (met_of asked))) wanted_here (subst (λ (cs : List HostCall). AddsHostCalls old new cs) calls adds)
 
   pub told_is : (failing : Option (List ℕ)) (old new : Option HostTold) → Determined (told_host_for managed None wanted) failing old (met_of asked) new
       → Determined (told_host_for managed None (rows_of (opening managed begin.up (capped begin.at)))) failing old (met_of asked) new

@@ -2,15 +2,16 @@
 use Rattle.std.proofs.Common.{ℕ, ◌≡◌, List, [], ◌∷◌, ◌++◌, length, Option, Some, None, refl, sym, ap, subst, ◌∙◌, append_assoc, append-nil, arith}
 use Rattle.std.proofs.lemmas.List.{length-append}
 use Rattle.std.proofs.lemmas.List.Concat.{flat_map-append}
-use Rattle.world.specs.HostCalls.{HostTold}
+use Rattle.world.specs.HostCalls.{HostCall, HostTold}
 use Rattle.world.specs.LinkCalls.{LinkCall, LinkTold}
 use Rattle.client_model.specs.declared.interfaces.Managed.{Managed}
 use Rattle.client_model.specs.Turns.{Life, Met, life_after, turned}
 use Rattle.client_model.specs.Lives.{AllAnswered, turn_lines, turns_lines}
 use Rattle.client_model.specs.Lines.{Line, line_text, lines_text}
 use Rattle.client_model.specs.ToldDevices.{Failing, told_turns}
-use Rattle.daemon.specs.Asked.{turns_ask, AddsCalls}
+use Rattle.daemon.specs.Asked.{turns_ask, turns_change, AddsCalls, AddsHostCalls}
 use Rattle.daemon.proofs.Asking.{adds_none, adds_then, turns_ask-append}
+use Rattle.daemon.proofs.HostAsking.{host_adds_none, host_adds_then, turns_change-append}
 use Rattle.daemon.specs.Serving.{WritesLines, told_by, IsRest, AreForetold, AreWhole, Passes, Goes, Ends}
 
 pub life_after-append : (managed : List Managed) (from : Life) (a b : List Met) → life_after managed from (a ++ b) ≡ life_after managed (life_after managed from a) b
@@ -71,6 +72,14 @@ passes_then managed from mid to out out_mid out_to a b p q = record {
       (subst (λ (life : Life). WritesLines out_mid out_to (turns_lines managed life b)) p.after q.written));
 }
 
+-- what was asked of the host in one stretch and then in another
+changed_then : (managed : List Managed) (from mid : Life) (host host_mid host_to : Option HostTold) (a b : List Met) → mid ≡ life_after managed from a
+    → AddsHostCalls host host_mid (turns_change managed from a) → AddsHostCalls host_mid host_to (turns_change managed mid b) → AddsHostCalls host host_to (turns_change managed from (a ++ b))
+changed_then managed from mid host host_mid host_to a b after p q =
+    subst (λ (cs : List HostCall). AddsHostCalls host host_to cs) (sym (turns_change-append managed from a b))
+    (host_adds_then host host_mid host_to (turns_change managed from a) (turns_change managed (life_after managed from a) b) p
+    (subst (λ (life : Life). AddsHostCalls host_mid host_to (turns_change managed life b)) after q))
+
 pub goes_then : (managed : List Managed) (failing : Option Failing) (from mid to : Life) (host host_mid host_to : Option HostTold) (link link_mid link_to : Option LinkTold) (out out_mid out_to : Option (List ℕ)) (a b : List Met)
     → Goes managed failing from host link out mid host_mid link_mid out_mid a → Goes managed failing mid host_mid link_mid out_mid to host_to link_to out_to b
     → Goes managed failing from host link out to host_to link_to out_to (a ++ b)
@@ -80,6 +89,7 @@ goes_then managed failing from mid to host host_mid host_to link link_mid link_t
   asked = subst (λ (cs : List LinkCall). AddsCalls link link_to cs) (sym (turns_ask-append managed from a b))
       (adds_then link link_mid link_to (turns_ask managed from a) (turns_ask managed (life_after managed from a) b) p.asked
       (subst (λ (life : Life). AddsCalls link_mid link_to (turns_ask managed life b)) p.passes.after q.asked));
+  changed = changed_then managed from mid host host_mid host_to a b p.passes.after p.changed q.changed;
 }
 
 whole_rest : (managed : List Managed) (failing : Failing) (foretold : List Met) (count : ℕ) (a b : List Met) (mid : Life) (host_mid : Option HostTold) (link_mid : Option LinkTold)
@@ -95,10 +105,10 @@ whole_then managed (Some f) a b from mid None host_mid link link_mid p q = tt
 whole_then managed (Some f) a b from mid (Some h) host_mid None link_mid p q = tt
 whole_then managed (Some f) a b from mid (Some h) host_mid (Some l) link_mid p q = whole_rest managed f (told_turns managed f from (told_by l h) l.coming) (length l.coming) a b mid host_mid link_mid p q
 
-pub ends_then : (managed : List Managed) (failing : Option Failing) (from mid to : Life) (host host_mid : Option HostTold) (link link_mid link_to : Option LinkTold) (out out_mid out_to : Option (List ℕ)) (a b : List Met)
-    → Goes managed failing from host link out mid host_mid link_mid out_mid a → Ends managed failing mid host_mid link_mid out_mid to link_to out_to b
-    → Ends managed failing from host link out to link_to out_to (a ++ b)
-ends_then managed failing from mid to host host_mid link link_mid link_to out out_mid out_to a b p q = record {
+pub ends_then : (managed : List Managed) (failing : Option Failing) (from mid to : Life) (host host_mid host_to : Option HostTold) (link link_mid link_to : Option LinkTold) (out out_mid out_to : Option (List ℕ)) (a b : List Met)
+    → Goes managed failing from host link out mid host_mid link_mid out_mid a → Ends managed failing mid host_mid link_mid out_mid to host_to link_to out_to b
+    → Ends managed failing from host link out to host_to link_to out_to (a ++ b)
+ends_then managed failing from mid to host host_mid host_to link link_mid link_to out out_mid out_to a b p q = record {
   passes = passes_then managed from mid to out out_mid out_to a b p.passes q.passes;
   whole = whole_then managed failing a b from mid host host_mid link link_mid p.foretold q.whole;
   last = q.last;
@@ -107,6 +117,7 @@ ends_then managed failing from mid to host host_mid link link_mid link_to out ou
       (sym (append_assoc (turns_ask managed from a) (turns_ask managed (life_after managed from a) b) q.last) ∙ ap (λ (cs : List LinkCall). cs ++ q.last) (sym (turns_ask-append managed from a b)))
       (adds_then link link_mid link_to (turns_ask managed from a) (turns_ask managed (life_after managed from a) b ++ q.last) p.asked
       (subst (λ (life : Life). AddsCalls link_mid link_to (turns_ask managed life b ++ q.last)) p.passes.after q.asked));
+  changed = changed_then managed from mid host host_mid host_to a b p.passes.after p.changed q.changed;
 }
 
 rest_here : (managed : List Managed) (failing : Option Failing) (life : Life) (host : Option HostTold) (link : Option LinkTold) → AreForetold managed failing life host link [] life host link
@@ -120,4 +131,4 @@ passes_none managed life out = record { after = refl; answers = tt; written = li
 
 pub goes_nowhere : (managed : List Managed) (failing : Option Failing) (life : Life) (host : Option HostTold) (link : Option LinkTold) (out : Option (List ℕ))
     → Goes managed failing life host link out life host link out []
-goes_nowhere managed failing life host link out = record { passes = passes_none managed life out; foretold = rest_here managed failing life host link; asked = adds_none link }
+goes_nowhere managed failing life host link out = record { passes = passes_none managed life out; foretold = rest_here managed failing life host link; asked = adds_none link; changed = host_adds_none host }

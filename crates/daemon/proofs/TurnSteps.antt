@@ -19,6 +19,7 @@ use Rattle.client_core.specs.Stepping.{Steps}
 use Rattle.daemon.specs.declared.sends.Sent.{Sent}
 use Rattle.daemon.specs.declared.host_turns.HostTurn.{HostTurn}
 use Rattle.daemon.specs.HostTurns.{calls_of, met_of}
+use Rattle.daemon.specs.Asked.{AddsHostCalls}
 use Rattle.daemon.specs.Printing.{Prints}
 use Rattle.daemon.specs.Sends.{Offering, sendings_of, taken_of}
 use Rattle.daemon.specs.TurnsMade.{met_with}
@@ -51,6 +52,11 @@ module _ (managed : List Managed) (life : Life) (wake : Wake) (bytes : List ℕ)
 
   pub answers_are : AnswersAll managed life.known wanted (met_of asked) → AnswersAll managed life.known (wanted_in life wake bytes) (met_of asked)
   answers_are answers = subst (λ (w : List HostRow). AnswersAll managed life.known w (met_of asked)) wanted_here answers
+
+  pub asked_is : (old new : Option HostTold) → AddsHostCalls old new (calls_of asked) → calls_of asked ≡ host_calls managed life.known wanted (met_of asked)
+      → AddsHostCalls old new (host_calls managed life.known (wanted_in life wake bytes) (met_of asked))
+  asked_is old new adds calls =
+      subst (λ (w : List HostRow). AddsHostCalls old new (host_calls managed life.known w (met_of asked))) wanted_here (subst (λ (cs : List HostCall). AddsHostCalls old new cs) calls adds)
 
   pub told_is : (failing : Option (List ℕ)) (old new : Option HostTold) → Determined (told_host_for managed life.known wanted) failing old (met_of asked) new
       → Determined (told_host_for managed life.known (wanted_in life wake bytes)) failing old (met_of asked) new

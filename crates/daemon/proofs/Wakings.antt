@@ -32,13 +32,13 @@ takes_more managed failing here from mid to host host_mid host_to link link_mid 
   counted = omega (arith, p.counted, length-append p.mets (q.met ∷ []));
 }
 
-pub takes_last : (managed : List Managed) (failing here : Option Failing) (from mid to : Life) (host host_mid : Option HostTold) (link link_mid link_to : Option LinkTold) (out out_mid out_to : Option (List ℕ)) (count : ℕ)
-    → here ≡ failing → (a : TakesTurns managed failing from host link out mid host_mid link_mid out_mid count) → EndsThere managed here mid host_mid link_mid out_mid to link_to out_to
-    → EndsThere managed failing from host link out to link_to out_to
-takes_last managed failing here from mid to host host_mid link link_mid link_to out out_mid out_to count same p q = record {
+pub takes_last : (managed : List Managed) (failing here : Option Failing) (from mid to : Life) (host host_mid host_to : Option HostTold) (link link_mid link_to : Option LinkTold) (out out_mid out_to : Option (List ℕ)) (count : ℕ)
+    → here ≡ failing → (a : TakesTurns managed failing from host link out mid host_mid link_mid out_mid count) → EndsThere managed here mid host_mid link_mid out_mid to host_to link_to out_to
+    → EndsThere managed failing from host link out to host_to link_to out_to
+takes_last managed failing here from mid to host host_mid host_to link link_mid link_to out out_mid out_to count same p q = record {
   mets = p.mets ++ q.mets;
-  ends = ends_then managed failing from mid to host host_mid link link_mid link_to out out_mid out_to p.mets q.mets p.goes
-      (subst (λ (f : Option Failing). Ends managed f mid host_mid link_mid out_mid to link_to out_to q.mets) same q.ends);
+  ends = ends_then managed failing from mid to host host_mid host_to link link_mid link_to out out_mid out_to p.mets q.mets p.goes
+      (subst (λ (f : Option Failing). Ends managed f mid host_mid link_mid out_mid to host_to link_to out_to q.mets) same q.ends);
 }
 
 rest_many : (managed : List Managed) (failing : Failing) (foretold : List Met) (many : ℕ) (mets : List Met) (to : Life) (host_to : Option HostTold) (link_to : Option LinkTold) (count : ℕ)

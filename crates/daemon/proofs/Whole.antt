@@ -7,12 +7,13 @@ use Rattle.world.specs.LinkCalls.{LinkTold, Begins}
 use Rattle.world.specs.StoreCalls.{StoreTold}
 use Rattle.client_model.specs.declared.interfaces.Managed.{Managed}
 use Rattle.client_model.specs.Clients.{opening, rows_of}
+use Rattle.client_model.specs.HostTurn.{host_calls}
 use Rattle.client_model.specs.Opening.{OpeningMet, opened_client, opened_life}
 use Rattle.client_model.specs.Turns.{Life, Met, capped, life_after}
 use Rattle.client_model.specs.Lives.{AllAnswered, turns_lines, opening_lines, closing_lines}
 use Rattle.client_model.specs.Lines.{Line}
 use Rattle.client_model.specs.ToldDevices.{Failing, Determined, told_host, told_host_for, told_opening, told_turns}
-use Rattle.daemon.specs.Asked.{turns_ask, IsLast, AddsCalls}
+use Rattle.daemon.specs.Asked.{turns_ask, turns_change, IsLast, AddsCalls, AddsHostCalls}
 use Rattle.daemon.specs.Printing.{Prints}
 use Rattle.daemon.specs.Openings.{FindsNothing, MakesOpening}
 use Rattle.daemon.specs.Serving.{WritesLines, failing_of, told_by, AreWhole, AreManyTurns}
@@ -20,6 +21,7 @@ use Rattle.daemon.specs.Waking.{WritesBytes, EndsThere}
 use Rattle.daemon.specs.Served.{OpensForetold, Served}
 use Rattle.daemon.proofs.Wakes.{begun}
 use Rattle.daemon.proofs.Asking.{begin_adds}
+use Rattle.daemon.proofs.HostAsking.{host_adds_then}
 use Rattle.daemon.proofs.Stretches.{lines_then}
 
 met_is : (managed : List Managed) (failing : List ℕ) (host : HostTold) (begin : Begin) (met : OpeningMet) → met.begin ≡ begin → FindsNothing met
@@ -60,15 +62,15 @@ pub opening_written : (old new : Option (List ℕ)) (text : List ℕ) (lines : L
 opening_written None new text lines w p = w
 opening_written (Some written) new text lines w p = w ∙ ap (λ (x : List ℕ). Some (written ++ x)) p.appended
 
-pub serves : (managed : List Managed) (sends failing : Option (List ℕ)) (here : Option Failing) (host host_mid : Option HostTold) (link link_mid link_to : Option LinkTold) (store_failing : Option (List ℕ)) (store : Option StoreTold) (begin : Begin) (life last : Life)
+pub serves : (managed : List Managed) (sends failing : Option (List ℕ)) (here : Option Failing) (host host_mid host_to : Option HostTold) (link link_mid link_to : Option LinkTold) (store_failing : Option (List ℕ)) (store : Option StoreTold) (begin : Begin) (life last : Life)
     (text_old text written : List ℕ) (out out_one out_two out_three : Option (List ℕ))
     → here ≡ failing_of sends failing → Begins link link_mid (begun begin)
     → text_old ≡ [] → MakesOpening managed begin life failing host host_mid store_failing store text_old text
     → written ≡ text → WritesBytes out out_one written
-    → EndsThere managed here life host_mid link_mid out_one last link_to out_two
+    → EndsThere managed here life host_mid link_mid out_one last host_to link_to out_two
     → WritesLines out_two out_three (closing_lines last)
-    → Served managed (failing_of sends failing) host link link_to store_failing store out out_three
-serves managed sends failing here host host_mid link link_mid link_to store_failing store begin life last text_old text written out out_one out_two out_three same starts empty made text_is wrote ends closes =
+    → Served managed (failing_of sends failing) host host_to link link_to store_failing store out out_three
+serves managed sends failing here host host_mid host_to link link_mid link_to store_failing store begin life last text_old text written out out_one out_two out_three same starts empty made text_is wrote ends closes =
     let life_is : life ≡ opened_life managed made.met = made.after in
     let mets : List Met = ends.mets in
     let last_is : last ≡ life_after managed (opened_life managed made.met) mets = ends.ends.passes.after ∙ ap (λ (l : Life). life_after managed l mets) life_is in
@@ -89,6 +91,8 @@ serves managed sends failing here host host_mid link link_mid link_to store_fail
       last_is = subst (λ (l : Life). IsLast l ends.ends.last) last_is ends.ends.last_is;
       asked = begin_adds begin link link_mid link_to (turns_ask managed (opened_life managed made.met) mets ++ ends.ends.last) starts
           (subst (λ (l : Life). AddsCalls link_mid link_to (turns_ask managed l mets ++ ends.ends.last)) life_is ends.ends.asked);
+      changed = host_adds_then host host_mid host_to (host_calls managed None (rows_of (opened_client managed made.met)) made.met.host) (turns_change managed (opened_life managed made.met) mets) made.asked
+          (subst (λ (l : Life). AddsHostCalls host_mid host_to (turns_change managed l mets)) life_is ends.ends.changed);
       foretold = λ quiet. opens_foretold managed sends failing here host host_mid link link_mid begin made.met mets life same made.begins (made.quiet quiet) made.told starts life_is ends.ends.whole;
     }
 

@@ -2,8 +2,8 @@ pub mod HostTurns
 pub mod Printing
 pub mod Lives
 pub mod Sends
-pub mod TurnsMade
 pub mod Asked
+pub mod TurnsMade
 pub mod Serving
 pub mod Waking
 pub mod Openings

@@ -7,6 +7,7 @@ use Rattle.world.specs.StoreCalls.{StoreTold, Missing}
 use Rattle.client_model.specs.declared.interfaces.Managed.{Managed}
 use Rattle.client_model.specs.Clients.{rows_of}
 use Rattle.client_model.specs.Opening.{Aside, OpeningMet, Opens, file_names, opened_client, opened_life}
+use Rattle.client_model.specs.HostTurn.{host_calls}
 use Rattle.client_model.specs.Turns.{Life}
 use Rattle.client_model.specs.Lives.{opening_lines}
 use Rattle.client_model.specs.ToldDevices.{Determined, told_host_for}
@@ -14,6 +15,7 @@ use Rattle.lease_file.specs.declared.clearing.Cleared.{Cleared}
 use Rattle.lease_file.specs.Quiet.{IsQuiet}
 use Rattle.daemon.specs.declared.openings.Asides.{Asides}
 use Rattle.daemon.specs.declared.openings.Asides.TheVariants as found
+use Rattle.daemon.specs.Asked.{AddsHostCalls}
 use Rattle.daemon.specs.Printing.{Prints}
 
 abbrev pub aside_of : Cleared → Aside
@@ -46,5 +48,6 @@ pub record MakesOpening (managed : List Managed) (begin : Begin) (life : Life) (
   pub after : life ≡ opened_life managed met
   pub opens : Opens managed met
   pub told : Determined (told_host_for managed None (rows_of (opened_client managed met))) failing told_old met.host told_new
+  pub asked : AddsHostCalls told_old told_new (host_calls managed None (rows_of (opened_client managed met)) met.host)
   pub quiet : IsQuiet store_failing store_told → FindsNothing met
   pub lines : Prints text_old text_new (opening_lines managed met)

@@ -7,7 +7,7 @@ use Rattle.client_model.specs.Turns.{Life, Met, life_after}
 use Rattle.client_model.specs.Lives.{AllAnswered, turns_lines}
 use Rattle.client_model.specs.Lines.{Line, lines_text}
 use Rattle.client_model.specs.ToldDevices.{Failing, Told, told_turns}
-use Rattle.daemon.specs.Asked.{turns_ask, IsLast, AddsCalls}
+use Rattle.daemon.specs.Asked.{turns_ask, turns_change, IsLast, AddsCalls, AddsHostCalls}
 use Rattle.daemon.specs.declared.serving.ServeEnd.{ServeEnd}
 use Rattle.daemon.specs.declared.serving.ServeEnd.TheVariants as ends
 
@@ -59,16 +59,18 @@ pub record Goes (managed : List Managed) (failing : Option Failing)
   pub passes : Passes managed from out_from to out_to mets
   pub foretold : AreForetold managed failing from host_from link_from mets to host_to link_to
   pub asked : AddsCalls link_from link_to (turns_ask managed from mets)
+  pub changed : AddsHostCalls host_from host_to (turns_change managed from mets)
 
 -- a life is over after these turns
 pub record Ends (managed : List Managed) (failing : Option Failing)
     (from : Life) (host_from : Option HostTold) (link_from : Option LinkTold) (out_from : Option (List ℕ))
-    (to : Life) (link_to : Option LinkTold) (out_to : Option (List ℕ)) (mets : List Met) : Type 0 where
+    (to : Life) (host_to : Option HostTold) (link_to : Option LinkTold) (out_to : Option (List ℕ)) (mets : List Met) : Type 0 where
   pub passes : Passes managed from out_from to out_to mets
   pub whole : AreWhole managed failing from host_from link_from mets
   pub last : List LinkCall
   pub last_is : IsLast to last
   pub asked : AddsCalls link_from link_to (turns_ask managed from mets ++ last)
+  pub changed : AddsHostCalls host_from host_to (turns_change managed from mets)
 
 -- why a device call cut a life off: only where the count of that device rose
 abbrev pub HasServeCause : ServeEnd → ℕ → ℕ → ℕ → ℕ → Type 0

@@ -4,11 +4,12 @@ use Rattle.world.specs.declared.wakes.Wake.{Wake}
 use Rattle.world.specs.HostCalls.{HostTold}
 use Rattle.world.specs.LinkCalls.{LinkTold}
 use Rattle.client_model.specs.declared.interfaces.Managed.{Managed}
-use Rattle.client_model.specs.HostTurn.{HostMet, AnswersAll}
+use Rattle.client_model.specs.HostTurn.{HostMet, AnswersAll, host_calls}
 use Rattle.client_model.specs.Turns as model
 use Rattle.client_model.specs.Turns.{Met, step_of, wanted_in, turned}
 use Rattle.client_model.specs.Lives.{turn_lines}
 use Rattle.client_model.specs.ToldDevices.{Determined, told_host_for}
+use Rattle.daemon.specs.Asked.{AddsHostCalls}
 use Rattle.daemon.specs.Printing.{Prints}
 use Rattle.daemon.specs.Sends.{Offering}
 
@@ -32,4 +33,5 @@ pub record MakesTurn (managed : List Managed) (old : model.Life) (wake : Wake) (
   pub offers : Offering seen.failing_sends seen.link_old seen.link_new (step_of old wake bytes).sends taken
   pub answers : AnswersAll managed old.known (wanted_in old wake bytes) host
   pub told : Determined (told_host_for managed old.known (wanted_in old wake bytes)) seen.failing_host seen.host_old host seen.host_new
+  pub asked : AddsHostCalls seen.host_old seen.host_new (host_calls managed old.known (wanted_in old wake bytes) host)
   pub lines : Prints text_old text_new (turn_lines managed old (met_with wake bytes taken host))

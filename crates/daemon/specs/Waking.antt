@@ -30,10 +30,10 @@ pub record GoesOn (managed : List Managed) (failing : Option Failing) (from : mo
 
 -- it is over after none, since nothing more came, or after one, since the time after a stop has passed
 pub record EndsThere (managed : List Managed) (failing : Option Failing) (from : model.Life) (host : Option HostTold) (link : Option LinkTold) (out : Option (List ℕ))
-    (to : model.Life) (link_to : Option LinkTold) (out_to : Option (List ℕ)) : Type 0 where
+    (to : model.Life) (host_to : Option HostTold) (link_to : Option LinkTold) (out_to : Option (List ℕ)) : Type 0 where
   pub mets : List Met
-  pub ends : Ends managed failing from host link out to link_to out_to mets
+  pub ends : Ends managed failing from host link out to host_to link_to out_to mets
 
 abbrev pub IsOneTurn : List Managed → Option Failing → model.Life → Option HostTold → Option LinkTold → Option (List ℕ) → Woken → Option HostTold → Option LinkTold → Option (List ℕ) → Type 0
 IsOneTurn managed failing from host link out (On life) host_to link_to out_to = IsTimely life × GoesOn managed failing from host link out (life_of life) host_to link_to out_to
-IsOneTurn managed failing from host link out (Over life) host_to link_to out_to = EndsThere managed failing from host link out (life_of life) link_to out_to
+IsOneTurn managed failing from host link out (Over life) host_to link_to out_to = EndsThere managed failing from host link out (life_of life) host_to link_to out_to

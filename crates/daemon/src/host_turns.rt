@@ -96,7 +96,7 @@ fn managed_rows(
     ordered(alloc, &rows_on_managed(alloc, managed, &all)?)
 }
 
-#[tactic(auto, using(crate::proofs::HostAsking::adds_none))]
+#[tactic(auto, using(crate::proofs::HostAsking::host_adds_none))]
 fn learn<H: Host>(
     alloc: Global,
     host: &mut H,
@@ -133,7 +133,7 @@ fn learn<H: Host>(
 
 /// The host calls of a turn: a listing where the table isn't known, then the changes to the wanted rows.
 /// Answers what was asked with its answers, and leaves in `known` the table where it is known then.
-#[tactic(auto, using(crate::proofs::HostAsking::adds_then, crate::proofs::HostAsking::adds_none))]
+#[tactic(auto, using(crate::proofs::HostAsking::host_adds_then, crate::proofs::HostAsking::host_adds_none))]
 pub fn host_turn<H: Host>(
     alloc: Global,
     host: &mut H,

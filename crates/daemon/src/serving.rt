@@ -60,7 +60,7 @@ fn take_turns<O: Sink, L: Link, S: Store, H: Host, K: Hooks>(
 ) -> Result<Life, ServeEnd>
     requires timely { IsTimely life }
     requires going { is_over (life_of life) ≡ false }
-    ensures ok { IfOk result (λ last. EndsThere managed.now (failing_of (L.failing_sends live.old.link) (H.failing live.old.host)) (life_of life) (H.told live.old.host) (L.told live.old.link) (O.written out.old) (life_of last) (L.told live.new.link) (O.written out.new)) }
+    ensures ok { IfOk result (λ last. EndsThere managed.now (failing_of (L.failing_sends live.old.link) (H.failing live.old.host)) (life_of life) (H.told live.old.host) (L.told live.old.link) (O.written out.old) (life_of last) (H.told live.new.host) (L.told live.new.link) (O.written out.new)) }
     ensures cut { IfErr result (λ end. BreaksOff end managed.now (failing_of (L.failing_sends live.old.link) (H.failing live.old.host)) (life_of life) (H.told live.old.host) (L.told live.old.link) (O.written out.old) (O.written out.new)) }
     ensures later { IfOk result (λ _. (O.faults out.old ≤ O.faults out.new) × (L.faults live.old.link ≤ L.faults live.new.link)) }
     ensures cause { IfErr result (λ end. HasLifeCause end (O.faults out.old) (O.faults out.new) (L.faults live.old.link) (L.faults live.new.link)) }
@@ -99,7 +99,7 @@ fn live_on<O: Sink, L: Link, S: Store, H: Host, K: Hooks>(
     turns: u64,
 ) -> Result<(), ServeEnd>
     requires { AreManaged managed.now }
-    ensures ok { IfOk result (λ _. Served managed.now (failing_of (L.failing_sends live.old.link) (H.failing live.old.host)) (H.told live.old.host) (L.told live.old.link) (L.told live.new.link) (S.failing live.old.store) (S.told live.old.store) (O.written out.old) (O.written out.new)) }
+    ensures ok { IfOk result (λ _. Served managed.now (failing_of (L.failing_sends live.old.link) (H.failing live.old.host)) (H.told live.old.host) (H.told live.new.host) (L.told live.old.link) (L.told live.new.link) (S.failing live.old.store) (S.told live.old.store) (O.written out.old) (O.written out.new)) }
     ensures cut { IfErr result (λ end. Leaves end managed.now (failing_of (L.failing_sends live.old.link) (H.failing live.old.host)) (H.told live.old.host) (L.told live.old.link) (S.failing live.old.store) (S.told live.old.store) (O.written out.old) (O.written out.new)) }
     ensures later { IfOk result (λ _. (O.faults out.old ≤ O.faults out.new) × (L.faults live.old.link ≤ L.faults live.new.link)) }
     ensures cause { IfErr result (λ end. HasLifeCause end (O.faults out.old) (O.faults out.new) (L.faults live.old.link) (L.faults live.new.link)) }
@@ -131,7 +131,7 @@ pub fn serve<O: Sink, L: Link, S: Store, H: Host, K: Hooks>(
     turns: u64,
 ) -> ServeEnd
     requires { AreManaged managed.now }
-    ensures served { result ≡ ServeEnd.End → Served managed.now (failing_of (L.failing_sends live.old.link) (H.failing live.old.host)) (H.told live.old.host) (L.told live.old.link) (L.told live.new.link) (S.failing live.old.store) (S.told live.old.store) (O.written out.old) (O.written out.new) }
+    ensures served { result ≡ ServeEnd.End → Served managed.now (failing_of (L.failing_sends live.old.link) (H.failing live.old.host)) (H.told live.old.host) (H.told live.new.host) (L.told live.old.link) (L.told live.new.link) (S.failing live.old.store) (S.told live.old.store) (O.written out.old) (O.written out.new) }
     ensures cut { Leaves result managed.now (failing_of (L.failing_sends live.old.link) (H.failing live.old.host)) (H.told live.old.host) (L.told live.old.link) (S.failing live.old.store) (S.told live.old.store) (O.written out.old) (O.written out.new) }
     ensures cause { HasEndCause result (O.faults out.old) (O.faults out.new) (L.faults live.old.link) (L.faults live.new.link) }
     ensures foretold { L.failing_waits live.old.link ≡ Some [] → result ≢ ServeEnd.LinkFault }

@@ -51,12 +51,12 @@ over_script P script host link store at_first begins empty said =
     (subst (λ (l : LinkState). P (Some (record { sends = l.failing_sends; host = [] })) (Some (host_of script.rows).told) (Some l.told) (Some store.failing) (Some store.told)) begins
     (subst (λ (h : HostState). P (Some (record { sends = link.failing_sends; host = h.failing })) (Some h.told) (Some link.told) (Some store.failing) (Some store.told)) at_first said))
 
-pub lived : (managed : List Managed) (script : ScriptLines) (host : HostState) (link : LinkState) (link_to : Option LinkTold) (store : StoreState) (old new : Option (List ℕ))
+pub lived : (managed : List Managed) (script : ScriptLines) (host : HostState) (host_to : Option HostTold) (link : LinkState) (link_to : Option LinkTold) (store : StoreState) (old new : Option (List ℕ))
     → host ≡ host_of script.rows → link ≡ link_of script.life script.fails → store ≡ empty_store
-    → Served managed (failing_of (Some link.failing_sends) (Some host.failing)) (Some host.told) (Some link.told) link_to (Some store.failing) (Some store.told) old new → WritesLines old new (life_of_script managed script)
+    → Served managed (failing_of (Some link.failing_sends) (Some host.failing)) (Some host.told) host_to (Some link.told) link_to (Some store.failing) (Some store.told) old new → WritesLines old new (life_of_script managed script)
 unfolding life_of_script
-lived managed script host link link_to store old new at_first begins empty served =
-    let here = over_script (λ failing host link store_failing store. Served managed failing host link link_to store_failing store old new) script host link store at_first begins empty served in
+lived managed script host host_to link link_to store old new at_first begins empty served =
+    let here = over_script (λ failing host link store_failing store. Served managed failing host host_to link link_to store_failing store old new) script host link store at_first begins empty served in
     let told = here.foretold (record { unfailing = refl; empty = refl }) in
     subst (λ (l : List Line). WritesLines old new l) (same_lines managed (failing_sends script.fails) (host_of script.rows).told (link_of script.life script.fails).told here.opening here.mets told.0 told.1) here.written
 

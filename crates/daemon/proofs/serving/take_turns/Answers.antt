@@ -37,7 +37,7 @@ wakes-preserved g c =
 pub returns-in-Over-clause-ok : goal.returns-in-Over-clause-ok
 returns-in-Over-clause-ok g c =
     let woken = rw c.in-Over.is at c.in_ok-last.ensures.ok in
-    takes_last c.args.managed.now (failing_of (g.L.Link.failing_sends c.args.live.now.link) (g.H.Host.failing c.args.live.now.host)) (failing_of (g.L.Link.failing_sends c.wakes.live.link) (g.H.Host.failing c.wakes.live.host)) (life_of c.args.life) (life_of c.wakes.life) (life_of c.in-Over.last) (g.H.Host.told c.args.live.now.host) (g.H.Host.told c.wakes.live.host) (g.L.Link.told c.args.live.now.link) (g.L.Link.told c.wakes.live.link) _ (g.O.Sink.written c.args.out.now) (g.O.Sink.written c.wakes.out) _ c.wakes.counter (same_failing c.wakes.invariant.sends c.wakes.invariant.failing) c.wakes.invariant.turns woken
+    takes_last c.args.managed.now (failing_of (g.L.Link.failing_sends c.args.live.now.link) (g.H.Host.failing c.args.live.now.host)) (failing_of (g.L.Link.failing_sends c.wakes.live.link) (g.H.Host.failing c.wakes.live.host)) (life_of c.args.life) (life_of c.wakes.life) (life_of c.in-Over.last) (g.H.Host.told c.args.live.now.host) (g.H.Host.told c.wakes.live.host) _ (g.L.Link.told c.args.live.now.link) (g.L.Link.told c.wakes.live.link) _ (g.O.Sink.written c.args.out.now) (g.O.Sink.written c.wakes.out) _ c.wakes.counter (same_failing c.wakes.invariant.sends c.wakes.invariant.failing) c.wakes.invariant.turns woken
 
 pub returns-in_err-buf-clause-cut : goal.returns-in_err-buf-clause-cut
 returns-in_err-buf-clause-cut g c =

@@ -7,7 +7,7 @@ use Rattle.iface_core.specs.Outcomes.{sends_in}
 use Rattle.daemon.specs.HostTurns.{keys_of, met_of}
 use Rattle.daemon.specs.Lives.{life_of}
 use Rattle.daemon.specs.Sends.{taken_of}
-use Rattle.daemon.proofs.TurnSteps.{turned_is, offers_are, answers_are, told_is, turn_prints}
+use Rattle.daemon.proofs.TurnSteps.{turned_is, offers_are, answers_are, asked_is, told_is, turn_prints}
 use Rattle.daemon.proofs.turns.turn.Goals as goal
 
 pub returns-clause-made : goal.returns-clause-made
@@ -28,6 +28,8 @@ returns-clause-made g c =
           c.in_ok-asked.ensures.turn.answers;
       told = told_is c.args.managed.now life c.args.wake c.args.bytes.now turn c.in_ok-core.core (sends_in c.in_ok-core.outs) c.in_ok-sent.sent.items c.in_ok-asked.asked c.rows.result.now.keys turn_is c.in_ok-core.ensures.steps c.in_ok-sent.ensures.sendings c.rows.ensures.rows
           _ _ _ c.in_ok-asked.ensures.told;
+      asked = asked_is c.args.managed.now life c.args.wake c.args.bytes.now turn c.in_ok-core.core (sends_in c.in_ok-core.outs) c.in_ok-sent.sent.items c.in_ok-asked.asked c.rows.result.now.keys turn_is c.in_ok-core.ensures.steps c.in_ok-sent.ensures.sendings c.rows.ensures.rows
+          _ _ c.in_ok-asked.ensures.asked c.in_ok-asked.ensures.turn.calls;
       lines = turn_prints c.args.managed.now life c.args.wake c.args.bytes.now turn c.in_ok-core.core (sends_in c.in_ok-core.outs) c.in_ok-sent.sent.items c.in_ok-asked.asked c.rows.result.now.keys turn_is c.in_ok-core.ensures.steps c.in_ok-sent.ensures.sendings c.rows.ensures.rows
           _ _ _ _ _ c.raised-moment.result c.until.result c.deref-2.result.now c.in_ok-say.ensures c.raised-moment.ensures.value c.in_ok-say_sends.ensures c.deref-2.ensures.value c.in_ok-say_host_turn.ensures c.in_ok-asked.ensures.turn.calls c.in_ok-say-2.ensures (c.until.ensures ∙ ap until after);
     }

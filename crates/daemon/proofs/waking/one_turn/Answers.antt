@@ -3,6 +3,7 @@ use Rattle.daemon.specs.Lives.{life_of}
 use Rattle.daemon.specs.Serving.{failing_of, Goes}
 use Rattle.daemon.specs.TurnsMade.{met_with}
 use Rattle.daemon.proofs.Asking.{last_wait}
+use Rattle.daemon.proofs.HostAsking.{host_adds_none}
 use Rattle.daemon.proofs.Stretches.{passes_none}
 use Rattle.daemon.proofs.OneTurn.{ended_whole, one_goes, one_ends}
 use Rattle.daemon.specs.declared.serving.ServeEnd.TheVariants as ends
@@ -20,6 +21,7 @@ returns-then-ends_life-clause-ok g c =
         last = wait.last;
         last_is = wait.last_is;
         asked = wait.adds;
+        changed = host_adds_none (g.H.Host.told c.args.live.now.host);
         passes = passes_none c.args.managed.now (life_of c.args.life) (g.O.Sink.written c.args.out.now);
         whole = ended_whole c.args.managed.now (failing_of (g.L.Link.failing_sends c.args.live.now.link) (g.H.Host.failing c.args.live.now.host)) (life_of c.args.life) (g.H.Host.told c.args.live.now.host) c.in_ok-wake.wake _ (g.L.Link.told c.args.live.now.link) (g.L.Link.told c.wait.new.link) c.wait.new.buf (sym c.ends_life.ensures ∙ c.if-ends_life.true) c.in_ok-wake.ensures.ok.2;
       };
