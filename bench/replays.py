@@ -1,7 +1,7 @@
 #!/usr/bin/env python3
 """Times the program on long scripts.
 
-    bench/replays.py [--program PATH] [--kinds quiet carrier] [--sizes 4 16]
+    bench/replays.py [--program PATH] [--kinds quiet carrier local] [--sizes 4 16]
 
 For each kind of script and each size in MiB: the time, the time over that of the size before, the time of sha256sum of
 the same script, and the peak memory, also over the size of the script. `rt run` in crates/dhcpcd_prog builds the
@@ -21,15 +21,26 @@ MIB = 1 << 20
 IFACES = 64
 
 
-def head(ifaces):
-    """The lines before the turns: each interface has a static address and a router, and carrier."""
-    lines = ["dhcpcd-script 1", "c:script /dev/null"]
+def static_lines(ifaces):
+    """Each interface has a static address and a router."""
+    lines = []
     for i in range(1, ifaces + 1):
         lines += [
             f"c:interface eth{i}",
             f"c:static ip_address=10.0.{i}.2/24",
             f"c:static routers=10.0.{i}.1",
         ]
+    return lines
+
+
+def local_lines(ifaces):
+    """Each interface chooses a link-local address."""
+    return ["c:nodhcp"]
+
+
+def head(conf_lines, ifaces):
+    """The lines before the turns: the configuration, and interfaces that all have carrier."""
+    lines = ["dhcpcd-script 1", "c:script /dev/null"] + conf_lines(ifaces)
     lines += [f"if {i} eth{i} 02:00:00:00:00:{i:02x}" for i in range(1, ifaces + 1)]
     lines.append("start 1000 0 up " + ",".join(str(i) for i in range(1, ifaces + 1)))
     return "".join(line + "\n" for line in lines)
@@ -53,13 +64,43 @@ def carrier_turns():
                 yield f"turn {at} {at % 10} carrier {i} {state}\n"
 
 
-KINDS = {"quiet": (1, quiet_turns), "carrier": (IFACES, carrier_turns)}
+def arp_reply(sender):
+    """An ARP reply of another host with the address 169.254.1.SENDER."""
+    return (
+        "ffffffffffff0200000000ff08060001080006040002"
+        f"0200000000ffa9fe01{sender:02x}0200000000010a000001"
+    )
+
+
+def local_turns():
+    """A turn each quarter of a second. Every second turn brings an ARP frame, whose sender now and then has the very address
+    of the interface; at every 16th an interface loses its carrier, and eight turns later has it again."""
+    at, n = 1000, 0
+    while True:
+        at, n = at + 250, n + 1
+        iface = n // 16 % IFACES + 1
+        if n % 16 == 0:
+            event = f"carrier {iface} down"
+        elif n % 16 == 8:
+            event = f"carrier {iface} up"
+        elif n % 2 == 1:
+            event = f"frame {n % 59 + 1} {arp_reply(n % 251 + 1)}"
+        else:
+            event = "quiet"
+        yield f"turn {at} {at % 7} {event}\n"
+
+
+KINDS = {
+    "quiet": (static_lines, 1, quiet_turns),
+    "carrier": (static_lines, IFACES, carrier_turns),
+    "local": (local_lines, IFACES, local_turns),
+}
 
 
 def write_script(path, kind, size):
     """Writes a script of at most so many bytes, as long as whole lines allow."""
-    ifaces, turns = KINDS[kind]
-    text = head(ifaces)
+    conf_lines, ifaces, turns = KINDS[kind]
+    text = head(conf_lines, ifaces)
     left = size - len(text)
     with open(path, "w", encoding="ascii") as script:
         script.write(text)

@@ -1,27 +1,26 @@
 -- The host holds what it shall in the life of a script.
-use Rattle.std.proofs.Common.{ℕ, suc, ◌≡◌, ◌+◌, ◌<◌, Bool, true, false, cond, List, [], ◌∷◌, ◌++◌, length, take, Option, Some, None, refl, sym, ap, subst, ◌∙◌, append_assoc, arith}
+use Rattle.std.proofs.Common.{ℕ, suc, ◌≡◌, ◌+◌, ◌<◌, Bool, true, false, cond, List, [], ◌∷◌, ◌++◌, length, take, Option, Some, None, refl, sym, ap, subst, ◌∙◌}
 use Rattle.std.specs.Prelude.{IfSome, map, option_map, option_and_then}
 use Rattle.std.proofs.Math.Seq.{take-append_seam}
 use Rattle.std.proofs.lemmas.List.{length-append}
 use Rattle.net_types.specs.declared.interface.IfSpec.{IfSpec}
 use Rattle.world.specs.LinkCalls.{Given}
-use Rattle.world.specs.declared.rows.HostRow.{HostRow}
 use Rattle.client_model.specs.declared.interfaces.IfConf.{IfConf}
 use Rattle.client_model.specs.declared.interfaces.Managed.{Managed}
 use Rattle.client_model.specs.Scripts.{ScriptLines, CountsFrom}
 use Rattle.client_model.specs.Turns.{Met}
-use Rattle.client_model.specs.ToldDevices.{Failing, told_turn, told_turns}
+use Rattle.client_model.specs.ToldDevices.{Failing, told_turns}
 use Rattle.client_model.specs.HostInLife.{Running, running_turned, running_after}
 use Rattle.client_model.proofs.HostTableRows.{in_order_sorted}
 use Rattle.client_model.proofs.HostInLifeTurns.{opening_holds, turn_in_life}
-use Rattle.conf_text.specs.Settings.{Configuration, is_built, in_force, block_for, managed_by, managed_one, managed_each, managed_of}
+use Rattle.conf_text.specs.Settings.{Configuration, is_built, in_force, block_for, managed_one, managed_each, managed_of}
 use Rattle.evidence.specs.Laws.{AreNumbered}
 use Rattle.evidence.specs.HeldAddresses.{mets_of, RestOnEvidence}
 use Rattle.evidence.proofs.HostRests.{opening_rests, turns_rest}
 use Rattle.evidence.proofs.Numbered.{counted}
 use Rattle.evidence.proofs.Foretold.{foretold}
 use Rattle.dhcpcd.specs.Replays.{IsScript, failing_in, mets_of_script}
-use Rattle.dhcpcd.specs.HostHeld.{first_host, opening_of, opened, lived, lived_on, IsTurn, HoldsRightly}
+use Rattle.dhcpcd.specs.HostHeld.{first_host, opening_of, opened, lived_on, IsTurn, HoldsRightly}
 
 -- ---- the managed interfaces are those of the script
 

@@ -1,5 +1,5 @@
 -- What the host holds in the life of a script: the wanted rows, and no address without its basis.
-use Rattle.std.specs.Prelude.{ℕ, ◌≡◌, ◌+◌, ◌<◌, List, [], ◌∷◌, ◌++◌, length, take}
+use Rattle.std.specs.Prelude.{◌≡◌, ◌+◌, ◌<◌, List, [], ◌∷◌, ◌++◌, length, take}
 use Rattle.world.specs.HostCalls.{HostTold}
 use Rattle.world.specs.LinkCalls.{Given}
 use Rattle.client_model.specs.declared.interfaces.Managed.{Managed}

@@ -3,6 +3,8 @@
 
 mod heads;
 mod input;
+#[cfg(test)]
+mod link_local_tests;
 mod memory;
 mod replaying;
 mod running;

@@ -14,17 +14,17 @@ const EMPTY_TRANSCRIPT: &str =
 
 /// What is asked of the top call, and what it answers.
 #[derive(Drop)]
-struct Row {
-    words: &'static [&'static str],
-    text: &'static str,
+pub struct Row<'a> {
+    pub words: &'static [&'static str],
+    pub text: &'a str,
     /// The numbers of the reads that fail, from 1.
-    reads: &'static [u64],
+    pub reads: &'static [u64],
     /// The numbers of the writes that fail, from 1.
-    writes: &'static [u64],
+    pub writes: &'static [u64],
 }
 
 /// What the row answers, and what stands written then.
-fn answer(alloc: Global, row: &Row) -> Result<(Status, MemSink), Fail> {
+pub fn answer(alloc: Global, row: &Row<'_>) -> Result<(Status, MemSink), Fail> {
     let mut words = Vec::new(alloc);
     for word in row.words {
         words.push(word.to_string(alloc)?)?;
