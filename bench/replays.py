@@ -73,18 +73,18 @@ def arp_reply(sender):
 
 
 def local_turns():
-    """A turn each quarter of a second. Every second turn brings an ARP frame, whose sender now and then has the very address
-    of the interface; at every 16th an interface loses its carrier, and eight turns later has it again."""
+    """A turn each quarter of a second. Every second turn brings an ARP frame, whose sender now and then has the very
+    address of the interface; at every 16th an interface loses its carrier, and eight turns later has it again."""
     at, n = 1000, 0
     while True:
         at, n = at + 250, n + 1
-        iface = n // 16 % IFACES + 1
+        iface, hearer = n // 16 % IFACES + 1, n % 59 + 1
         if n % 16 == 0:
             event = f"carrier {iface} down"
         elif n % 16 == 8:
             event = f"carrier {iface} up"
         elif n % 2 == 1:
-            event = f"frame {n % 59 + 1} {arp_reply(n % 251 + 1)}"
+            event = f"frame {hearer} {arp_reply(hearer + n % 29)}"
         else:
             event = "quiet"
         yield f"turn {at} {at % 7} {event}\n"
