@@ -1,4 +1,5 @@
 ghost use Rattle.std.specs.Prelude.{◌≡◌, ◌++◌, ◌<◌, ◌^◌, ◌↔◌, ◌&&◌, not, IsTrue, false, map, flat_map, IfOk, OnOk};
+ghost use Rattle.std.specs.Option.{is_some};
 ghost use Rattle.world.specs.Rows.{IsInterface};
 ghost use Rattle.client_model.specs.Interfaces.{index_of, iface_turned};
 ghost use Rattle.client_model.specs.Clients.{sends_of};
@@ -17,6 +18,13 @@ pub fn is_in_force(f: &Iface) -> bool
     ensures { result ≡ (f.now.up && not f.now.stopped) }
 {
     f.up && !f.stopped
+}
+
+/// Whether an interface has a static line that is in force.
+fn has_static(f: &Iface) -> bool
+    ensures { result ≡ ((f.now.up && not f.now.stopped) && is_some f.now.managed.conf.line) }
+{
+    is_in_force(f) && f.managed.conf.line.is_some()
 }
 
 /// Whether two addresses are the same, or both none.
@@ -43,9 +51,9 @@ fn turn_iface(
     ensures goes { OnOk result (Goes (iface_turned own.now (turn_of turn.now) f.old) f.new (sends_in outs.old) (sends_in outs.new)) }
     ensures same { IfOk result (λ changed. changed ≡ false → iface_rows f.new ≡ iface_rows f.old) }
 {
-    let (was_in_force, held) = (is_in_force(f), iface_held(f));
+    let (had_static, held) = (has_static(f), iface_held(f));
     iface_turn(f, turn, own, outs)?;
-    Ok(is_in_force(f) != was_in_force || !is_same(iface_held(f), held))
+    Ok(has_static(f) != had_static || !is_same(iface_held(f), held))
 }
 
 /// A turn of each interface, in order. Answers whether the rows that they bring may have changed.
