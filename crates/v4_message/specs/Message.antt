@@ -36,12 +36,12 @@ abbrev pub areas_begin : Begins
 areas_begin = record { options = 240; file = 108; sname = 44 }
 
 -- the instances of a message's options
-abbrev pub message_instances : List ℕ → List Instance
+unfoldable pub message_instances : List ℕ → List Instance
 message_instances message =
     instances_over (overload_in (options_area message)) (options_area message) (file_area message) (sname_area message)
 
 -- the place in a message of its first malformed option
-abbrev pub malformed_place : List ℕ → Option ℕ
+unfoldable pub malformed_place : List ℕ → Option ℕ
 malformed_place message =
     malformed_over areas_begin (overload_in (options_area message)) (options_area message) (file_area message) (sname_area message)
 

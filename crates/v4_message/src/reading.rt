@@ -3,7 +3,7 @@
 ghost use Rattle.std.specs.Prelude.{◌≡◌, ◌≤◌, ◌<◌, ◌+◌, ◌^◌, length, Some, None, IfOk, IfErr};
 ghost use Rattle.v4_options.specs.Overload.{overload_in};
 ghost use Rattle.v4_options.specs.OptionViews.{area_bytes, view_instances};
-ghost use Rattle.v4_message.specs.Message.{is_reply, has_cookie, field, number_in, options_area, file_area, sname_area, malformed_place, kind_among};
+ghost use Rattle.v4_message.specs.Message.{is_reply, has_cookie, field, number_in, options_area, file_area, sname_area, message_instances, malformed_place, kind_among};
 ghost use Rattle.v4_message.specs.Replies.{refusal_of, place_in_message, IsReadAs};
 
 use crate::field::{
@@ -136,6 +136,7 @@ fn options_in<'a>(payload: &'a [u8]) -> Result<OptionView<'a>, Malformed>
     requires { 240 ≤ length payload.now }
     ensures same { IfOk result (λ view. area_bytes view.areas ≡ (options_area payload.now, file_area payload.now, sname_area payload.now)) }
     ensures overload { IfOk result (λ view. view.overload ≡ overload_in (options_area payload.now)) }
+    ensures instances { IfOk result (λ view. view_instances view ≡ message_instances payload.now) }
     ensures whole { IfOk result (λ _. malformed_place payload.now ≡ None) }
     ensures malformed { IfErr result (λ malformed. malformed_place payload.now ≡ Some malformed.place) }
 {
