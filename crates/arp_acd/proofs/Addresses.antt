@@ -8,7 +8,8 @@ use Rattle.arp_acd.specs.declared.detection.Phase.{Phase}
 use Rattle.arp_acd.specs.declared.detection.Phase.TheVariants.{Probing, Announcing, Held, Over}
 use Rattle.arp_acd.specs.Conflict.{is_used, is_contested}
 use Rattle.arp_acd.specs.Table.{acd_tick, acd_hears, contested_row}
-use Rattle.arp_acd.proofs.Standing.{split, mk}
+use Rattle.arp_acd.proofs.Standing.{mk}
+use Rattle.net_types.proofs.CaseLaws.{split}
 
 -- A detection stays with its address.
 

@@ -13,7 +13,8 @@ use Rattle.arp_acd.specs.Conflict.{is_used, is_contested}
 use Rattle.arp_acd.specs.Table.{acd_begun, acd_hears, contested_row}
 use Rattle.arp_acd.specs.History.{AcdEvent, Tick, Heard, Unsent, AcdEntry, moment, acd_step, acd_after, acd_history, Probes, probes_sent, last_defence}
 use Rattle.arp_acd.specs.Laws.{PassesAfterProbes, IsInUse, AnswersConflict, GivesUpContestedTwice}
-use Rattle.arp_acd.proofs.Standing.{split, test-le, wait_after, Carries, Stands, StandsAfter, mk, probes-later, tick_keeps, heard_keeps, unsent_keeps}
+use Rattle.arp_acd.proofs.Standing.{test-le, wait_after, Carries, Stands, StandsAfter, mk, probes-later, tick_keeps, heard_keeps, unsent_keeps}
+use Rattle.net_types.proofs.CaseLaws.{split}
 
 -- What each phase carries holds after every list of events; the laws follow.
 

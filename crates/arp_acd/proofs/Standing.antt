@@ -1,4 +1,4 @@
-use Rattle.std.proofs.Common.{◌≡◌, ℕ, zero, suc, ◌+◌, ◌-◌, ◌<◌, ◌≤◌, Bool, true, false, List, ◌∷◌, Option, Some, None, nat_eq, nat_le, nat_lt, inl, inr, refl, sym, ap, subst, add-one, arith, lit≤}
+use Rattle.std.proofs.Common.{◌≡◌, ℕ, zero, suc, ◌+◌, ◌-◌, ◌<◌, ◌≤◌, true, false, List, ◌∷◌, Option, Some, None, nat_eq, nat_le, nat_lt, inl, inr, refl, sym, ap, subst, add-one, arith, lit≤}
 use Rattle.std.proofs.lemmas.Bool.Decides.{nat_tests}
 use Rattle.std.specs.Prelude.{if◌then◌else◌}
 use Rattle.machine.proofs.Entries.{since-map}
@@ -14,12 +14,9 @@ use Rattle.arp_acd.specs.declared.detection.Phase.TheVariants.{Probing, Announci
 use Rattle.arp_acd.specs.Conflict.{is_used, is_contested}
 use Rattle.arp_acd.specs.Table.{AcdStep, acd_tick, acd_hears, acd_restarts, due_after, contested_row}
 use Rattle.arp_acd.specs.History.{AcdEvent, Tick, Heard, Unsent, AcdEntry, moment, IsCalm, Probes, probes_sent, last_defence}
+use Rattle.net_types.proofs.CaseLaws.{split}
 
 -- What each phase carries of the history.
-
-pub split : {A : Type 0} (b : Bool) → (b ≡ true → A) → (b ≡ false → A) → A
-split true f g = f refl
-split false f g = g refl
 
 -- the quiet after the probe that makes them n
 abbrev pub wait_after : ℕ → ℕ

@@ -7,6 +7,7 @@ use Rattle.arp_acd.specs.declared.detection.Acd.{Acd}
 use Rattle.arp_acd.specs.declared.detection.AcdSays.{AcdSays}
 use Rattle.arp_acd.specs.declared.detection.AcdSays.TheVariants.{Quiet, SayProbe, SayAnnounce}
 use Rattle.arp_acd.specs.Conflict.{is_contested}
+use Rattle.arp_acd.specs.declared.timing.TheConstants.{PROBE_MIN}
 use Rattle.arp_acd.specs.Table.{AcdStep, acd_tick, acd_hears, acd_restarts}
 
 -- What may happen to a conflict detection, at which moment.
@@ -46,14 +47,14 @@ IsCalm own addr (Tick at salt) = Unit {0}
 IsCalm own addr (Heard arp at) = is_contested own addr arp ≡ false
 IsCalm own addr (Unsent at salt) = ⊥
 
--- So many probes were said: the last one `wait` or more before the moment `before`, each other one a second or more
+-- So many probes were said: the last one `wait` or more before the moment `before`, each other one PROBE_MIN or more
 -- before the next. Since the first of them all was calm, so each of them was sent.
 abbrev pub Probes : List Mac → Ip4 → (count wait before : ℕ) → List AcdEntry → Type 0
 Probes own addr zero wait before past = Unit {0}
 Probes own addr (suc count) wait before past =
     Since (λ e earlier. IsCalm own addr e.event)
     (λ e earlier. IsCalm own addr e.event × (e.says ≡ SayProbe) × (moment e.event + wait ≤ before)
-    × Probes own addr count 1000 (moment e.event) earlier)
+    × Probes own addr count PROBE_MIN (moment e.event) earlier)
     past
 
 -- How many probes were sent since the last send that failed.

@@ -7,6 +7,7 @@ use Rattle.arp_acd.specs.declared.detection.Acd.{Acd}
 use Rattle.arp_acd.specs.declared.detection.AcdSays.TheVariants.{Passed, SayAnnounce, GivenUp}
 use Rattle.arp_acd.specs.declared.detection.Phase.{Phase}
 use Rattle.arp_acd.specs.declared.detection.Phase.TheVariants.{Probing, Announcing, Held, Over}
+use Rattle.arp_acd.specs.declared.timing.TheConstants.{PROBE_NUM, ANNOUNCE_WAIT, DEFEND_INTERVAL}
 use Rattle.arp_acd.specs.Conflict.{is_used}
 use Rattle.arp_acd.specs.Table.{AcdStep, acd_begun, acd_hears}
 use Rattle.arp_acd.specs.History.{AcdEvent, moment, acd_step, acd_after, acd_history, Probes, probes_sent, last_defence}
@@ -17,8 +18,8 @@ use Rattle.arp_acd.specs.History.{AcdEvent, moment, acd_step, acd_after, acd_his
 -- from the first of the three on no send failed and no packet contested the address. Nor is a probe whose send failed
 -- among the three: three were sent since the last send that failed.
 pub record PassesProbed (own : List Mac) (addr : Ip4) (start : Acd) (past : List AcdEvent) (event : AcdEvent) : Type 0 where
-  pub probed : Probes own addr 3 2000 (moment event) (acd_history own start past)
-  pub counted : probes_sent (acd_history own start past) ≡ 3
+  pub probed : Probes own addr PROBE_NUM ANNOUNCE_WAIT (moment event) (acd_history own start past)
+  pub counted : probes_sent (acd_history own start past) ≡ PROBE_NUM
 
 abbrev pub PassesAfterProbes : Type 0
 PassesAfterProbes = (own : List Mac) (iface : IfIndex) (addr : Ip4) (at salt : ℕ) (past : List AcdEvent) (event : AcdEvent)
@@ -39,8 +40,8 @@ pub record IsGivenUp (step : AcdStep) : Type 0 where
 -- An address in use that another host is heard to use is defended at the first conflict and at each one that comes ten
 -- seconds or more after the last one. At an earlier one it is given up.
 pub record AnswersConflict (before at : ℕ) (step : AcdStep) : Type 0 where
-  pub soon : at < before + 10000 → IsGivenUp step
-  pub late : before + 10000 ≤ at → step.says ≡ SayAnnounce
+  pub soon : at < before + DEFEND_INTERVAL → IsGivenUp step
+  pub late : before + DEFEND_INTERVAL ≤ at → step.says ≡ SayAnnounce
 
 abbrev pub GivesUpContestedTwice : Type 0
 GivesUpContestedTwice = (own : List Mac) (iface : IfIndex) (addr : Ip4) (at salt : ℕ) (past : List AcdEvent) (arp : ArpView) (now : ℕ)

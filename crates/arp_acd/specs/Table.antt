@@ -11,6 +11,7 @@ use Rattle.arp_acd.specs.declared.detection.AcdSays.TheVariants.{Quiet, SayProbe
 use Rattle.arp_acd.specs.declared.detection.Phase.{Phase}
 use Rattle.arp_acd.specs.declared.detection.Phase.TheVariants.{Probing, Announcing, Held, Over}
 use Rattle.arp_acd.specs.Conflict.{is_used, is_contested}
+use Rattle.arp_acd.specs.declared.timing.TheConstants.{PROBE_WAIT, PROBE_NUM, PROBE_MIN, PROBE_MAX, ANNOUNCE_WAIT, ANNOUNCE_INTERVAL, DEFEND_INTERVAL}
 
 -- The table of conflict detection (RFC 5227), a row a case. Moments are in milliseconds.
 
@@ -34,9 +35,9 @@ moves acd phase says = record { acd = record acd { phase = phase }; says = says 
 abbrev pub stays : Acd → AcdStep
 stays acd = record { acd = acd; says = Quiet }
 
--- No probe is sent yet, and the first one is due within a second.
+-- No probe is sent yet, and the first one is due within PROBE_WAIT.
 abbrev pub probing_anew : IfIndex → (at salt : ℕ) → Phase
-probing_anew iface at salt = Probing 0 (at + draw_of salt iface 1001)
+probing_anew iface at salt = Probing 0 (at + draw_of salt iface (PROBE_WAIT + 1))
 
 abbrev pub acd_begun : IfIndex → Ip4 → (at salt : ℕ) → Acd
 acd_begun iface addr at salt = record { iface = iface; addr = addr; phase = probing_anew iface at salt }
@@ -47,16 +48,18 @@ due_of (Announcing due last) = Some due
 due_of (Held last) = None
 due_of Over = None
 
--- What follows a probe: the next one after one to two seconds, or the end of the probing after two seconds.
+-- What follows a probe: the next one after PROBE_MIN to PROBE_MAX, or the end of the probing after ANNOUNCE_WAIT.
 abbrev pub due_after : IfIndex → (sent : ℕ) → (at salt : ℕ) → ℕ
-due_after iface sent at salt = if nat_eq sent 3 then at + 2000 else at + 1000 + draw_of salt iface 1001
+due_after iface sent at salt =
+    if nat_eq sent PROBE_NUM then at + ANNOUNCE_WAIT
+    else at + PROBE_MIN + draw_of salt iface (PROBE_MAX - PROBE_MIN + 1)
 
 abbrev pub tick_row : Acd → Phase → (at salt : ℕ) → AcdStep
--- Probing, fewer than three sent: a probe. Three sent: the address has passed, and is announced.
+-- Probing, fewer than PROBE_NUM sent: a probe. So many sent: the address has passed, and is announced.
 tick_row acd (Probing sent due) at salt =
-    if nat_lt sent 3
+    if nat_lt sent PROBE_NUM
     then moves acd (Probing (sent + 1) (due_after acd.iface (sent + 1) at salt)) SayProbe
-    else moves acd (Announcing (at + 2000) None) Passed
+    else moves acd (Announcing (at + ANNOUNCE_INTERVAL) None) Passed
 -- Announcing: the second announcement.
 tick_row acd (Announcing due last) at salt = moves acd (Held last) SayAnnounce
 tick_row acd (Held last) at salt = stays acd
@@ -66,12 +69,12 @@ tick_row acd Over at salt = stays acd
 abbrev pub acd_tick : Acd → (at salt : ℕ) → AcdStep
 acd_tick acd at salt = if is_due (due_of acd.phase) at then tick_row acd acd.phase at salt else stays acd
 
--- A conflict over an address that has passed. With none before, or the last one ten seconds ago or more, the address is
+-- A conflict over an address that has passed. With none before, or the last one DEFEND_INTERVAL ago or more, the address is
 -- defended by an announcement; else it is given up.
 abbrev pub contested_row : Acd → (last : Option ℕ) → (at : ℕ) → (defended : Phase) → AcdStep
 contested_row acd None at defended = moves acd defended SayAnnounce
 contested_row acd (Some last) at defended =
-    if nat_le 10000 (at - last) then moves acd defended SayAnnounce else moves acd Over GivenUp
+    if nat_le DEFEND_INTERVAL (at - last) then moves acd defended SayAnnounce else moves acd Over GivenUp
 
 abbrev pub heard_row : List Mac → Acd → Phase → ArpView → (at : ℕ) → AcdStep
 -- Probing: a conflict ends it.

@@ -4,23 +4,12 @@ ghost use Rattle.arp_acd.specs.Table.{IsQuiet, IsStep, acd_begun, acd_hears, acd
 ghost use Rattle.arp_acd.specs.Rests.{tick_rests};
 
 use crate::foreign::{is_contested, is_used};
+use crate::timing::{
+    ANNOUNCE_INTERVAL, ANNOUNCE_WAIT, DEFEND_INTERVAL, PROBE_MAX, PROBE_MIN, PROBE_NUM, PROBE_WAIT,
+};
 use frame_link::ArpView;
 use machine::{Machine, clamp_moment, draw, has_come};
 use net_types::{IfIndex, Ip4, Mac};
-
-/// How many probes are sent before an address is used (RFC 5227, section 1.1: PROBE_NUM).
-const PROBES: u8 = 3;
-/// The random part of a wait is one of so many milliseconds, 0 to 1,000: of the wait for the first probe
-/// (PROBE_WAIT), and of that for each later one beyond `PROBE_MIN` (up to PROBE_MAX).
-const SPREAD: u32 = 1001;
-/// The least time from one probe to the next, in milliseconds (PROBE_MIN).
-const PROBE_MIN: u64 = 1000;
-/// The time from the last probe to the first announcement, in milliseconds (ANNOUNCE_WAIT).
-const ANNOUNCE_WAIT: u64 = 2000;
-/// The time from the first announcement to the second, in milliseconds (ANNOUNCE_INTERVAL).
-const ANNOUNCE_INTERVAL: u64 = 2000;
-/// Two conflicts that are closer, in milliseconds, are one too many (DEFEND_INTERVAL).
-const DEFEND_INTERVAL: u64 = 10_000;
 
 /// Where a conflict detection stands. Moments are in milliseconds.
 #[derive(Clone, Copy, Debug, PartialEq, Eq)]
@@ -89,7 +78,7 @@ pub fn acd_begin(iface: IfIndex, addr: Ip4, at: u64, salt: u64) -> Acd
 fn first_probe(iface: IfIndex, at: u64, salt: u64) -> Phase
     ensures { result ≡ probing_anew iface (moment_of at) salt }
 {
-    let due = clamp_moment(at) + u64::from(draw(salt, iface, SPREAD));
+    let due = clamp_moment(at) + u64::from(draw(salt, iface, PROBE_WAIT + 1));
     Phase::Probing { sent: 0, due }
 }
 
@@ -135,7 +124,7 @@ impl Machine for Acd {
         }
         match self.phase {
             // fewer than three sent: a probe
-            Phase::Probing { sent, .. } if sent < PROBES => {
+            Phase::Probing { sent, .. } if sent < PROBE_NUM => {
                 self.phase = Phase::Probing {
                     sent: sent + 1,
                     due: self.due_after(sent + 1, at, salt),
@@ -183,10 +172,11 @@ impl Acd {
         requires { at < 2 ^ 63 }
         ensures { result ≡ due_after self.now.iface sent at salt }
     {
-        if sent == PROBES {
+        if sent == PROBE_NUM {
             at + ANNOUNCE_WAIT
         } else {
-            at + PROBE_MIN + u64::from(draw(salt, self.iface, SPREAD))
+            let more = draw(salt, self.iface, PROBE_MAX - PROBE_MIN + 1);
+            at + u64::from(PROBE_MIN) + u64::from(more)
         }
     }
 }

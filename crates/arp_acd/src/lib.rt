@@ -8,6 +8,7 @@
 mod detection;
 mod foreign;
 mod laws;
+pub mod timing;
 
 pub use detection::{Acd, AcdSays, ArpSay, acd_addr, acd_begin, acd_heard, acd_held, acd_unsent};
 pub use laws::{gives_up_contested_twice, passes_after_probes};

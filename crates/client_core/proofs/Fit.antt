@@ -1,45 +1,58 @@
 -- Interfaces that fit go on to fit.
-use Rattle.std.proofs.Common.{ℕ, List, [], ◌∷◌, ◌++◌, sym, subst}
+use Rattle.std.proofs.Common.{ℕ, ◌≡◌, ◌+◌, ◌<◌, List, [], ◌∷◌, ◌++◌, length, get_or, take, refl, sym, ap, subst, ◌∙◌}
 use Rattle.std.specs.Prelude.{map, flat_map}
 use Rattle.std.specs.List.{AllByRecursion}
+use Rattle.std.proofs.lemmas.List.{take_more, map-append, flat_map_more}
+use Rattle.net_types.proofs.AllLaws.{all_join}
 use Rattle.net_types.specs.declared.address.Mac.{Mac}
 use Rattle.net_types.specs.declared.interface.IfSpec.{IfSpec}
-use Rattle.arp_acd.specs.declared.detection.ArpSay.{ArpSay}
-use Rattle.arp_acd.specs.declared.detection.ArpSay.TheVariants.{Probe, Announce}
 use Rattle.world.specs.Rows.{IsInterface}
-use Rattle.client_model.specs.declared.interfaces.Managed.{Managed}
+use Rattle.settings.specs.declared.interfaces.Managed.{Managed}
+use Rattle.settings.specs.Fitting.{AreManaged}
 use Rattle.client_model.specs.declared.interfaces.Iface.{Iface}
-use Rattle.client_model.specs.Clients.{spelled}
-use Rattle.client_model.specs.Fitting.{FitsManaged, FitsIface, AreManaged, AreIfaces}
-use Rattle.client_model.specs.Interfaces.{TurnInput, opened, iface_turned}
+use Rattle.client_model.specs.declared.steps.Said.{Said}
+use Rattle.client_model.specs.IfaceSteps.{IfaceStep, news_of}
+use Rattle.client_model.specs.Interfaces.{opened}
+use Rattle.client_model.specs.IfaceTurns.{Turn, iface_turned}
+use Rattle.client_model.specs.Clients.{spelled, sends_of}
+use Rattle.client_model.specs.Fitting.{AreIfaces}
+use Rattle.iface_core.specs.Outcomes.{Asked, Goes}
 use Rattle.iface_core.proofs.Staying.{turn_stays, stays_fit, opened_fits}
-use Rattle.client_core.specs.Stepping.{IsOnInterface, goes_on, offers}
+use Rattle.client_core.specs.Stepping.{IsOnInterface, GoAll}
 
-pub opened_fit : (up at : ℕ) (managed : List Managed) → AreManaged managed → AreIfaces (map (opened up at) managed)
+pub opened_fit : (up at : ℕ) (managed : List Managed) → AreManaged managed → AreIfaces (map (λ m. (opened up at m).iface) managed)
 opened_fit up at [] fit = tt
 opened_fit up at (m ∷ managed) fit = (opened_fits up at m fit.0, opened_fit up at managed fit.1)
 
-pub turned_fit : (own : List Mac) (turn : TurnInput) (ifaces : List Iface) → AreIfaces ifaces → AreIfaces (map (goes_on own turn) ifaces)
+pub turned_fit : (own : List Mac) (turn : Turn) (ifaces : List Iface) → AreIfaces ifaces → AreIfaces (map (λ iface. (iface_turned own turn iface).iface) ifaces)
 turned_fit own turn [] fit = tt
-turned_fit own turn (f ∷ ifaces) fit = (stays_fit f (goes_on own turn f) (turn_stays own turn f) fit.0, turned_fit own turn ifaces fit.1)
-
-pub both_fit : {X : Type 0} (P : X → Type 0) (xs ys : List X) → AllByRecursion P xs → AllByRecursion P ys → AllByRecursion P (xs ++ ys)
-both_fit P [] ys fit more = more
-both_fit P (x ∷ xs) ys fit more = (fit.0, both_fit P xs ys fit.1 more)
+turned_fit own turn (iface ∷ ifaces) fit = (stays_fit iface (iface_turned own turn iface).iface (turn_stays own turn iface) fit.0, turned_fit own turn ifaces fit.1)
 
 -- ---- the frames that interfaces offer
 
-spelled_on : (spec : IfSpec) (said : List ArpSay) → IsInterface spec.index.number → AllByRecursion IsOnInterface (map (spelled spec) said)
+spelled_on : (spec : IfSpec) (said : List Said) → IsInterface spec.index.number → AllByRecursion IsOnInterface (map (spelled spec) said)
 spelled_on spec [] index = tt
-spelled_on spec (Probe addr ∷ said) index = (index, spelled_on spec said index)
-spelled_on spec (Announce addr ∷ said) index = (index, spelled_on spec said index)
+spelled_on spec (message ∷ said) index = (index, spelled_on spec said index)
 
-offers_on : (own : List Mac) (turn : TurnInput) (f : Iface) → FitsIface f → AllByRecursion IsOnInterface (offers own turn f)
-offers_on own turn f fits =
-    let managed : FitsManaged f.managed = fits.managed in
-    spelled_on (goes_on own turn f).managed.spec (iface_turned own turn f).said
-    (subst (λ (m : Managed). IsInterface m.spec.index.number) (sym (turn_stays own turn f).managed) managed.index)
+pub steps_on : {X : Type 0} (step : X → IfaceStep) (xs : List X) → AreIfaces (map (λ x. (step x).iface) xs)
+    → AllByRecursion IsOnInterface (flat_map (λ x. sends_of (step x)) xs)
+steps_on step [] fit = tt
+steps_on step (x ∷ xs) fit =
+    all_join IsOnInterface (sends_of (step x)) (flat_map (λ y. sends_of (step y)) xs)
+    (spelled_on (step x).iface.managed.spec (step x).said fit.0.managed.index) (steps_on step xs fit.1)
 
-pub all_on : (own : List Mac) (turn : TurnInput) (ifaces : List Iface) → AreIfaces ifaces → AllByRecursion IsOnInterface (flat_map (offers own turn) ifaces)
-all_on own turn [] fit = tt
-all_on own turn (f ∷ ifaces) fit = both_fit IsOnInterface (offers own turn f) (flat_map (offers own turn) ifaces) (offers_on own turn f fit.0) (all_on own turn ifaces fit.1)
+-- ---- one after another
+
+pub go_more : {X : Type 0} (step : X → IfaceStep) (xs : List X) (i : ℕ) (d : X) (ifaces : List Iface) (iface : Iface) (before amid after : Asked) → i < length xs
+    → GoAll step (take i xs) ifaces before amid → Goes (step (get_or xs i d)) iface amid after → GoAll step (take (i + 1) xs) (ifaces ++ iface ∷ []) before after
+go_more step xs i d ifaces iface before amid after lt all one =
+    let x = get_or xs i d in
+    let more : take (i + 1) xs ≡ take i xs ++ x ∷ [] = take_more xs i d lt in
+    record {
+      go_on = ap (λ (done : List Iface). done ++ iface ∷ []) all.go_on ∙ ap (λ (last : Iface). map (λ y. (step y).iface) (take i xs) ++ last ∷ []) one.goes_on
+          ∙ sym (ap (map (λ y. (step y).iface)) more ∙ map-append (λ y. (step y).iface) (take i xs) (x ∷ []));
+      offer = one.offers ∙ ap (λ s. s ++ sends_of (step x)) all.offer ∙ flat_map_more (λ y. sends_of (step y)) before.sends (take i xs) x
+          ∙ ap (λ ys. before.sends ++ flat_map (λ y. sends_of (step y)) ys) (sym more);
+      tell = one.tells ∙ ap (λ s. s ++ news_of (step x)) all.tell ∙ flat_map_more (λ y. news_of (step y)) before.news (take i xs) x
+          ∙ ap (λ ys. before.news ++ flat_map (λ y. news_of (step y)) ys) (sym more);
+    }

@@ -5,7 +5,6 @@ use Rattle.std.proofs.lemmas.List.{take_more, map-append, get_or_default, flat_m
 use Rattle.std.proofs.lemmas.List.Edits.{map_over_more}
 use Rattle.world.specs.declared.rows.HostRow.{HostRow}
 use Rattle.client_model.specs.declared.interfaces.Iface.{Iface}
-use Rattle.client_model.specs.Clients.{Sending}
 
 -- what stands from a place on is still as at first
 place : (go : Iface → Iface) (xs : List Iface) (i : ℕ) (d : Iface) → i < length xs → get_or (map go (take i xs) ++ drop i xs) i d ≡ get_or xs i d
@@ -25,16 +24,17 @@ pub go_on_more : (go : Iface → Iface) (xs ys : List Iface) (i : ℕ) (d new : 
     → set ys i new ≡ map go (take (i + 1) xs) ++ drop (i + 1) xs
 go_on_more go xs ys i d new gone goes =
     let lt : i < length xs = gone.at in
-    ap (λ (f : Iface). set ys i f) (goes ∙ ap go (next_of go xs ys i d gone))
+    ap (λ (iface : Iface). set ys i iface) (goes ∙ ap go (next_of go xs ys i d gone))
     ∙ map_over_more go xs ys i (get_or xs i d) lt gone.so_far
     (get_or_default xs i d (get_or xs i d) lt ∙ sym (next_of go xs ys i (get_or xs i d) gone))
 
-pub offer_more : (go : Iface → Iface) (say : Iface → List Sending) (xs ys : List Iface) (i : ℕ) (d : Iface) (before some more : List Sending) → Gone go xs ys i
+-- what each adds to a list in its turn, frames or news
+pub add_more : {X : Type 0} (go : Iface → Iface) (say : Iface → List X) (xs ys : List Iface) (i : ℕ) (d : Iface) (before some more : List X) → Gone go xs ys i
     → some ≡ before ++ flat_map say (take i xs) → more ≡ some ++ say (get_or ys i d) → more ≡ before ++ flat_map say (take (i + 1) xs)
-offer_more go say xs ys i d before some more gone so_far adds =
+add_more go say xs ys i d before some more gone so_far adds =
     let lt : i < length xs = gone.at in
-    adds ∙ ap (λ (s : List Sending). s ++ say (get_or ys i d)) so_far
-    ∙ ap (λ (f : Iface). (before ++ flat_map say (take i xs)) ++ say f) (next_of go xs ys i d gone)
+    adds ∙ ap (λ s. s ++ say (get_or ys i d)) so_far
+    ∙ ap (λ (iface : Iface). (before ++ flat_map say (take i xs)) ++ say iface) (next_of go xs ys i d gone)
     ∙ flat_map_more say before (take i xs) (get_or xs i d)
     ∙ ap (λ (zs : List Iface). before ++ flat_map say zs) (sym (take_more xs i d lt))
 
@@ -51,7 +51,7 @@ same_more go rows xs ys i d new false here gone goes so_far same none =
     let lt : i < length xs = gone.at in
     let x : Iface = get_or xs i d in
     let alike : rows (go x) ≡ rows x =
-    ap (λ (f : Iface). rows (go f)) (sym (next_of go xs ys i d gone)) ∙ ap rows (sym goes) ∙ same none ∙ ap rows (next_of go xs ys i d gone) in
+    ap (λ (iface : Iface). rows (go iface)) (sym (next_of go xs ys i d gone)) ∙ ap rows (sym goes) ∙ same none ∙ ap rows (next_of go xs ys i d gone) in
     ap (λ (zs : List Iface). flat_map rows (map go zs)) (take_more xs i d lt)
     ∙ ap (flat_map rows) (map-append go (take i xs) (x ∷ []))
     ∙ flat_end rows (map go (take i xs)) (go x)

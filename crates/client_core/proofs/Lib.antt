@@ -3,3 +3,4 @@ pub mod Order
 pub mod RowsFit
 pub mod SameRows
 pub mod InPlace
+pub mod Joined

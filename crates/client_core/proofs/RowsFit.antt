@@ -6,6 +6,7 @@ use Rattle.std.specs.declared.cmp.Ordering.{Ordering}
 use Rattle.std.specs.declared.cmp.Ordering.TheVariants.{Less, Equal, Greater}
 use Rattle.std.specs.Ordering.{match_ordering}
 use Rattle.std.proofs.lemmas.Nat.{pow_pos, div-add-mod', mod-mul-add}
+use Rattle.net_types.proofs.AllLaws.{all_join}
 use Rattle.net_types.specs.declared.address.Ip4.{Ip4}
 use Rattle.net_types.specs.declared.address.Net4.{Net4}
 use Rattle.net_types.specs.declared.address.Net.TheVariants as Family
@@ -25,10 +26,12 @@ use Rattle.ipv4ll.specs.Choice.{IsChoice}
 use Rattle.ipv4ll.specs.Laws.{chosen_address}
 use Rattle.ipv4ll.specs.Table.{held_in}
 use Rattle.client_model.specs.declared.interfaces.Iface.{Iface}
-use Rattle.client_model.specs.declared.interfaces.StaticLine.{StaticLine}
-use Rattle.client_model.specs.WantedRows.{network_of, is_within, metric_of, is_kept, router_routes, address_rows, static_rows, local_net, local_rows, iface_rows, wanted_rows}
-use Rattle.client_model.specs.Fitting.{FitsLine, FitsManaged, FitsIface, AreIfaces}
-use Rattle.client_core.proofs.Fit.{both_fit}
+use Rattle.settings.specs.declared.interfaces.StaticLine.{StaticLine}
+use Rattle.net_types.specs.Networks.{network_of, is_within}
+use Rattle.client_model.specs.WantedRows.{metric_of, is_kept, router_routes, address_rows, static_rows, local_net, local_rows, iface_rows, wanted_rows}
+use Rattle.settings.specs.Fitting.{FitsLine, FitsManaged}
+use Rattle.client_model.specs.Fitting.{FitsIface, AreIfaces}
+use Rattle.net_types.proofs.AllLaws.{all_join}
 
 -- ---- one interface
 
@@ -63,7 +66,7 @@ static_fits : (iface : IfIndex) (in_force : Bool) (line : Option StaticLine) →
 static_fits iface false line index fits = tt
 static_fits iface true None index fits = tt
 static_fits iface true (Some line) index fits =
-    both_fit IsRow (address_rows iface line.address) (router_routes iface line.address line.router)
+    all_join IsRow (address_rows iface line.address) (router_routes iface line.address line.router)
     (address_fits iface line.address index fits.address) (router_fits iface line.address line.router index fits.router)
 
 choice_fits : (ip : Ip4) → IsChoice ip → FitsNet4 (local_net ip)
@@ -83,23 +86,23 @@ phase_held addr Over choice = tt
 
 held_fits : (state : State) → IfSome (chosen_address state) IsChoice → IfSome (held_in state) IsChoice
 held_fits Off choice = tt
-held_fits (Armed due waits_lease probes) choice = tt
+held_fits (Armed due waits fallback) choice = tt
 held_fits (Chosen conflicts acd) choice = phase_held acd.addr acd.phase choice
 held_fits (Waiting conflicts due) choice = tt
 
-iface_fits : (f : Iface) → FitsIface f → AllByRecursion IsRow (iface_rows f)
-iface_fits f fits =
-    let managed : FitsManaged f.managed = fits.managed in
-    let iface = f.managed.spec.index in
-    both_fit IsRow (static_rows iface (f.up && not f.stopped) f.managed.conf.line) (local_rows iface (held_in f.local.state))
-    (static_fits iface (f.up && not f.stopped) f.managed.conf.line managed.index managed.line)
-    (local_fits iface (held_in f.local.state) managed.index (held_fits f.local.state fits.local))
+iface_fits : (iface : Iface) → FitsIface iface → AllByRecursion IsRow (iface_rows iface)
+iface_fits iface fits =
+    let managed : FitsManaged iface.managed = fits.managed in
+    let index = iface.managed.spec.index in
+    all_join IsRow (static_rows index (iface.up && not iface.stopped) iface.managed.conf.line) (local_rows index (held_in iface.local.state))
+    (static_fits index (iface.up && not iface.stopped) iface.managed.conf.line managed.index managed.line)
+    (local_fits index (held_in iface.local.state) managed.index (held_fits iface.local.state fits.local))
 
 -- ---- all of them
 
 all_fit : (ifaces : List Iface) → AreIfaces ifaces → AllByRecursion IsRow (flat_map iface_rows ifaces)
 all_fit [] fits = tt
-all_fit (f ∷ ifaces) fits = both_fit IsRow (iface_rows f) (flat_map iface_rows ifaces) (iface_fits f fits.0) (all_fit ifaces fits.1)
+all_fit (iface ∷ ifaces) fits = all_join IsRow (iface_rows iface) (flat_map iface_rows ifaces) (iface_fits iface fits.0) (all_fit ifaces fits.1)
 
 kept_fit : (b : Bool) (row : HostRow) (rest : List HostRow) → IsRow row → AllByRecursion IsRow rest → AllByRecursion IsRow (cond b (row ∷ rest) rest)
 kept_fit true row rest fit more = (fit, more)

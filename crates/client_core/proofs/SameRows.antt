@@ -1,47 +1,35 @@
--- Where what an interface's addresses come from is as before, its rows are.
-use Rattle.std.proofs.Common.{◌≡◌, true, false, List, ◌++◌, None, Some, refl, ap, sym, ◌∙◌}
-use Rattle.std.proofs.Math.Bool.{beq}
-use Rattle.std.specs.Prelude.{Bool, IsTrue, ◌↔◌, not, ◌&&◌, Option, flat_map, filter}
-use Rattle.std.specs.Option.{is_some}
-use Rattle.net_types.specs.declared.address.Ip4.{Ip4}
-use Rattle.net_types.specs.declared.interface.IfIndex.{IfIndex}
-use Rattle.ipv4ll.specs.Table.{held_in}
+-- Where nothing is new of an interface, its rows are as before.
+use Rattle.std.proofs.Common.{◌≡◌, ◌+◌, ◌≤◌, ℕ, Bool, false, nat_lt, List, [], ◌∷◌, ◌++◌, map, length, refl, ap, sym, ◌∙◌, arith, length-append}
+use Rattle.std.proofs.lemmas.Bool.Decides.{nat_tests}
+use Rattle.std.specs.Prelude.{flat_map, filter}
+use Rattle.net_types.specs.declared.address.Mac.{Mac}
 use Rattle.world.specs.declared.rows.HostRow.{HostRow}
 use Rattle.world.specs.RowOrder.{in_row_order}
-use Rattle.client_model.specs.declared.interfaces.StaticLine.{StaticLine}
-use Rattle.client_model.specs.declared.interfaces.Managed.{Managed}
 use Rattle.client_model.specs.declared.interfaces.Iface.{Iface}
-use Rattle.client_model.specs.WantedRows.{static_rows, local_rows, iface_rows, is_kept, wanted_rows}
-
--- rows of a static line that is in force in both, or in neither
-static_same : (index : IfIndex) (a b : Bool) (line : Option StaticLine) → (a && is_some line) ≡ (b && is_some line)
-    → static_rows index a line ≡ static_rows index b line
-static_same index true true line h = refl
-static_same index false false line h = refl
-static_same index true false None h = refl
-static_same index true false (Some line) h = cc
-static_same index false true None h = refl
-static_same index false true (Some line) h = cc
-
-pub same_rows : (f g : Iface) → g.managed ≡ f.managed
-    → ((g.up && not g.stopped) && is_some g.managed.conf.line) ≡ ((f.up && not f.stopped) && is_some f.managed.conf.line)
-    → held_in g.local.state ≡ held_in f.local.state → iface_rows g ≡ iface_rows f
-same_rows f g managed static held =
-    ap (λ (m : Managed). static_rows m.spec.index (g.up && not g.stopped) m.conf.line ++ local_rows m.spec.index (held_in g.local.state)) managed
-    ∙ ap (λ (rows : List HostRow). rows ++ local_rows f.managed.spec.index (held_in g.local.state))
-    (static_same f.managed.spec.index (g.up && not g.stopped) (f.up && not f.stopped) f.managed.conf.line
-    (ap (λ (m : Managed). (g.up && not g.stopped) && is_some m.conf.line) (sym managed) ∙ static))
-    ∙ ap (λ (local : Option Ip4). static_rows f.managed.spec.index (f.up && not f.stopped) f.managed.conf.line ++ local_rows f.managed.spec.index local) held
+use Rattle.client_model.specs.declared.steps.News.{News}
+use Rattle.client_model.specs.IfaceSteps.{Report, news_of}
+use Rattle.client_model.specs.IfaceTurns.{Turn, iface_turned}
+use Rattle.client_model.specs.WantedRows.{iface_rows, is_kept, wanted_rows}
+use Rattle.client_model.proofs.QuietTurns.{quiet_rows}
+use Rattle.iface_core.specs.Outcomes.{Asked, Goes}
 
 pub same_wanted : (old new : List Iface) → flat_map iface_rows new ≡ flat_map iface_rows old → wanted_rows new ≡ wanted_rows old
 same_wanted old new same = ap (λ (rows : List HostRow). in_row_order (filter (is_kept rows) rows)) same
 
-pub bool_same : (a b : Bool) → not (beq a b) ≡ false → a ≡ b
-bool_same true true h = refl
-bool_same true false h = cc
-bool_same false true h = cc
-bool_same false false h = refl
+none_more : (before more : List News) → length (before ++ more) ≤ length before → more ≡ []
+none_more before [] few = refl
+none_more before (news ∷ more) few = let sum : length (before ++ news ∷ more) ≡ length before + length (news ∷ more) = length-append before (news ∷ more) in absurd (omega arith)
 
-pub address_same : (same : Bool) (a b : Option Ip4) → (IsTrue same ↔ (a ≡ b)) → not same ≡ false → a ≡ b
-address_same true a b tells h = tells.0 refl
-address_same false a b tells h = cc
+no_reports : (reports : List Report) → map (λ report. report.news) reports ≡ [] → reports ≡ []
+no_reports [] none = refl
+no_reports (report ∷ reports) none = cc
+
+pub no_more : (told counted before after : ℕ) → told ≡ before → counted ≡ after → nat_lt told counted ≡ false → after ≤ before
+no_more told counted before after e f few = grind (arith, nat_tests)
+
+pub unchanged : (own : List Mac) (turn : Turn) (iface new : Iface) (before after : Asked) → Goes (iface_turned own turn iface) new before after
+    → length after.news ≤ length before.news → iface_rows new ≡ iface_rows iface
+unchanged own turn iface new before after goes few =
+    let sum : length after.news ≡ length (before.news ++ news_of (iface_turned own turn iface)) = ap length goes.tells in
+    let none : news_of (iface_turned own turn iface) ≡ [] = none_more before.news (news_of (iface_turned own turn iface)) (omega arith) in
+    ap iface_rows goes.goes_on ∙ quiet_rows own turn iface (no_reports (iface_turned own turn iface).reports none)

@@ -1,49 +1,22 @@
 ghost use Rattle.std.specs.Prelude.{◌≡◌, ◌≤◌, ◌++◌, OnOk};
-ghost use Rattle.client_model.specs.WantedRows.{span, network_of, is_within, metric_of, network_routes, gateway_routes, router_routes, address_rows, line_rows, static_rows, local_rows, iface_rows};
+ghost use Rattle.net_types.specs.Networks.{network_of, is_within};
+ghost use Rattle.client_model.specs.WantedRows.{metric_of, network_routes, gateway_routes, router_routes, address_rows, line_rows, static_rows, local_rows, iface_rows};
 
 use crate::turning::is_in_force;
-use client_model::{Iface, StaticLine};
+use client_model::Iface;
 use iface_core::iface_held;
 use net_types::{IfIndex, Ip4, Net, Net4};
+use settings::StaticLine;
 use std::alloc::AllocError;
 use world::{HostRow, Via};
 
 /// The metric of an interface's routes is this and its index.
 const METRIC_BASE: u32 = 1000;
 
-/// The length of an IPv4 address in bits.
-const WIDTH: u8 = 32;
-
 /// The length of the link-local network, 169.254/16 (RFC 3927, section 2.1).
 const LOCAL_LEN: u8 = 16;
 
-/// How many addresses a network of this prefix length has.
-fn addresses_of(len: u8) -> u64
-    ensures { result ≡ span len }
-{
-    2u64.pow(u32::from(WIDTH.saturating_sub(len)))
-}
-
-fn network(net: Net4) -> Net4
-    ensures { result ≡ network_of net }
-{
-    let number = u64::from(net.ip.number);
-    let host = number % addresses_of(net.len);
-    Net4 {
-        ip: Ip4 {
-            number: (number - host) as u32,
-        },
-        len: net.len,
-    }
-}
-
-fn is_in_network(ip: Ip4, net: Net4) -> bool
-    ensures { result ≡ is_within ip net }
-{
-    let size = addresses_of(net.len);
-    u64::from(ip.number) / size == u64::from(net.ip.number) / size
-}
-
+/// The metric of an interface's routes.
 fn metric(iface: IfIndex) -> u32
     requires { iface.number ≤ 64 }
     ensures { result ≡ metric_of iface }
@@ -56,10 +29,10 @@ fn push_network(rows: &mut Vec<HostRow>, iface: IfIndex, net: Net4) -> Result<()
     requires { iface.number ≤ 64 }
     ensures { OnOk result (rows.new.items ≡ rows.old.items ++ network_routes iface net) }
 {
-    if net.len < WIDTH {
+    if net.len < Net4::WIDTH {
         rows.push(HostRow::Route {
             iface,
-            dest: Net::V4(network(net)),
+            dest: Net::V4(net.network()),
             via: Via::OnLink,
             metric: metric(iface),
         })?;
@@ -77,10 +50,10 @@ fn push_gateway(
     requires { iface.number ≤ 64 }
     ensures { OnOk result (rows.new.items ≡ rows.old.items ++ gateway_routes iface net router) }
 {
-    if !is_in_network(router, net) {
+    if !net.contains(router) {
         let dest = Net::V4(Net4 {
             ip: router,
-            len: WIDTH,
+            len: Net4::WIDTH,
         });
         rows.push(HostRow::Route {
             iface,
@@ -106,7 +79,7 @@ fn push_router(
         None => Ok(()),
         Some(router) => {
             let anywhere = Net::V4(Net4 {
-                ip: Ip4 { number: 0 },
+                ip: Ip4::UNSPECIFIED,
                 len: 0,
             });
             rows.push(HostRow::Route {
@@ -169,11 +142,11 @@ fn push_local(rows: &mut Vec<HostRow>, iface: IfIndex, local: Option<Ip4>) -> Re
 }
 
 /// Appends the rows that the addresses of an interface bring.
-pub fn push_iface(rows: &mut Vec<HostRow>, f: &Iface) -> Result<(), AllocError>
-    requires { f.now.managed.spec.index.number ≤ 64 }
-    ensures { OnOk result (rows.new.items ≡ rows.old.items ++ iface_rows f.now) }
+pub fn push_iface(rows: &mut Vec<HostRow>, iface: &Iface) -> Result<(), AllocError>
+    requires { iface.now.managed.spec.index.number ≤ 64 }
+    ensures { OnOk result (rows.new.items ≡ rows.old.items ++ iface_rows iface.now) }
 {
-    let index = f.managed.spec.index;
-    push_static(rows, index, is_in_force(f), f.managed.conf.line)?;
-    push_local(rows, index, iface_held(f))
+    let index = iface.managed.spec.index;
+    push_static(rows, index, is_in_force(iface), iface.managed.conf.line)?;
+    push_local(rows, index, iface_held(iface))
 }

@@ -1,21 +1,23 @@
 ghost use Rattle.std.specs.Prelude.{◌≡◌, ◌<◌, ◌^◌, IfOk, map, Bool, false};
 ghost use Rattle.std.specs.List.{AllByRecursion};
+ghost use Rattle.machine.specs.Moment.{moment_of};
 ghost use Rattle.world.specs.Rows.{IsRow};
-ghost use Rattle.client_model.specs.WantedRows.{wanted_rows};
-ghost use Rattle.client_model.specs.Fitting.{AreManaged, AreIfaces};
+ghost use Rattle.settings.specs.Fitting.{AreManaged};
 ghost use Rattle.client_model.specs.Interfaces.{opened};
+ghost use Rattle.client_model.specs.WantedRows.{wanted_rows};
+ghost use Rattle.client_model.specs.Fitting.{AreIfaces};
 ghost use Rattle.client_model.specs.Clients.{Client, opening, client_turned, client_due, earlier, rows_of};
-ghost use Rattle.client_model.specs.Turns.{capped};
 ghost use Rattle.iface_core.specs.Inputs.{turn_of};
-ghost use Rattle.iface_core.specs.Outcomes.{sends_in};
-ghost use Rattle.client_core.specs.Stepping.{Steps, IsOnInterface};
+ghost use Rattle.iface_core.specs.Outcomes.{asked_in, sends_in};
+ghost use Rattle.client_core.specs.Stepping.{Steps, GoAll, IsOnInterface};
 
 use crate::turning::turn_ifaces;
 use crate::wanting::wanted;
-use client_model::{Iface, Managed};
+use client_model::Iface;
 use iface_core::{Outs, Turn, iface_due, iface_open};
 use machine::clamp_moment;
-use net_types::{Mac, NoMemory};
+use net_types::{IfSpec, Mac, NoMemory};
+use settings::Managed;
 use std::alloc::{AllocError, Global};
 use std::collections::BTreeSet;
 use std::marker::Model;
@@ -38,40 +40,55 @@ impl Model for Core {
     ghost invariant = { λ core. AreIfaces core.ifaces.items × (core.wanted.keys ≡ wanted_rows core.ifaces.items) };
 }
 
-fn opened_ifaces(alloc: Global, managed: &[Managed], begin: Begin) -> Result<Vec<Iface>, AllocError>
+/// The interfaces as they are opened, one after another.
+fn opened_ifaces(
+    alloc: Global,
+    managed: &[Managed],
+    begin: Begin,
+    outs: &mut Outs,
+) -> Result<Vec<Iface>, NoMemory>
     requires { AreManaged managed.now }
-    ensures { IfOk result (λ v. v.items ≡ map (opened begin.up (capped begin.at)) managed.now) }
+    ensures { IfOk result (λ ifaces. GoAll (opened begin.up (moment_of begin.at)) managed.now ifaces.items (asked_in outs.old) (asked_in outs.new)) }
 {
     let at = clamp_moment(begin.at);
     let mut ifaces = Vec::new(alloc);
     for m in managed {
-        ifaces.push(iface_open(m, begin.up, at))?;
+        let iface = iface_open(m, begin.up, at, outs)?;
+        ifaces.push(iface)?;
     }
     Ok(ifaces)
 }
 
 /// The hardware addresses of the interfaces.
-fn own_addresses(alloc: Global, managed: &[Managed]) -> Result<Vec<Mac>, AllocError>
-    ensures { IfOk result (λ v. v.items ≡ map (λ m. m.spec.mac) managed.now) }
+fn own_addresses(alloc: Global, specs: &[IfSpec]) -> Result<Vec<Mac>, AllocError>
+    ensures { IfOk result (λ own. own.items ≡ map (λ spec. spec.mac) specs.now) }
 {
-    managed.iter().map(|m| m.spec.mac).collect(alloc)
+    specs.iter().map(|spec| spec.mac).collect(alloc)
 }
 
-/// Opens the client: carriers are those of the start.
-#[tactic(auto, using(crate::proofs::Fit::opened_fit))]
-pub fn core_open(alloc: Global, managed: &[Managed], begin: Begin) -> Result<Core, NoMemory>
+/// Opens the client over the managed interfaces, as a life begins. `specs` are all interfaces, managed or not, whose packets
+/// are known as the client's own.
+pub fn core_open(
+    alloc: Global,
+    managed: &[Managed],
+    specs: &[IfSpec],
+    begin: Begin,
+) -> Result<(Core, Outs), NoMemory>
     requires { AreManaged managed.now }
-    ensures { IfOk result (λ core. core ≡ opening managed.now begin.up (capped begin.at)) }
+    ensures steps { IfOk result (λ done. Steps (opening managed.now specs.now begin) done.0 (asked_in done.1)) }
+    ensures on_interfaces { IfOk result (λ done. AllByRecursion IsOnInterface (sends_in done.1)) }
 {
-    let own = own_addresses(alloc, managed)?;
-    let ifaces = opened_ifaces(alloc, managed, begin)?;
+    let own = own_addresses(alloc, specs)?;
+    let mut outs = Outs::new(alloc);
+    let ifaces = opened_ifaces(alloc, managed, begin, &mut outs)?;
     let wanted = wanted(alloc, &ifaces)?;
-    Ok(Core {
+    let core = Core {
         alloc,
         own,
         ifaces,
         wanted,
-    })
+    };
+    Ok((core, outs))
 }
 
 /// The rows after a turn: those before, where none has changed.
@@ -95,7 +112,7 @@ fn renewed(
 /// One turn: what comes of it, and what the outside is asked.
 pub fn step(core: Core, turn: Turn<'_>) -> Result<(Core, Outs), NoMemory>
     requires { turn.at < 10 ^ 15 }
-    ensures steps { IfOk result (λ done. Steps (client_turned (turn_of turn.entry) core) done.0 (sends_in done.1)) }
+    ensures steps { IfOk result (λ done. Steps (client_turned (turn_of turn.entry) core) done.0 (asked_in done.1)) }
     ensures on_interfaces { IfOk result (λ done. AllByRecursion IsOnInterface (sends_in done.1)) }
 {
     let Core {
@@ -140,8 +157,8 @@ pub fn core_due(core: &Core) -> Option<u64>
     ensures { result ≡ client_due core.now.ifaces }
 {
     let mut due = None;
-    for f in &core.ifaces {
-        due = earlier_of(due, iface_due(f));
+    for iface in &core.ifaces {
+        due = earlier_of(due, iface_due(iface));
     }
     due
 }

@@ -8,6 +8,3 @@ mod wanting;
 
 pub use clients::{Core, core_due, core_open, earlier_of, rows, step};
 pub use iface_core::{Outs, Sending, Turn, TurnInput};
-
-#[cfg(test)]
-mod tests;

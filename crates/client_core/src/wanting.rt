@@ -72,8 +72,8 @@ fn all_rows(alloc: Global, ifaces: &[Iface]) -> Result<Vec<HostRow>, AllocError>
     ensures { IfOk result (λ rows. rows.items ≡ flat_map iface_rows ifaces.now) }
 {
     let mut rows = Vec::new(alloc);
-    for f in ifaces {
-        push_iface(&mut rows, f)?;
+    for iface in ifaces {
+        push_iface(&mut rows, iface)?;
     }
     Ok(rows)
 }

@@ -13,14 +13,15 @@ use Rattle.world.specs.declared.rows.HostRow.{HostRow}
 use Rattle.world.specs.declared.rows.HostRow.TheVariants.{Addr, Route}
 use Rattle.world.specs.declared.rows.Via.TheVariants.{OnLink, Gate4}
 use Rattle.world.specs.RowOrder.{row_iface, row_cmp, with_row, put_in_order}
-use Rattle.client_model.specs.declared.interfaces.Managed.{Managed}
+use Rattle.settings.specs.declared.interfaces.Managed.{Managed}
 use Rattle.ipv4ll.specs.Table.{held_in}
-use Rattle.client_model.specs.declared.interfaces.StaticLine.{StaticLine}
+use Rattle.settings.specs.declared.interfaces.StaticLine.{StaticLine}
 use Rattle.client_model.specs.declared.interfaces.Iface.{Iface}
-use Rattle.client_model.specs.WantedRows.{network_of, is_within, metric_of, is_kept, network_routes, gateway_routes, router_routes, address_rows, static_rows, local_net, local_rows, iface_rows, wanted_rows}
-use Rattle.client_model.specs.Clients.{is_managed}
-use Rattle.client_model.specs.HostTable.{Wantable}
-use Rattle.client_model.proofs.HostTableRows.{in_order_sorted}
+use Rattle.net_types.specs.Networks.{network_of, is_within}
+use Rattle.client_model.specs.WantedRows.{metric_of, is_kept, network_routes, gateway_routes, router_routes, address_rows, static_rows, local_net, local_rows, iface_rows, wanted_rows}
+use Rattle.settings.specs.ManagedRows.{is_managed}
+use Rattle.host_model.specs.HostTable.{Wantable}
+use Rattle.host_model.proofs.HostTableRows.{in_order_sorted}
 
 -- ---- each row is on the interface that gives it
 
@@ -59,12 +60,12 @@ local_on : (index : IfIndex) (held : Option Ip4) → All (On index) (local_rows 
 local_on index None = All-nil (On index)
 local_on index (Some ip) = address_on index (local_net ip)
 
-own_rows : (f : Iface) → All (On f.managed.spec.index) (iface_rows f)
-own_rows f =
-    let index = f.managed.spec.index in
-    let static = static_rows index (f.up && not f.stopped) f.managed.conf.line in
-    let local = local_rows index (held_in f.local.state) in
-    All-append (On index) static local (static_on index (f.up && not f.stopped) f.managed.conf.line) (local_on index (held_in f.local.state))
+own_rows : (iface : Iface) → All (On iface.managed.spec.index) (iface_rows iface)
+own_rows iface =
+    let index = iface.managed.spec.index in
+    let static = static_rows index (iface.up && not iface.stopped) iface.managed.conf.line in
+    let local = local_rows index (held_in iface.local.state) in
+    All-append (On index) static local (static_on index (iface.up && not iface.stopped) iface.managed.conf.line) (local_on index (held_in iface.local.state))
 
 -- ---- those of all interfaces are on managed ones
 
@@ -74,12 +75,12 @@ on_first m more rows on k d lt = or_left _ _ (eq-eqb _ _ (on k d lt))
 on_later : (m : Managed) (more : List Managed) (rows : List HostRow) → AllPass (is_managed more) rows → AllPass (is_managed (m ∷ more)) rows
 on_later m more rows on k d lt = or_right _ _ (on k d lt)
 
-all_managed : (ifaces : List Iface) → AllPass (is_managed (map (λ f. f.managed) ifaces)) (flat_map iface_rows ifaces)
+all_managed : (ifaces : List Iface) → AllPass (is_managed (map (λ iface. iface.managed) ifaces)) (flat_map iface_rows ifaces)
 all_managed [] = All-nil (λ row. is_managed [] row ≡ true)
-all_managed (f ∷ ifaces) =
-    let more = map (λ g. g.managed) ifaces in
-    All-append (λ row. is_managed (f.managed ∷ more) row ≡ true) (iface_rows f) (flat_map iface_rows ifaces)
-    (on_first f.managed more (iface_rows f) (own_rows f)) (on_later f.managed more (flat_map iface_rows ifaces) (all_managed ifaces))
+all_managed (iface ∷ ifaces) =
+    let more = map (λ other. other.managed) ifaces in
+    All-append (λ row. is_managed (iface.managed ∷ more) row ≡ true) (iface_rows iface) (flat_map iface_rows ifaces)
+    (on_first iface.managed more (iface_rows iface) (own_rows iface)) (on_later iface.managed more (flat_map iface_rows ifaces) (all_managed ifaces))
 
 -- ---- and stay so when they are put in order
 
@@ -88,9 +89,9 @@ put_keeps P sorted [] h k = h
 put_keeps P sorted (row ∷ rows) h k =
     put_keeps P (with_row row sorted) rows (All-insert_key row_cmp row P sorted h (All-head P row rows k)) (All-tail P row rows k)
 
-pub wantable : (ifaces : List Iface) → Wantable (map (λ f. f.managed) ifaces) (wanted_rows ifaces)
+pub wantable : (ifaces : List Iface) → Wantable (map (λ iface. iface.managed) ifaces) (wanted_rows ifaces)
 wantable ifaces =
-    let managed = map (λ f. f.managed) ifaces in
+    let managed = map (λ iface. iface.managed) ifaces in
     let rows = flat_map iface_rows ifaces in
     let kept = filter (is_kept rows) rows in
     record {

@@ -1,8 +1,7 @@
 mod Apart
 mod Elsewhere
-pub mod HostTableRows
-mod HostTableChanges
-mod HostTableTurns
-mod HostTableWanted
-pub mod HostInLifeTurns
+mod OwnTurns
+mod Keepers
+pub mod HostTableWanted
 pub mod SameInterfaces
+pub mod QuietTurns

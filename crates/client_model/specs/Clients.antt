@@ -1,56 +1,68 @@
 -- The client over all managed interfaces: each has a run of its own, and what they say goes out in their order.
-use Rattle.std.specs.Prelude.{ℕ, Bool, ◌==◌, min, List, [], ◌∷◌, map, flat_map, Option, Some, None}
-use Rattle.std.specs.List.{list_any}
+use Rattle.std.specs.Prelude.{ℕ, min, List, [], ◌∷◌, map, flat_map, Option, Some, None}
 use Rattle.net_types.specs.declared.address.Mac.{Mac}
 use Rattle.net_types.specs.declared.interface.IfIndex.{IfIndex}
 use Rattle.net_types.specs.declared.interface.IfSpec.{IfSpec}
 use Rattle.frame_link.specs.Packets.{probe_text, announcement_text}
-use Rattle.arp_acd.specs.declared.detection.ArpSay.{ArpSay}
+use Rattle.machine.specs.Moment.{moment_of}
 use Rattle.arp_acd.specs.declared.detection.ArpSay.TheVariants.{Probe, Announce}
-use Rattle.ipv4ll.specs.Table.{due_of}
 use Rattle.world.specs.declared.rows.HostRow.{HostRow}
-use Rattle.world.specs.RowOrder.{row_iface}
-use Rattle.client_model.specs.declared.interfaces.Managed.{Managed}
+use Rattle.world.specs.declared.wakes.Begin.{Begin}
+use Rattle.settings.specs.declared.interfaces.Managed.{Managed}
 use Rattle.client_model.specs.declared.interfaces.Iface.{Iface}
-use Rattle.client_model.specs.Interfaces.{IfaceStep, TurnInput, opened, iface_turned}
+use Rattle.client_model.specs.declared.steps.Said.{Said}
+use Rattle.client_model.specs.declared.steps.Said.TheVariants.{Arp}
+use Rattle.client_model.specs.IfaceSteps.{Report, IfaceStep}
+use Rattle.client_model.specs.Interfaces.{opened, iface_due}
+use Rattle.client_model.specs.IfaceTurns.{Turn, iface_turned}
 use Rattle.client_model.specs.WantedRows.{wanted_rows}
 
 -- the client between two turns
 pub record Client : Type 0 where
-  -- the hardware addresses of all interfaces, by which its own packets are known
+  -- the hardware addresses of all interfaces, managed or not, by which its own packets are known (RFC 5227, section 2.1.1)
   pub own : List Mac
   -- its managed interfaces, in order of index
   pub ifaces : List Iface
-
-abbrev pub opening : List Managed → (up at : ℕ) → Client
-opening managed up at = record { own = map (λ m. m.spec.mac) managed; ifaces = map (opened up at) managed }
 
 -- a frame that is offered on an interface
 pub record Sending : Type 0 where
   pub iface : IfIndex
   pub bytes : List ℕ
 
--- the frame of an ARP message
-abbrev pub spelled : IfSpec → ArpSay → Sending
-spelled spec (Probe addr) = record { iface = spec.index; bytes = probe_text spec.mac addr }
-spelled spec (Announce addr) = record { iface = spec.index; bytes = announcement_text spec.mac addr }
+-- the frame of a message
+abbrev pub frame_of : IfSpec → Said → List ℕ
+frame_of spec (Arp (Probe addr)) = probe_text spec.mac addr
+frame_of spec (Arp (Announce addr)) = announcement_text spec.mac addr
+
+abbrev pub spelled : IfSpec → Said → Sending
+spelled spec message = record { iface = spec.index; bytes = frame_of spec message }
 
 abbrev pub sends_of : IfaceStep → List Sending
 sends_of step = map (spelled step.iface.managed.spec) step.said
 
--- how the client goes on, and the frames that it offers, in order
+-- how the client goes on, the frames that it offers, and what is new, in order
 pub record ClientStep : Type 0 where
   pub client : Client
   pub sends : List Sending
+  pub reports : List Report
 
-abbrev pub steps_of : TurnInput → Client → List IfaceStep
+-- the step that the steps of its interfaces make
+abbrev pub joined : List Mac → List IfaceStep → ClientStep
+joined own steps = record {
+  client = record { own = own; ifaces = map (λ step. step.iface) steps };
+  sends = flat_map sends_of steps;
+  reports = flat_map (λ step. step.reports) steps;
+}
+
+-- the opening: `specs` are all interfaces, `managed` those that the client manages
+abbrev pub opening : List Managed → (specs : List IfSpec) → Begin → ClientStep
+opening managed specs begin = joined (map (λ spec. spec.mac) specs) (map (opened begin.up (moment_of begin.at)) managed)
+
+abbrev pub steps_of : Turn → Client → List IfaceStep
 steps_of turn client = map (iface_turned client.own turn) client.ifaces
 
-abbrev pub client_turned : TurnInput → Client → ClientStep
-client_turned turn client = record {
-  client = record { own = client.own; ifaces = map (λ step. step.iface) (steps_of turn client) };
-  sends = flat_map sends_of (steps_of turn client);
-}
+abbrev pub client_turned : Turn → Client → ClientStep
+client_turned turn client = joined client.own (steps_of turn client)
 
 abbrev pub rows_of : Client → List HostRow
 rows_of client = wanted_rows client.ifaces
@@ -61,11 +73,7 @@ earlier None b = b
 earlier (Some a) None = Some a
 earlier (Some a) (Some b) = Some (min a b)
 
--- the least moment at which a machine is due
+-- the earliest moment at which a machine is due
 abbrev pub client_due : List Iface → Option ℕ
 client_due [] = None
-client_due (f ∷ ifaces) = earlier (due_of f.local.state) (client_due ifaces)
-
--- whether a row is on a managed interface
-abbrev pub is_managed : List Managed → HostRow → Bool
-is_managed managed row = list_any (λ m. m.spec.index.number == row_iface row) managed
+client_due (iface ∷ ifaces) = earlier (iface_due iface) (client_due ifaces)

@@ -1,25 +1,33 @@
 -- Runs over a list of turns, the newest first: that of one interface alone, and that of the client.
-use Rattle.std.specs.Prelude.{◌≡◌, ◌≢◌, ℕ, List, [], ◌∷◌, map, flat_map}
+use Rattle.std.specs.Prelude.{◌≡◌, ◌≢◌, ℕ, List, [], ◌∷◌, ◌++◌, map, flat_map}
 use Rattle.net_types.specs.declared.address.Mac.{Mac}
 use Rattle.world.specs.declared.wakes.Event.{Event}
 use Rattle.world.specs.declared.wakes.Event.TheVariants.{Frame, Carrier, Duplicate, Release, Rebind, Stop, Quiet, End}
+use Rattle.script_model.specs.IfaceSets.{is_in}
 use Rattle.client_model.specs.declared.interfaces.Iface.{Iface}
-use Rattle.client_model.specs.Interfaces.{TurnInput, index_of, iface_turned}
-use Rattle.client_model.specs.Clients.{Client, sends_of, client_turned}
+use Rattle.client_model.specs.IfaceSteps.{index_of}
+use Rattle.client_model.specs.IfaceTurns.{Turn, iface_turned}
+use Rattle.client_model.specs.Clients.{Client, Sending, sends_of, client_turned}
 
-abbrev pub iface_run : List Mac → Iface → List TurnInput → Iface
-iface_run own f [] = f
-iface_run own f (turn ∷ before) = (iface_turned own turn (iface_run own f before)).iface
+abbrev pub iface_run : List Mac → Iface → List Turn → Iface
+iface_run own iface [] = iface
+iface_run own iface (turn ∷ before) = (iface_turned own turn (iface_run own iface before)).iface
 
-abbrev pub client_run : Client → List TurnInput → Client
+-- the frames of such a run, turn by turn, the newest first
+abbrev pub iface_frames : List Mac → Iface → List Turn → List (List Sending)
+iface_frames own iface [] = []
+iface_frames own iface (turn ∷ before) =
+    sends_of (iface_turned own turn (iface_run own iface before)) ∷ iface_frames own iface before
+
+abbrev pub client_run : Client → List Turn → Client
 client_run client [] = client
 client_run client (turn ∷ before) = (client_turned turn (client_run client before)).client
 
 -- The interfaces of the client go on as each would alone, and its frames in a turn are theirs, one interface after another.
-pub record RunsApart (client : Client) (turn : TurnInput) (before : List TurnInput) : Type 0 where
-  pub ifaces : (client_run client before).ifaces ≡ map (λ f. iface_run client.own f before) client.ifaces
+pub record RunsApart (client : Client) (turn : Turn) (before : List Turn) : Type 0 where
+  pub ifaces : (client_run client before).ifaces ≡ map (λ iface. iface_run client.own iface before) client.ifaces
   pub sends : (client_turned turn (client_run client before)).sends
-      ≡ flat_map (λ f. sends_of (iface_turned client.own turn (iface_run client.own f before))) client.ifaces
+      ≡ flat_map (λ iface. sends_of (iface_turned client.own turn (iface_run client.own iface before))) client.ifaces
 
 -- the input names another interface
 abbrev pub NamesOther : ℕ → Event → Type 0
@@ -34,5 +42,5 @@ NamesOther index End = ⊥
 
 -- An input that names another interface is as good as none.
 abbrev pub IsQuietElsewhere : Type 0
-IsQuietElsewhere = (own : List Mac) (turn : TurnInput) (f : Iface) → NamesOther (index_of f) turn.event
-    → iface_turned own turn f ≡ iface_turned own (record turn { event = Quiet; bytes = [] }) f
+IsQuietElsewhere = (own : List Mac) (turn : Turn) (iface : Iface) → NamesOther (index_of iface) turn.event
+    → iface_turned own turn iface ≡ iface_turned own (record turn { event = Quiet; bytes = [] }) iface

@@ -6,26 +6,15 @@ use Rattle.net_types.specs.declared.address.Ip4.{Ip4}
 use Rattle.net_types.specs.declared.address.Net4.{Net4}
 use Rattle.net_types.specs.declared.address.Net.{Net}
 use Rattle.net_types.specs.declared.address.Net.TheVariants as Family
+use Rattle.net_types.specs.Networks.{network_of, is_within}
 use Rattle.net_types.specs.declared.interface.IfIndex.{IfIndex}
 use Rattle.world.specs.declared.rows.HostRow.{HostRow}
 use Rattle.world.specs.declared.rows.HostRow.TheVariants.{Addr, Route}
 use Rattle.world.specs.declared.rows.Via.TheVariants.{OnLink, Gate4}
 use Rattle.world.specs.RowOrder.{family, net_number, net_len, row_iface, row_cmp, in_row_order}
 use Rattle.ipv4ll.specs.Table.{held_in}
-use Rattle.client_model.specs.declared.interfaces.StaticLine.{StaticLine}
+use Rattle.settings.specs.declared.interfaces.StaticLine.{StaticLine}
 use Rattle.client_model.specs.declared.interfaces.Iface.{Iface}
-
--- how many addresses a network of this prefix length has
-abbrev pub span : ℕ → ℕ
-span len = 2 ^ (32 - len)
-
--- a net without the bits past its length
-abbrev pub network_of : Net4 → Net4
-network_of net = record { ip = record { number = net.ip.number - net.ip.number % span net.len }; len = net.len }
-
--- whether an address is in the network of another
-abbrev pub is_within : Ip4 → Net4 → Bool
-is_within ip net = (ip.number / span net.len) == (net.ip.number / span net.len)
 
 -- the metric of an interface's routes
 abbrev pub metric_of : IfIndex → ℕ
@@ -74,9 +63,9 @@ local_rows iface None = []
 local_rows iface (Some ip) = address_rows iface (local_net ip)
 
 abbrev pub iface_rows : Iface → List HostRow
-iface_rows f =
-    static_rows f.managed.spec.index (f.up && not f.stopped) f.managed.conf.line
-    ++ local_rows f.managed.spec.index (held_in f.local.state)
+iface_rows iface =
+    static_rows iface.managed.spec.index (iface.up && not iface.stopped) iface.managed.conf.line
+    ++ local_rows iface.managed.spec.index (held_in iface.local.state)
 
 abbrev pub same_net : Net → Net → Bool
 same_net a b = (family a == family b) && ((net_number a == net_number b) && (net_len a == net_len b))

@@ -1,14 +1,42 @@
-ghost use Rattle.std.specs.Prelude.{List};
-ghost use Rattle.client_model.specs.Interfaces.{TurnInput};
+ghost use Rattle.std.specs.Prelude.{List, map};
+ghost use Rattle.world.specs.declared.rows.HostRow.{HostRow};
+ghost use Rattle.world.specs.RowOrder.{in_row_order};
+ghost use Rattle.host_model.specs.HostTable.{InRowOrder, Wantable};
+ghost use Rattle.client_model.specs.declared.interfaces.Iface.{Iface};
+ghost use Rattle.client_model.specs.IfaceTurns.{Turn};
 ghost use Rattle.client_model.specs.Clients.{Client};
+ghost use Rattle.client_model.specs.WantedRows.{wanted_rows};
 ghost use Rattle.client_model.specs.Runs.{RunsApart, IsQuietElsewhere};
+ghost use Rattle.client_model.specs.OwnInputs.{OwnInputsCount};
+ghost use Rattle.client_model.specs.KeptRows.{KeptUnlike, DroppedHaveKeeper, AddressesStay};
 
 /// Law: over every list of turns each interface runs as it would alone, and the client's frames are theirs, one interface after another.
 pub fn interfaces_run_apart()
-    ensures { (client : Client) (turn : TurnInput) (before : List TurnInput) → RunsApart client turn before }
+    ensures { (client : Client) (turn : Turn) (before : List Turn) → RunsApart client turn before }
 {}
 
 /// Law: an input that names one interface changes nothing in another's run.
 pub fn other_inputs_are_quiet()
     ensures { IsQuietElsewhere }
+{}
+
+/// Law: over every list of turns, an interface and its frames come of what is its own alone: the moments and salts, the inputs
+/// that are for it, and which frames of its own failed.
+pub fn own_inputs_alone_count()
+    ensures { OwnInputsCount }
+{}
+
+/// Law of the rows that these laws speak of: those that the interfaces want are on them, in row order, each once; and so
+/// is every table that was put in row order.
+pub fn wanted_rows_can_be_wanted()
+    ensures wantable { (ifaces : List Iface) → Wantable (map (λ iface. iface.managed) ifaces) (wanted_rows ifaces) }
+    ensures in_order { (rows : List HostRow) → InRowOrder (in_row_order rows) }
+{}
+
+/// Law of routes that several interfaces give: of those with one destination, length and metric one is kept, each that isn't
+/// has one that is in its place, and no address is dropped.
+pub fn kept_rows_are_unlike()
+    ensures unlike { KeptUnlike }
+    ensures keepers { DroppedHaveKeeper }
+    ensures addresses { AddressesStay }
 {}

@@ -1,14 +1,13 @@
-//! What the daemon is: the abstract client that several crates speak of. Definitions, and the laws about them.
+//! What the client is over its interfaces: what a turn makes of each, the frames that they send, the rows that they want.
 #![tactic(auto)]
 
-mod failing;
-mod host_law;
 mod interfaces;
 mod laws;
+mod steps;
 
-pub use failing::{FailDevice, FailLine};
-pub use host_law::{
-    a_life_holds_the_wanted_rows, a_turn_brings_the_wanted_rows, wanted_rows_can_be_wanted,
+pub use interfaces::Iface;
+pub use laws::{
+    interfaces_run_apart, kept_rows_are_unlike, other_inputs_are_quiet, own_inputs_alone_count,
+    wanted_rows_can_be_wanted,
 };
-pub use interfaces::{IfConf, Iface, Managed, StaticLine};
-pub use laws::{interfaces_run_apart, other_inputs_are_quiet};
+pub use steps::{News, Said, TimedMachine};

@@ -8,26 +8,20 @@ use Rattle.net_types.specs.Marks.{Lacks}
 use Rattle.net_types.specs.Cutting.{split_at_byte}
 use Rattle.net_types.specs.AddressText.{ip4_text, net4_text}
 use Rattle.net_types.specs.NameText.{name_text}
-use Rattle.net_types.proofs.ReadsLaws.{some_same, passed, split_whole, split_sound}
+use Rattle.net_types.proofs.ReadsLaws.{passed, mapped, split_whole, split_sound}
 use Rattle.net_types.proofs.ChoiceLaws.{part_sound}
 use Rattle.net_types.proofs.AddressLaws.{ip4_reads, net4_reads}
 use Rattle.net_types.proofs.NameLaws.{name_reads, name_lacks}
 use Rattle.net_types.proofs.MarkLaws.{lacks-append, ip4_lacks, net4_lacks}
 use Rattle.conf_text.specs.declared.conf.ConfLine.{ConfLine}
-use Rattle.conf_text.specs.declared.conf.ConfLine.TheVariants.{NoScript, NoDhcp, NoIpv4ll, Interface, Address, Router}
+use Rattle.conf_text.specs.declared.flags.FlagName.{FlagName}
+use Rattle.conf_text.specs.declared.conf.ConfLine.TheVariants.{NoScript, Flag, Interface, Address, Router}
 use Rattle.conf_text.specs.ConfLines.{conf_line_text, FitsConfLine}
-use Rattle.conf_text.specs.LineAt.{Words, meaning, flags, flag_at, scripts, script_at, settings, setting_at, static_at, directives, directive_at, by_first_word, conf_line_at}
-
--- what holds of each word and its meaning holds of a word that was found
-meant : {A : Type 0} (P : List ℕ → A → Type 0) (words : Words A) (word : List ℕ) (value : A) → AllByRecursion (λ known. P known.0 known.1) words → meaning words word ≡ Some value → P word value
-meant P [] word value all e = cc
-meant {A} P (known ∷ words) word value all e = of_test (meant P words word value all.1) (bytes_eq word known.0) refl e
-  where
-    of_test : (meaning words word ≡ Some value → P word value) → (same : Bool) → bytes_eq word known.0 ≡ same → cond same (Some known.1) (meaning words word) ≡ Some value → P word value
-    of_test later true was q =
-        let spelled : word ≡ known.0 = (bytes_eq-Decides word known.0).0 was in
-        subst (λ w. P w value) (sym spelled) (subst (λ v. P known.0 v) (some_same q) all.0)
-    of_test later false was q = later q
+use Rattle.conf_text.specs.Words.{meaning}
+use Rattle.conf_text.specs.Flags.{flag_text, flag_at}
+use Rattle.conf_text.specs.LineAt.{scripts, script_at, settings, setting_at, static_at, directives, directive_at, by_first_word, conf_line_at}
+use Rattle.conf_text.proofs.WordLaws.{meant}
+use Rattle.conf_text.proofs.FlagLaws.{flag_sound, flag_whole, flag_alone, flag_lacks}
 
 -- ---- what is read is spelled so
 
@@ -37,10 +31,6 @@ Spells text line = (text ≡ conf_line_text line) × FitsConfLine line
 -- what is read after a word, where `line_text` gives the whole line
 abbrev Sound : (List ℕ → List ℕ) → (List ℕ → Option ConfLine) → Type 0
 Sound line_text read = (rest : List ℕ) (line : ConfLine) → read rest ≡ Some line → Spells (line_text rest) line
-
-flag_sound : (word : List ℕ) (line : ConfLine) → flag_at word ≡ Some line → Spells word line
-unfolding flag_at conf_line_text
-flag_sound word line e = meant Spells flags word line ((refl, tt), ((refl, tt), tt)) e
 
 script_sound : Sound (λ path. codes "script " ++ path) script_at
 unfolding script_at conf_line_text
@@ -77,11 +67,13 @@ directive_sound word rest line e =
     meant (λ word read. Sound (λ rest. word ++ 32 ∷ rest) read) directives word found.value directives_sound found.was rest line found.gives
 
 line_sound : (text : List ℕ) (line : ConfLine) → conf_line_at text ≡ Some line → Spells text line
-unfolding conf_line_at
+unfolding conf_line_at conf_line_text
 line_sound text line e = of_cut (split_at_byte 32 text) refl e
   where
     of_cut : (cut : Option (List ℕ × List ℕ)) → split_at_byte 32 text ≡ cut → by_first_word cut text ≡ Some line → Spells text line
-    of_cut None was q = flag_sound text line q
+    of_cut None was q =
+        let flag = mapped (λ name. Flag name) (flag_at text) line q in
+        subst (λ l. Spells text l) flag.gives (flag_sound text flag.value flag.was, tt)
     of_cut (Some p) was q = subst (λ t. Spells t line) (sym (split_sound 32 text p.0 p.1 was).0) (directive_sound p.0 p.1 line q)
 
 -- ---- what is spelled so is read
@@ -94,11 +86,14 @@ directive_whole : (word rest : List ℕ) (read : List ℕ → Option ConfLine) (
 unfolding conf_line_at directive_at
 directive_whole word rest read line free known e = rw (split_whole 32 word rest free, known) e
 
+flag_line : (name : FlagName) → conf_line_at (flag_text name) ≡ Some (Flag name)
+unfolding conf_line_at
+flag_line name = rw (flag_alone name, flag_whole name) refl
+
 line_whole : (line : ConfLine) → FitsConfLine line → conf_line_at (conf_line_text line) ≡ Some line
-unfolding conf_line_at conf_line_text split_at_byte flag_at directive_at script_at
+unfolding conf_line_at conf_line_text split_at_byte directive_at script_at
 line_whole NoScript fits = refl
-line_whole NoDhcp fits = refl
-line_whole NoIpv4ll fits = refl
+line_whole (Flag name) fits = flag_line name
 line_whole (Interface name) fits = directive_whole (codes "interface") (name_text name) _ (Interface name) refl refl (ap (option_map Interface) (name_reads.whole name fits))
 line_whole (Address net) fits = directive_whole (codes "static") (codes "ip_address=" ++ net4_text net) static_at (Address net) refl refl
     (static_whole (codes "ip_address") (net4_text net) _ (Address net) refl refl (ap (option_map Address) (net4_reads.whole net fits)))
@@ -112,8 +107,7 @@ conf_line_reads = record { sound = line_sound; whole = line_whole }
 pub conf_line_lacks : (line : ConfLine) → FitsConfLine line → Lacks 10 (conf_line_text line)
 unfolding conf_line_text
 conf_line_lacks NoScript fits = refl
-conf_line_lacks NoDhcp fits = refl
-conf_line_lacks NoIpv4ll fits = refl
+conf_line_lacks (Flag name) fits = flag_lacks name
 conf_line_lacks (Interface name) fits = lacks-append 10 (codes "interface ") (name_text name) refl (name_lacks name 10 fits refl)
 conf_line_lacks (Address net) fits = lacks-append 10 (codes "static ip_address=") (net4_text net) refl (net4_lacks net 10 fits refl)
 conf_line_lacks (Router ip) fits = lacks-append 10 (codes "static routers=") (ip4_text ip) refl (ip4_lacks ip 10 fits refl)

@@ -9,12 +9,13 @@ use Rattle.net_types.specs.declared.interface.IfSpec.{IfSpec}
 use Rattle.net_types.specs.declared.interface.Name.{Name}
 use Rattle.net_types.specs.AddressText.{FitsIp4, FitsNet4}
 use Rattle.world.specs.Rows.{IsInterface}
-use Rattle.client_model.specs.declared.interfaces.Managed.{Managed}
-use Rattle.client_model.specs.Fitting.{FitsLine, FitsManaged, AreManaged}
-use Rattle.client_model.specs.Scripts.{CountsFrom}
+use Rattle.settings.specs.declared.interfaces.Managed.{Managed}
+use Rattle.settings.specs.Fitting.{FitsLine, FitsManaged, AreManaged}
+use Rattle.script_model.specs.Scripts.{CountsFrom}
 use Rattle.conf_text.specs.declared.conf.Block.{Block}
 use Rattle.conf_text.specs.declared.conf.ConfLine.{ConfLine}
-use Rattle.conf_text.specs.declared.conf.ConfLine.TheVariants.{NoScript, NoDhcp, NoIpv4ll, Interface, Address, Router}
+use Rattle.conf_text.specs.declared.conf.ConfLine.TheVariants.{NoScript, Flag, Interface, Address, Router}
+use Rattle.conf_text.specs.Flags.{has_flag, with_flag}
 use Rattle.conf_text.specs.ConfLines.{FitsConfLine, once, globals_after, block_after, empty_block, Said, nothing, blocks_with, blocks_of, is_block_of, has_room, begin_block, say_here, say, say_next, said_by}
 use Rattle.conf_text.specs.Settings.{Configuration, configured, block_for, in_force, is_built, managed_one, managed_each, managed_of}
 use Rattle.conf_text.specs.Reading.{IsConfigurationOf}
@@ -53,8 +54,7 @@ once_fits false block fits = fits
 
 block_fits : (block : Block) (line : ConfLine) → FitsConfLine line → FitsBlock block → IfSome (block_after block line) FitsBlock
 block_fits block NoScript line_fits fits = tt
-block_fits block NoDhcp line_fits fits = once_fits block.nodhcp (record block { nodhcp = true }) fits
-block_fits block NoIpv4ll line_fits fits = once_fits block.noipv4ll (record block { noipv4ll = true }) fits
+block_fits block (Flag name) line_fits fits = once_fits (has_flag name block.flags) (record block { flags = with_flag name block.flags }) fits
 block_fits block (Interface name) line_fits fits = tt
 block_fits block (Address net) line_fits fits = once_fits (is_some block.address) (record block { address = Some net }) (line_fits, fits.1)
 block_fits block (Router ip) line_fits fits = once_fits (is_some block.router) (record block { router = Some ip }) (fits.0, line_fits)
@@ -77,8 +77,7 @@ say_fits : (said : Said) (line : ConfLine) → FitsConfLine line → FitsSaid sa
 unfolding say
 say_fits said (Interface name) line_fits fits = begin_fits name said fits
 say_fits said NoScript line_fits fits = here_fits NoScript said said.current line_fits fits.0 fits.1
-say_fits said NoDhcp line_fits fits = here_fits NoDhcp said said.current line_fits fits.0 fits.1
-say_fits said NoIpv4ll line_fits fits = here_fits NoIpv4ll said said.current line_fits fits.0 fits.1
+say_fits said (Flag name) line_fits fits = here_fits (Flag name) said said.current line_fits fits.0 fits.1
 say_fits said (Address net) line_fits fits = here_fits (Address net) said said.current line_fits fits.0 fits.1
 say_fits said (Router ip) line_fits fits = here_fits (Router ip) said said.current line_fits fits.0 fits.1
 

@@ -1,5 +1,5 @@
 -- A text of lines has one list of lines; and what the lines up to some place say.
-use Rattle.std.proofs.Common.{◌≡◌, ℕ, ◌+◌, ◌<◌, List, [], ◌∷◌, ◌++◌, length, Option, Some, None, option_map, refl, sym, ap, ◌∙◌, subst, arith, append_assoc, length-append}
+use Rattle.std.proofs.Common.{◌≡◌, ℕ, ◌+◌, ◌<◌, ◌≤◌, List, [], ◌∷◌, ◌++◌, length, Option, Some, None, option_map, refl, sym, ap, ◌∙◌, subst, arith, append_assoc, length-append}
 use Rattle.std.specs.Prelude.{All}
 use Rattle.std.specs.List.{AllByRecursion}
 use Rattle.std.proofs.lemmas.List.Elements.{All-from_recursion, recursion_from_All}
@@ -10,7 +10,9 @@ use Rattle.net_types.proofs.ReadsLaws.{field_whole, field_sound, some_same}
 use Rattle.conf_text.specs.declared.conf.ConfLine.{ConfLine}
 use Rattle.conf_text.specs.declared.reading.ConfAnswer.{ConfAnswer}
 use Rattle.conf_text.specs.declared.reading.ConfAnswer.TheVariants.{Bad}
-use Rattle.conf_text.specs.declared.reading.ConfFault.{ConfFault}
+use Rattle.conf_text.specs.declared.reading.ConfCause.{ConfCause}
+use Rattle.script_model.specs.LineNumbers.{line_feeds}
+use Rattle.script_model.proofs.LineNumberLaws.{feeds_join, feeds_ended}
 use Rattle.conf_text.specs.ConfLines.{conf_line_text, FitsConfLine, conf_text, Said, say, say_next, said_by}
 use Rattle.conf_text.specs.LineAt.{conf_line_at}
 use Rattle.conf_text.specs.Settings.{Configuration, configured}
@@ -176,5 +178,27 @@ line_smaller rest others line read =
     let whole : length rest ≡ length (conf_line_text line) + 1 + length others = ap length f.spelled ∙ length-append (conf_line_text line ++ 10 ∷ []) others ∙ ap (λ n. n + length others) (length-append (conf_line_text line) (10 ∷ [])) in
     omega arith
 
-pub refuse : (text : List ℕ) (answer : ConfAnswer) (fault : ConfFault) → answer ≡ Bad fault → IsNoConfiguration text → Refuses text answer
-refuse text answer fault is none = subst (Refuses text) (sym is) none
+feeds_after : (rest others : List ℕ) (line : ConfLine) → line_at rest ≡ Some (line, others) → line_feeds others + 1 ≤ line_feeds rest
+feeds_after rest others line read =
+    let f = first_line rest line others read in
+    omega (arith, ap line_feeds f.spelled, feeds_join (conf_line_text line ++ 10 ∷ []) others, feeds_ended (conf_line_text line))
+
+-- lines up to the rest, and what they say; their number is at most that of the line feeds before the rest
+pub record Counted (text rest : List ℕ) (said : Said) (number : ℕ) : Type 0 where
+  pub here : Here text rest said
+  pub few : number + line_feeds rest ≤ line_feeds text
+
+pub count_begins : (text : List ℕ) (said : Said) → said_by [] ≡ Some said → Counted text text said 0
+count_begins text said e = record { here = here_begins text said e; few = omega arith }
+
+pub count_next : (text rest others : List ℕ) (said next : Said) (line : ConfLine) (number after : ℕ) → Counted text rest said number → after ≤ number + 1
+    → line_at rest ≡ Some (line, others) → say said line ≡ Some next → Counted text others next after
+count_next text rest others said next line number after c one read step = record {
+  here = here_next text rest others said next line c.here read step;
+  few = let few = c.few in omega (arith, few, one, feeds_after rest others line read);
+}
+
+pub refuse : (text rest : List ℕ) (said : Said) (number after : ℕ) (answer : ConfAnswer) (cause : ConfCause) → answer ≡ Bad (record { line = after; cause = cause }) → Counted text rest said number
+    → 1 ≤ after → after ≤ number + 1 → IsNoConfiguration text → Refuses text answer
+refuse text rest said number after answer cause is c first one none =
+    subst (Refuses text) (sym is) (none, record { first = first; last = let few = c.few in omega (arith, few, one) })

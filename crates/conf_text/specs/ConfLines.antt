@@ -6,22 +6,21 @@ use Rattle.net_types.specs.declared.interface.Name.{Name}
 use Rattle.net_types.specs.AddressText.{ip4_text, net4_text, FitsIp4, FitsNet4}
 use Rattle.net_types.specs.NameText.{name_text, FitsName}
 use Rattle.conf_text.specs.declared.conf.ConfLine.{ConfLine}
-use Rattle.conf_text.specs.declared.conf.ConfLine.TheVariants.{NoScript, NoDhcp, NoIpv4ll, Interface, Address, Router}
+use Rattle.conf_text.specs.declared.conf.ConfLine.TheVariants.{NoScript, Flag, Interface, Address, Router}
 use Rattle.conf_text.specs.declared.conf.Globals.{Globals}
 use Rattle.conf_text.specs.declared.conf.Block.{Block}
+use Rattle.conf_text.specs.Flags.{flag_text, no_flags, has_flag, with_flag}
 
 unfoldable pub conf_line_text : ConfLine → List ℕ
 conf_line_text NoScript = codes "script /dev/null"
-conf_line_text NoDhcp = codes "nodhcp"
-conf_line_text NoIpv4ll = codes "noipv4ll"
+conf_line_text (Flag name) = flag_text name
 conf_line_text (Interface name) = codes "interface " ++ name_text name
 conf_line_text (Address net) = codes "static ip_address=" ++ net4_text net
 conf_line_text (Router ip) = codes "static routers=" ++ ip4_text ip
 
 abbrev pub FitsConfLine : ConfLine → Type 0
 FitsConfLine NoScript = Unit {0}
-FitsConfLine NoDhcp = Unit {0}
-FitsConfLine NoIpv4ll = Unit {0}
+FitsConfLine (Flag name) = Unit {0}
 FitsConfLine (Interface name) = FitsName name
 FitsConfLine (Address net) = FitsNet4 net
 FitsConfLine (Router ip) = FitsIp4 ip
@@ -37,20 +36,18 @@ once is_said value = if is_said then None else Some value
 -- what the global lines say with one more
 abbrev pub globals_after : Globals → ConfLine → Option Globals
 globals_after g NoScript = once g.no_script (record g { no_script = true })
-globals_after g NoDhcp = once g.nodhcp (record g { nodhcp = true })
-globals_after g NoIpv4ll = once g.noipv4ll (record g { noipv4ll = true })
+globals_after g (Flag name) = once (has_flag name g.flags) (record g { flags = with_flag name g.flags })
 globals_after g (Interface name) = None
 globals_after g (Address net) = None
 globals_after g (Router ip) = None
 
 abbrev pub empty_block : Name → Block
-empty_block name = record { name = name; nodhcp = false; noipv4ll = false; address = None; router = None }
+empty_block name = record { name = name; flags = no_flags; address = None; router = None }
 
 -- what a block says with one line more
 abbrev pub block_after : Block → ConfLine → Option Block
 block_after b NoScript = None
-block_after b NoDhcp = once b.nodhcp (record b { nodhcp = true })
-block_after b NoIpv4ll = once b.noipv4ll (record b { noipv4ll = true })
+block_after b (Flag name) = once (has_flag name b.flags) (record b { flags = with_flag name b.flags })
 block_after b (Interface name) = None
 block_after b (Address net) = once (is_some b.address) (record b { address = Some net })
 block_after b (Router ip) = once (is_some b.router) (record b { router = Some ip })
@@ -62,7 +59,7 @@ pub record Said : Type 0 where
   pub current : Option Block
 
 abbrev pub nothing : Said
-nothing = record { globals = record { no_script = false; nodhcp = false; noipv4ll = false }; over = []; current = None }
+nothing = record { globals = record { no_script = false; flags = no_flags }; over = []; current = None }
 
 abbrev pub blocks_with : List Block → Option Block → List Block
 blocks_with over None = over

@@ -1,18 +1,12 @@
 -- How a line is read: by its first word, which ends at a blank or with the line.
-use Rattle.std.specs.Prelude.{ℕ, List, [], ◌∷◌, Option, Some, None, option_map, option_and_then, codes, bytes_eq, if◌then◌else◌}
+use Rattle.std.specs.Prelude.{ℕ, List, [], ◌∷◌, Option, Some, None, option_map, option_and_then, codes}
 use Rattle.net_types.specs.AddressText.{ip4_at, net4_at}
 use Rattle.net_types.specs.NameText.{name_at}
 use Rattle.net_types.specs.Cutting.{split_at_byte}
 use Rattle.conf_text.specs.declared.conf.ConfLine.{ConfLine}
-use Rattle.conf_text.specs.declared.conf.ConfLine.TheVariants.{NoScript, NoDhcp, NoIpv4ll, Interface, Address, Router}
-
--- words, and what each means
-abbrev pub Words : Type 0 → Type 0
-Words A = List (List ℕ × A)
-
-abbrev pub meaning : {A : Type 0} → Words A → List ℕ → Option A
-meaning [] word = None
-meaning (known ∷ words) word = if bytes_eq word known.0 then Some known.1 else meaning words word
+use Rattle.conf_text.specs.declared.conf.ConfLine.TheVariants.{NoScript, Flag, Interface, Address, Router}
+use Rattle.conf_text.specs.Words.{Words, meaning}
+use Rattle.conf_text.specs.Flags.{flag_at}
 
 -- words, and how what follows each is read
 abbrev pub Readers : Type 0
@@ -20,13 +14,6 @@ Readers = Words (List ℕ → Option ConfLine)
 
 abbrev pub read_by : Readers → List ℕ → List ℕ → Option ConfLine
 read_by readers word rest = option_and_then (λ read. read rest) (meaning readers word)
-
--- lines of one word
-abbrev pub flags : Words ConfLine
-flags = (codes "nodhcp", NoDhcp) ∷ (codes "noipv4ll", NoIpv4ll) ∷ []
-
-unfoldable pub flag_at : List ℕ → Option ConfLine
-flag_at word = meaning flags word
 
 abbrev pub scripts : Words ConfLine
 scripts = (codes "/dev/null", NoScript) ∷ []
@@ -60,7 +47,7 @@ directive_at word rest = read_by directives word rest
 
 abbrev pub by_first_word : Option (List ℕ × List ℕ) → List ℕ → Option ConfLine
 by_first_word (Some p) text = directive_at p.0 p.1
-by_first_word None text = flag_at text
+by_first_word None text = option_map (λ name. Flag name) (flag_at text)
 
 unfoldable pub conf_line_at : List ℕ → Option ConfLine
 conf_line_at text = by_first_word (split_at_byte 32 text) text

@@ -3,6 +3,7 @@ use Rattle.std.specs.Prelude.{◌≡◌, ℕ, List, All, None, Some, option_map}
 use Rattle.conf_text.specs.declared.conf.ConfLine.{ConfLine}
 use Rattle.conf_text.specs.declared.reading.ConfAnswer.{ConfAnswer}
 use Rattle.conf_text.specs.declared.reading.ConfAnswer.TheVariants.{Bad, NoMemory}
+use Rattle.script_model.specs.LineNumbers.{IsLineOf}
 use Rattle.conf_text.specs.ConfLines.{FitsConfLine, conf_text, said_by}
 use Rattle.conf_text.specs.Settings.{Configuration, configured}
 
@@ -25,7 +26,7 @@ LinesAreOne = (one other : List ConfLine) → All FitsConfLine one → All FitsC
 abbrev pub ConfigurationIsOne : Type 0
 ConfigurationIsOne = (text : List ℕ) (one other : Configuration) → IsConfigurationOf text one → IsConfigurationOf text other → one ≡ other
 
--- a bad text is no configuration
+-- a bad text is no configuration, and the line named is one of its lines
 abbrev pub Refuses : List ℕ → ConfAnswer → Type 0
-Refuses text (Bad fault) = IsNoConfiguration text
+Refuses text (Bad fault) = IsNoConfiguration text × IsLineOf text fault.line
 Refuses text NoMemory = Unit {0}

@@ -2,9 +2,9 @@
 use Rattle.std.specs.Prelude.{Bool, ◌||◌, if◌then◌else◌, List, [], ◌∷◌, find, Option, Some, None, is_some, unwrap_or, option_map, option_and_then}
 use Rattle.net_types.specs.declared.interface.Name.{Name}
 use Rattle.net_types.specs.declared.interface.IfSpec.{IfSpec}
-use Rattle.client_model.specs.declared.interfaces.StaticLine.{StaticLine}
-use Rattle.client_model.specs.declared.interfaces.IfConf.{IfConf}
-use Rattle.client_model.specs.declared.interfaces.Managed.{Managed}
+use Rattle.settings.specs.declared.interfaces.StaticLine.{StaticLine}
+use Rattle.settings.specs.declared.interfaces.IfConf.{IfConf}
+use Rattle.settings.specs.declared.interfaces.Managed.{Managed}
 use Rattle.conf_text.specs.declared.conf.Globals.{Globals}
 use Rattle.conf_text.specs.declared.conf.Block.{Block}
 use Rattle.conf_text.specs.declared.conf.Conf.{Conf}
@@ -32,8 +32,8 @@ line_of block = option_map (λ address. record { address = address; router = blo
 -- what is in force for an interface: what stands globally or in its block
 abbrev pub in_force : Globals → Block → IfConf
 in_force globals block = record {
-  nodhcp = globals.nodhcp || block.nodhcp;
-  noipv4ll = globals.noipv4ll || block.noipv4ll;
+  nodhcp = globals.flags.nodhcp || block.flags.nodhcp;
+  noipv4ll = globals.flags.noipv4ll || block.flags.noipv4ll;
   line = line_of block;
 }
 

@@ -1,6 +1,7 @@
 ghost use Rattle.std.specs.Prelude.{◌≡◌};
 ghost use Rattle.conf_text.specs.ConfLines.{empty_block, once, block_after, globals_after};
 
+use crate::flags::{FlagName, Flags};
 use net_types::{Ip4, Name, Net4};
 use std::mem::replace;
 
@@ -9,10 +10,8 @@ use std::mem::replace;
 pub enum ConfLine {
     /// `script /dev/null`: no hook jobs are made.
     NoScript,
-    /// `nodhcp`: no DHCPv4 runs.
-    NoDhcp,
-    /// `noipv4ll`: no link-local address is chosen.
-    NoIpv4ll,
+    /// A directive of one word.
+    Flag(FlagName),
     /// `interface NAME` begins the block of an interface.
     Interface(Name),
     /// `static ip_address=ADDRESS/LEN`.
@@ -26,16 +25,14 @@ pub enum ConfLine {
 pub struct Globals {
     /// Whether hook jobs are turned off.
     pub no_script: bool,
-    pub nodhcp: bool,
-    pub noipv4ll: bool,
+    pub flags: Flags,
 }
 
 /// What the block of an interface says.
 #[derive(Clone, Copy, Debug, PartialEq, Eq)]
 pub struct Block {
     pub name: Name,
-    pub nodhcp: bool,
-    pub noipv4ll: bool,
+    pub flags: Flags,
     pub address: Option<Net4>,
     pub router: Option<Ip4>,
 }
@@ -60,8 +57,7 @@ impl Globals {
     {
         let is_said = match line {
             ConfLine::NoScript => replace(&mut self.no_script, true),
-            ConfLine::NoDhcp => replace(&mut self.nodhcp, true),
-            ConfLine::NoIpv4ll => replace(&mut self.noipv4ll, true),
+            ConfLine::Flag(name) => self.flags.turn_on(name),
             ConfLine::Interface(_) | ConfLine::Address(_) | ConfLine::Router(_) => return None,
         };
         once(is_said, self)
@@ -75,8 +71,7 @@ impl Block {
     {
         Block {
             name,
-            nodhcp: false,
-            noipv4ll: false,
+            flags: Flags::none(),
             address: None,
             router: None,
         }
@@ -87,8 +82,7 @@ impl Block {
         ensures { result ≡ block_after self line }
     {
         let is_said = match line {
-            ConfLine::NoDhcp => replace(&mut self.nodhcp, true),
-            ConfLine::NoIpv4ll => replace(&mut self.noipv4ll, true),
+            ConfLine::Flag(name) => self.flags.turn_on(name),
             ConfLine::Address(net) => self.address.replace(net).is_some(),
             ConfLine::Router(ip) => self.router.replace(ip).is_some(),
             ConfLine::NoScript | ConfLine::Interface(_) => return None,

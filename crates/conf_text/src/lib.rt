@@ -3,14 +3,16 @@
 #![tactic(auto)]
 
 mod conf;
+mod flags;
 mod line;
+mod managing;
 mod reading;
 mod saying;
-mod settings;
 
 pub use conf::{Block, Conf, ConfLine, Globals};
+pub use flags::{FlagName, Flags};
+pub use managing::{ManagedAnswer, managed};
 pub use reading::{ConfAnswer, ConfCause, ConfFault, configuration_is_one, read_conf};
-pub use settings::managed;
 
 #[cfg(test)]
 mod tests;

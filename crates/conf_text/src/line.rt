@@ -1,23 +1,10 @@
 //! One line of the configuration, read by its first word.
 ghost use Rattle.std.specs.Prelude.{◌≡◌};
-ghost use Rattle.conf_text.specs.LineAt.{flag_at, script_at, setting_at, static_at, directive_at, conf_line_at};
+ghost use Rattle.conf_text.specs.LineAt.{script_at, setting_at, static_at, directive_at, conf_line_at};
 
 use crate::conf::ConfLine;
+use crate::flags::flag_of;
 use net_types::{ip4_of, name_of, net4_of, split_at_byte};
-
-/// A line of one word.
-#[tactic(auto, unfolding(crate::specs::LineAt::flag_at))]
-fn flag_of(word: &[u8]) -> Option<ConfLine>
-    ensures { result ≡ flag_at word.now }
-{
-    if word == b"nodhcp".as_slice() {
-        Some(ConfLine::NoDhcp)
-    } else if word == b"noipv4ll".as_slice() {
-        Some(ConfLine::NoIpv4ll)
-    } else {
-        None
-    }
-}
 
 #[tactic(auto, unfolding(crate::specs::LineAt::script_at))]
 fn script_of(path: &[u8]) -> Option<ConfLine>
@@ -74,6 +61,6 @@ pub fn conf_line_of(bytes: &[u8]) -> Option<ConfLine>
 {
     match split_at_byte(bytes, b' ') {
         Some((word, about)) => directive_of(word, about),
-        None => flag_of(bytes),
+        None => Some(ConfLine::Flag(flag_of(bytes)?)),
     }
 }

@@ -6,6 +6,7 @@ ghost use Rattle.conf_text.specs.Settings.{configuration, configured};
 ghost use Rattle.conf_text.specs.Saying.{said_of};
 
 use crate::conf::{Block, Conf, ConfLine, Globals};
+use crate::flags::Flags;
 use net_types::{Name, NoMemory};
 use std::alloc::Global;
 
@@ -62,8 +63,7 @@ impl Saying {
         Saying {
             globals: Globals {
                 no_script: false,
-                nodhcp: false,
-                noipv4ll: false,
+                flags: Flags::none(),
             },
             over: Vec::new(alloc),
             current: None,
@@ -108,11 +108,8 @@ impl Saying {
     {
         match line {
             ConfLine::Interface(name) => self.begin_block(name),
-            ConfLine::NoScript
-            | ConfLine::NoDhcp
-            | ConfLine::NoIpv4ll
-            | ConfLine::Address(_)
-            | ConfLine::Router(_) => Ok(self.say_here(line)),
+            ConfLine::NoScript | ConfLine::Flag(_) | ConfLine::Address(_) | ConfLine::Router(_) =>
+                Ok(self.say_here(line)),
         }
     }
 

@@ -37,3 +37,11 @@ failed e = Err e
 -- the error that `?` handed on is the one that came
 pub error_was : {A B E : Type 0} (r : Result A E) (error other : E) → IsErrAnd r (λ e. e ≡ error) → r ≡ Err other → failed {B = B} {E = E} error ≡ failed {B = B} {E = E} other
 error_was {A} {B} {E} r error other is same = ap (λ (e : E). failed {B = B} {E = E} e) (sym (subst (λ (x : Result A E). IsErrAnd x (λ e. e ≡ error)) same is))
+
+-- writing failed, or memory was wanted, after waits that didn't fail
+pub cause_beside : (end : ServeEnd) (a b p q : ℕ) → p ≤ q → HasServeCause end a b 0 0 → HasServeCause end a b p q
+cause_beside ends.End a b p q pq h = absurd h
+cause_beside ends.TurnsOver a b p q pq h = absurd h
+cause_beside ends.LinkFault a b p q pq h = absurd (omega (arith, h.1))
+cause_beside ends.WriteFault a b p q pq h = (h.0, pq)
+cause_beside ends.NoMemory a b p q pq h = (h.0, pq)

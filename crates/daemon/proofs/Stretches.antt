@@ -1,134 +1,138 @@
 -- Stretches of turns, one after another.
-use Rattle.std.proofs.Common.{ℕ, ◌≡◌, List, [], ◌∷◌, ◌++◌, length, Option, Some, None, refl, sym, ap, subst, ◌∙◌, append_assoc, append-nil, arith}
+use Rattle.std.proofs.Common.{ℕ, ◌≡◌, ◌≤◌, true, List, [], ◌∷◌, ◌++◌, length, Option, Some, None, refl, sym, ap, subst, ◌∙◌, append_assoc, append-nil, arith}
+use Rattle.std.specs.Prelude.{flat_map, IfSome}
 use Rattle.std.proofs.lemmas.List.{length-append}
 use Rattle.std.proofs.lemmas.List.Concat.{flat_map-append}
-use Rattle.world.specs.HostCalls.{HostCall, HostTold}
-use Rattle.world.specs.LinkCalls.{LinkCall, LinkTold}
-use Rattle.client_model.specs.declared.interfaces.Managed.{Managed}
-use Rattle.client_model.specs.Turns.{Life, Met, life_after, turned}
-use Rattle.client_model.specs.Lives.{AllAnswered, turn_lines, turns_lines}
-use Rattle.client_model.specs.Lines.{Line, line_text, lines_text}
-use Rattle.client_model.specs.ToldDevices.{Failing, told_turns}
-use Rattle.daemon.specs.Asked.{turns_ask, turns_change, AddsCalls, AddsHostCalls}
-use Rattle.daemon.proofs.Asking.{adds_none, adds_then, turns_ask-append}
-use Rattle.daemon.proofs.HostAsking.{host_adds_none, host_adds_then, turns_change-append}
-use Rattle.daemon.specs.Serving.{WritesLines, told_by, IsRest, AreForetold, AreWhole, Passes, Goes, Ends}
+use Rattle.world.specs.LinkCalls.{Given}
+use Rattle.settings.specs.declared.interfaces.Managed.{Managed}
+use Rattle.script_model.specs.Lines.{Line, line_text, lines_text}
+use Rattle.device_calls.specs.Calls.{Call}
+use Rattle.device_calls.specs.Worlds.{Seen, World, world_of}
+use Rattle.device_calls.specs.Telling.{Tells}
+use Rattle.device_calls.proofs.Doing.{tells_none, tells_then}
+use Rattle.turn_model.specs.Turns.{Life, is_over}
+use Rattle.turn_model.specs.Lives.{Met, turn_lines, AreTurns, life_after, turn_calls, turns_calls}
+use Rattle.turn_model.specs.Foretold.{told_turns, foretold_turns}
+use Rattle.daemon.specs.Streams.{WritesLines}
+use Rattle.daemon.specs.Serving.{AreFirst, AreWhole, Goes, Ends, AreManyTurns}
 
-pub life_after-append : (managed : List Managed) (from : Life) (a b : List Met) → life_after managed from (a ++ b) ≡ life_after managed (life_after managed from a) b
-life_after-append managed from [] b = refl
-life_after-append managed from (m ∷ a) b = life_after-append managed (turned managed from m) a b
+pub turns-append : (managed : List Managed) (from : Life) (a b : List Met) → AreTurns managed from a → AreTurns managed (life_after from a) b → AreTurns managed from (a ++ b)
+turns-append managed from [] b p q = q
+turns-append managed from (met ∷ a) b p q = (p.0, turns-append managed met.life a b p.1 q)
 
-pub turns_lines-append : (managed : List Managed) (from : Life) (a b : List Met) → turns_lines managed from (a ++ b) ≡ turns_lines managed from a ++ turns_lines managed (life_after managed from a) b
-turns_lines-append managed from [] b = refl
-turns_lines-append managed from (m ∷ a) b =
-    ap (λ (ls : List Line). turn_lines managed from m ++ ls) (turns_lines-append managed (turned managed from m) a b)
-    ∙ sym (append_assoc (turn_lines managed from m) (turns_lines managed (turned managed from m) a) (turns_lines managed (life_after managed (turned managed from m) a) b))
+pub life_after-append : (from : Life) (a b : List Met) → life_after from (a ++ b) ≡ life_after (life_after from a) b
+life_after-append from [] b = refl
+life_after-append from (met ∷ a) b = life_after-append met.life a b
 
-pub answered-append : (managed : List Managed) (from : Life) (a b : List Met) → AllAnswered managed from a → AllAnswered managed (life_after managed from a) b → AllAnswered managed from (a ++ b)
-answered-append managed from [] b p q = q
-answered-append managed from (m ∷ a) b p q = (p.0, answered-append managed (turned managed from m) a b p.1 q)
+pub turns_calls-append : (from : Life) (a b : List Met) → turns_calls from (a ++ b) ≡ turns_calls from a ++ turns_calls (life_after from a) b
+turns_calls-append from [] b = refl
+turns_calls-append from (met ∷ a) b =
+    ap (λ (cs : List Call). turn_calls from met ++ cs) (turns_calls-append met.life a b) ∙ sym (append_assoc (turn_calls from met) (turns_calls met.life a) (turns_calls (life_after met.life a) b))
 
 pub lines_then : (old mid new : Option (List ℕ)) (a b : List Line) → WritesLines old mid a → WritesLines mid new b → WritesLines old new (a ++ b)
 lines_then None mid new a b p q = subst (λ (m : Option (List ℕ)). WritesLines m new b) p q
 lines_then (Some w) mid new a b p q =
     let at_mid : WritesLines (Some (w ++ lines_text a)) new b = subst (λ (m : Option (List ℕ)). WritesLines m new b) p q in
-    at_mid ∙ ap Some' (append_assoc w (lines_text a) (lines_text b) ∙ ap (λ (x : List ℕ). w ++ x) (sym (flat_map-append line_text a b)))
-  where
-    Some' : List ℕ → Option (List ℕ)
-    Some' x = Some x
+    at_mid ∙ ap (λ (x : List ℕ). Some x) (append_assoc w (lines_text a) (lines_text b) ∙ ap (λ (x : List ℕ). w ++ x) (sym (flat_map-append line_text a b)))
 
 pub lines_none : (old : Option (List ℕ)) → WritesLines old old []
 lines_none None = refl
 lines_none (Some w) = ap (λ (x : List ℕ). Some x) (sym (append-nil w))
 
-rest_then : (managed : List Managed) (failing : Failing) (foretold : List Met) (count : ℕ) (a b : List Met) (mid to : Life) (host_mid host_to : Option HostTold) (link_mid link_to : Option LinkTold)
-    → IsRest managed failing foretold count a mid host_mid link_mid → AreForetold managed (Some failing) mid host_mid link_mid b to host_to link_to
-    → IsRest managed failing foretold count (a ++ b) to host_to link_to
-rest_then managed failing foretold count a b mid to None host_to link_mid link_to p q = absurd p
-rest_then managed failing foretold count a b mid to (Some h) host_to None link_to p q = absurd p
-rest_then managed failing foretold count a b mid to (Some h) None (Some l) link_to p q = absurd q
-rest_then managed failing foretold count a b mid to (Some h) (Some h') (Some l) None p q = absurd q
-rest_then managed failing foretold count a b mid to (Some h) (Some h') (Some l) (Some l') p q = (
-  p.0 ∙ ap (λ (ms : List Met). a ++ ms) q.0 ∙ sym (append_assoc a b (told_turns managed failing to (told_by l' h') l'.coming)),
-  omega (arith, p.1, q.1, length-append a b),
-)
+-- ---- where all devices tell
 
-foretold_then : (managed : List Managed) (failing : Option Failing) (a b : List Met) (from mid to : Life) (host host_mid host_to : Option HostTold) (link link_mid link_to : Option LinkTold)
-    → AreForetold managed failing from host link a mid host_mid link_mid → AreForetold managed failing mid host_mid link_mid b to host_to link_to
-    → AreForetold managed failing from host link (a ++ b) to host_to link_to
-foretold_then managed None a b from mid to host host_mid host_to link link_mid link_to p q = tt
-foretold_then managed (Some f) a b from mid to None host_mid host_to link link_mid link_to p q = tt
-foretold_then managed (Some f) a b from mid to (Some h) host_mid host_to None link_mid link_to p q = tt
-foretold_then managed (Some f) a b from mid to (Some h) host_mid host_to (Some l) link_mid link_to p q =
-    rest_then managed f (told_turns managed f from (told_by l h) l.coming) (length l.coming) a b mid to host_mid host_to link_mid link_to p q
+first_then : (managed : List Managed) (from mid to : Life) (old : Option World) (at_mid new : Seen) (a b : List Met)
+    → IfSome old (λ world. AreFirst managed from world a mid at_mid) → IfSome (world_of at_mid) (λ world. AreFirst managed mid world b to new)
+    → IfSome old (λ world. AreFirst managed from world (a ++ b) to new)
+first_then managed from mid to None at_mid new a b p q = tt
+first_then managed from mid to (Some world) at_mid new a b p q =
+    let here : AreFirst managed mid p.then_told b to new = subst (λ (w : Option World). IfSome w (λ world. AreFirst managed mid world b to new)) p.tells q in
+    record {
+      then_told = here.then_told;
+      tells = here.tells;
+      turns = p.turns ∙ ap (λ (ms : List Met). a ++ ms) here.turns ∙ sym (append_assoc a b (foretold_turns managed to here.then_told));
+      counted = omega (arith, p.counted, here.counted, length-append a b);
+    }
 
-pub passes_then : (managed : List Managed) (from mid to : Life) (out out_mid out_to : Option (List ℕ)) (a b : List Met)
-    → Passes managed from out mid out_mid a → Passes managed mid out_mid to out_to b → Passes managed from out to out_to (a ++ b)
-passes_then managed from mid to out out_mid out_to a b p q = record {
-  after = q.after ∙ ap (λ (life : Life). life_after managed life b) p.after ∙ sym (life_after-append managed from a b);
-  answers = answered-append managed from a b p.answers (subst (λ (life : Life). AllAnswered managed life b) p.after q.answers);
-  written = subst (λ (ls : List Line). WritesLines out out_to ls) (sym (turns_lines-append managed from a b))
-      (lines_then out out_mid out_to (turns_lines managed from a) (turns_lines managed (life_after managed from a) b) p.written
-      (subst (λ (life : Life). WritesLines out_mid out_to (turns_lines managed life b)) p.after q.written));
+whole_from : (managed : List Managed) (from mid : Life) (old : Option World) (at_mid : Seen) (a b : List Met)
+    → IfSome old (λ world. AreFirst managed from world a mid at_mid) → AreWhole managed mid at_mid b → IfSome old (λ world. foretold_turns managed from world ≡ a ++ b)
+whole_from managed from mid None at_mid a b p q = tt
+whole_from managed from mid (Some world) at_mid a b p q =
+    p.turns ∙ ap (λ (ms : List Met). a ++ ms) (subst (λ (w : Option World). IfSome w (λ world. foretold_turns managed mid world ≡ b)) p.tells q)
+
+pub whole_then : (managed : List Managed) (from mid : Life) (old at_mid : Seen) (a b : List Met)
+    → IfSome (world_of old) (λ world. AreFirst managed from world a mid at_mid) → AreWhole managed mid at_mid b → AreWhole managed from old (a ++ b)
+whole_then managed from mid old at_mid a b p q = whole_from managed from mid (world_of old) at_mid a b p q
+
+first_none : (managed : List Managed) (life : Life) (seen : Seen) (told : Option World) → world_of seen ≡ told → IfSome told (λ world. AreFirst managed life world [] life seen)
+first_none managed life seen None same = tt
+first_none managed life seen (Some world) same = record { then_told = world; tells = same; turns = refl; counted = omega arith }
+
+-- ---- all of it
+
+pub goes_nowhere : (managed : List Managed) (life : Life) (seen : Seen) (out : Option (List ℕ)) → Goes managed life seen out life seen out []
+goes_nowhere managed life seen out = record {
+  turns = tt;
+  after = refl;
+  written = lines_none out;
+  tells = tells_none seen;
+  foretold = first_none managed life seen (world_of seen) refl;
 }
 
--- what was asked of the host in one stretch and then in another
-changed_then : (managed : List Managed) (from mid : Life) (host host_mid host_to : Option HostTold) (a b : List Met) → mid ≡ life_after managed from a
-    → AddsHostCalls host host_mid (turns_change managed from a) → AddsHostCalls host_mid host_to (turns_change managed mid b) → AddsHostCalls host host_to (turns_change managed from (a ++ b))
-changed_then managed from mid host host_mid host_to a b after p q =
-    subst (λ (cs : List HostCall). AddsHostCalls host host_to cs) (sym (turns_change-append managed from a b))
-    (host_adds_then host host_mid host_to (turns_change managed from a) (turns_change managed (life_after managed from a) b) p
-    (subst (λ (life : Life). AddsHostCalls host_mid host_to (turns_change managed life b)) after q))
-
-pub goes_then : (managed : List Managed) (failing : Option Failing) (from mid to : Life) (host host_mid host_to : Option HostTold) (link link_mid link_to : Option LinkTold) (out out_mid out_to : Option (List ℕ)) (a b : List Met)
-    → Goes managed failing from host link out mid host_mid link_mid out_mid a → Goes managed failing mid host_mid link_mid out_mid to host_to link_to out_to b
-    → Goes managed failing from host link out to host_to link_to out_to (a ++ b)
-goes_then managed failing from mid to host host_mid host_to link link_mid link_to out out_mid out_to a b p q = record {
-  passes = passes_then managed from mid to out out_mid out_to a b p.passes q.passes;
-  foretold = foretold_then managed failing a b from mid to host host_mid host_to link link_mid link_to p.foretold q.foretold;
-  asked = subst (λ (cs : List LinkCall). AddsCalls link link_to cs) (sym (turns_ask-append managed from a b))
-      (adds_then link link_mid link_to (turns_ask managed from a) (turns_ask managed (life_after managed from a) b) p.asked
-      (subst (λ (life : Life). AddsCalls link_mid link_to (turns_ask managed life b)) p.passes.after q.asked));
-  changed = changed_then managed from mid host host_mid host_to a b p.passes.after p.changed q.changed;
+pub goes_then : (managed : List Managed) (from mid to : Life) (old at_mid new : Seen) (out out_mid out_to : Option (List ℕ)) (a b : List Met)
+    → Goes managed from old out mid at_mid out_mid a → Goes managed mid at_mid out_mid to new out_to b → Goes managed from old out to new out_to (a ++ b)
+goes_then managed from mid to old at_mid new out out_mid out_to a b p q = record {
+  turns = turns-append managed from a b p.turns (subst (λ (life : Life). AreTurns managed life b) p.after q.turns);
+  after = q.after ∙ ap (λ (life : Life). life_after life b) p.after ∙ sym (life_after-append from a b);
+  written = subst (λ (ls : List Line). WritesLines out out_to ls) (sym (flat_map-append turn_lines a b)) (lines_then out out_mid out_to (flat_map turn_lines a) (flat_map turn_lines b) p.written q.written);
+  tells = subst (λ (cs : List Call). Tells old new cs) (sym (turns_calls-append from a b))
+      (tells_then old at_mid new (turns_calls from a) (turns_calls (life_after from a) b) p.tells (subst (λ (life : Life). Tells at_mid new (turns_calls life b)) p.after q.tells));
+  foretold = first_then managed from mid to (world_of old) at_mid new a b p.foretold q.foretold;
 }
 
-whole_rest : (managed : List Managed) (failing : Failing) (foretold : List Met) (count : ℕ) (a b : List Met) (mid : Life) (host_mid : Option HostTold) (link_mid : Option LinkTold)
-    → IsRest managed failing foretold count a mid host_mid link_mid → AreWhole managed (Some failing) mid host_mid link_mid b → foretold ≡ a ++ b
-whole_rest managed failing foretold count a b mid None link_mid p q = absurd p
-whole_rest managed failing foretold count a b mid (Some h) None p q = absurd p
-whole_rest managed failing foretold count a b mid (Some h) (Some l) p q = p.0 ∙ ap (λ (ms : List Met). a ++ ms) q
-
-pub whole_then : (managed : List Managed) (failing : Option Failing) (a b : List Met) (from mid : Life) (host host_mid : Option HostTold) (link link_mid : Option LinkTold)
-    → AreForetold managed failing from host link a mid host_mid link_mid → AreWhole managed failing mid host_mid link_mid b → AreWhole managed failing from host link (a ++ b)
-whole_then managed None a b from mid host host_mid link link_mid p q = tt
-whole_then managed (Some f) a b from mid None host_mid link link_mid p q = tt
-whole_then managed (Some f) a b from mid (Some h) host_mid None link_mid p q = tt
-whole_then managed (Some f) a b from mid (Some h) host_mid (Some l) link_mid p q = whole_rest managed f (told_turns managed f from (told_by l h) l.coming) (length l.coming) a b mid host_mid link_mid p q
-
-pub ends_then : (managed : List Managed) (failing : Option Failing) (from mid to : Life) (host host_mid host_to : Option HostTold) (link link_mid link_to : Option LinkTold) (out out_mid out_to : Option (List ℕ)) (a b : List Met)
-    → Goes managed failing from host link out mid host_mid link_mid out_mid a → Ends managed failing mid host_mid link_mid out_mid to host_to link_to out_to b
-    → Ends managed failing from host link out to host_to link_to out_to (a ++ b)
-ends_then managed failing from mid to host host_mid host_to link link_mid link_to out out_mid out_to a b p q = record {
-  passes = passes_then managed from mid to out out_mid out_to a b p.passes q.passes;
-  whole = whole_then managed failing a b from mid host host_mid link link_mid p.foretold q.whole;
+pub ends_then : (managed : List Managed) (from mid to : Life) (old at_mid new : Seen) (out out_mid out_to : Option (List ℕ)) (a : List Met)
+    → Goes managed from old out mid at_mid out_mid a → Ends managed mid at_mid out_mid to new out_to → Ends managed from old out to new out_to
+ends_then managed from mid to old at_mid new out out_mid out_to a p q = record {
+  mets = a ++ q.mets;
+  turns = turns-append managed from a q.mets p.turns (subst (λ (life : Life). AreTurns managed life q.mets) p.after q.turns);
+  after = q.after ∙ ap (λ (life : Life). life_after life q.mets) p.after ∙ sym (life_after-append from a q.mets);
+  written = subst (λ (ls : List Line). WritesLines out out_to ls) (sym (flat_map-append turn_lines a q.mets)) (lines_then out out_mid out_to (flat_map turn_lines a) (flat_map turn_lines q.mets) p.written q.written);
   last = q.last;
   last_is = q.last_is;
-  asked = subst (λ (cs : List LinkCall). AddsCalls link link_to cs)
-      (sym (append_assoc (turns_ask managed from a) (turns_ask managed (life_after managed from a) b) q.last) ∙ ap (λ (cs : List LinkCall). cs ++ q.last) (sym (turns_ask-append managed from a b)))
-      (adds_then link link_mid link_to (turns_ask managed from a) (turns_ask managed (life_after managed from a) b ++ q.last) p.asked
-      (subst (λ (life : Life). AddsCalls link_mid link_to (turns_ask managed life b ++ q.last)) p.passes.after q.asked));
-  changed = changed_then managed from mid host host_mid host_to a b p.passes.after p.changed q.changed;
+  tells = subst (λ (cs : List Call). Tells old new cs)
+      (sym (append_assoc (turns_calls from a) (turns_calls (life_after from a) q.mets) q.last) ∙ ap (λ (cs : List Call). cs ++ q.last) (sym (turns_calls-append from a q.mets)))
+      (tells_then old at_mid new (turns_calls from a) (turns_calls (life_after from a) q.mets ++ q.last) p.tells (subst (λ (life : Life). Tells at_mid new (turns_calls life q.mets ++ q.last)) p.after q.tells));
+  whole = whole_then managed from mid old at_mid a q.mets p.foretold q.whole;
 }
 
-rest_here : (managed : List Managed) (failing : Option Failing) (life : Life) (host : Option HostTold) (link : Option LinkTold) → AreForetold managed failing life host link [] life host link
-rest_here managed None life host link = tt
-rest_here managed (Some f) life None link = tt
-rest_here managed (Some f) life (Some h) None = tt
-rest_here managed (Some f) life (Some h) (Some l) = (refl, omega arith)
+-- nothing is foretold of a life that is over
+over_is_empty : (managed : List Managed) (life : Life) (world : World) (coming : List Given) → is_over life ≡ true → told_turns managed life world coming ≡ []
+over_is_empty managed life world [] over = refl
+over_is_empty managed life world (given ∷ coming) over = rw over refl
 
-pub passes_none : (managed : List Managed) (life : Life) (out : Option (List ℕ)) → Passes managed life out life out []
-passes_none managed life out = record { after = refl; answers = tt; written = lines_none out }
+over_whole : (managed : List Managed) (from to : Life) (old : Option World) (new : Seen) (mets : List Met) → is_over to ≡ true
+    → IfSome old (λ world. AreFirst managed from world mets to new) → IfSome old (λ world. foretold_turns managed from world ≡ mets)
+over_whole managed from to None new mets over p = tt
+over_whole managed from to (Some world) new mets over p = p.turns ∙ ap (λ (ms : List Met). mets ++ ms) (over_is_empty managed to p.then_told p.then_told.link.told.coming over) ∙ append-nil mets
 
-pub goes_nowhere : (managed : List Managed) (failing : Option Failing) (life : Life) (host : Option HostTold) (link : Option LinkTold) (out : Option (List ℕ))
-    → Goes managed failing life host link out life host link out []
-goes_nowhere managed failing life host link out = record { passes = passes_none managed life out; foretold = rest_here managed failing life host link; asked = adds_none link; changed = host_adds_none host }
+pub goes_ends : (managed : List Managed) (from to : Life) (old new : Seen) (out out_to : Option (List ℕ)) (mets : List Met)
+    → is_over to ≡ true → Goes managed from old out to new out_to mets → Ends managed from old out to new out_to
+goes_ends managed from to old new out out_to mets over goes = record {
+  mets = mets;
+  turns = goes.turns;
+  after = goes.after;
+  written = goes.written;
+  last = [];
+  last_is = over;
+  tells = subst (λ (cs : List Call). Tells old new cs) (sym (append-nil (turns_calls from mets))) goes.tells;
+  whole = over_whole managed from to (world_of old) new mets over goes.foretold;
+}
+
+many : (managed : List Managed) (from to : Life) (old : Option World) (new : Seen) (mets : List Met) (count : ℕ) → length mets ≡ count
+    → IfSome old (λ world. AreFirst managed from world mets to new) → IfSome old (λ world. count ≤ length world.link.told.coming)
+many managed from to None new mets count counted p = tt
+many managed from to (Some world) new mets count counted p = omega (arith, counted, p.counted)
+
+pub goes_many : (managed : List Managed) (from to : Life) (old new : Seen) (out out_to : Option (List ℕ)) (mets : List Met) (count : ℕ) → length mets ≡ count
+    → Goes managed from old out to new out_to mets → AreManyTurns old count
+goes_many managed from to old new out out_to mets count counted goes = many managed from to (world_of old) new mets count counted goes.foretold

@@ -1,78 +1,92 @@
--- What a turn did and printed.
-use Rattle.std.proofs.Common.{ℕ, ◌≡◌, Bool, List, [], ◌∷◌, ◌++◌, Option, Some, None, max, sym, ap, subst, ◌∙◌}
-use Rattle.std.specs.Prelude.{map}
+-- What a turn and an opening asked and printed.
+use Rattle.std.proofs.Common.{ℕ, ◌≡◌, List, [], ◌∷◌, Option, None, ap, subst, ◌∙◌}
 use Rattle.world.specs.declared.rows.HostRow.{HostRow}
+use Rattle.world.specs.declared.wakes.Begin.{Begin}
 use Rattle.world.specs.declared.wakes.Wake.{Wake}
-use Rattle.world.specs.HostCalls.{HostCall, HostTold}
-use Rattle.world.specs.LinkCalls.{LinkTold}
-use Rattle.client_model.specs.declared.interfaces.Managed.{Managed}
-use Rattle.client_model.specs.Interfaces.{TurnInput}
-use Rattle.client_model.specs.Clients.{Client, Sending, client_turned, rows_of}
-use Rattle.client_model.specs.HostTurn.{HostMet, AnswersAll, host_calls, known_after}
-use Rattle.client_model.specs.Sends.{unsent_after}
-use Rattle.client_model.specs.Turns.{Life, capped, input_of, step_of, wanted_in, turned, moment_of, stop_after, until}
-use Rattle.client_model.specs.Lives.{host_lines, send_lines, turn_lines}
-use Rattle.client_model.specs.Lines.{Line}
-use Rattle.client_model.specs.Lines as lines
-use Rattle.client_model.specs.ToldDevices.{Determined, told_host_for}
+use Rattle.settings.specs.declared.interfaces.Managed.{Managed}
+use Rattle.machine.specs.Moment.{moment_of}
+use Rattle.client_model.specs.IfaceTurns.{Turn}
+use Rattle.client_model.specs.Clients.{Client, ClientStep, Sending, client_turned, rows_of}
+use Rattle.iface_core.specs.Outcomes.{Asked}
+use Rattle.script_model.specs.Lines as lines
 use Rattle.client_core.specs.Stepping.{Steps}
-use Rattle.daemon.specs.declared.sends.Sent.{Sent}
-use Rattle.daemon.specs.declared.host_turns.HostTurn.{HostTurn}
-use Rattle.daemon.specs.HostTurns.{calls_of, met_of}
-use Rattle.daemon.specs.Asked.{AddsHostCalls}
-use Rattle.daemon.specs.Printing.{Prints}
-use Rattle.daemon.specs.Sends.{Offering, sendings_of, taken_of}
-use Rattle.daemon.specs.TurnsMade.{met_with}
-use Rattle.daemon.proofs.Printings.{prints_then, prints_same}
+use Rattle.device_calls.specs.Programs.{Asks, after}
+use Rattle.device_calls.specs.Worlds.{Seen}
+use Rattle.device_calls.specs.Does.{Did, Does}
+use Rattle.device_calls.specs.Printing.{Prints}
+use Rattle.device_calls.proofs.Printings.{prints_then}
+use Rattle.device_calls.proofs.Doing.{does_done, does_after}
+use Rattle.turn_model.specs.Turns.{Life, offering, hosting, acting, turn_asks, input_of, step_of, turn_moment, stop_after, until}
+use Rattle.turn_model.specs.Opening.{FileRead, clearing, reading, file_names, opening_step, opening_asks}
+use Rattle.daemon.specs.Serving.{MakesTurn, MakesOpening}
 
-module _ (managed : List Managed) (life : Life) (wake : Wake) (bytes : List ℕ) (turn : TurnInput) (core : Client) (sends : List Sending) (sent : List Sent) (asked : HostTurn) (wanted : List HostRow)
-    (turn_is : turn ≡ input_of life wake bytes) (steps : Steps (client_turned turn life.client) core sends) (sent_are : sendings_of sent ≡ sends) (wanted_is : wanted ≡ rows_of core) where
-  client_is : core ≡ (step_of life wake bytes).client
-  client_is = steps.goes_on ∙ ap (λ (t : TurnInput). (client_turned t life.client).client) turn_is
+-- a life as a turn leaves it
+abbrev pub left : Client → Option (List HostRow) → ℕ → Option ℕ → ℕ → Life
+left client known moment stop unsent = record { client = client; known = known; now = moment; stop = stop; unsent = unsent }
 
-  sends_are : sendings_of sent ≡ (step_of life wake bytes).sends
-  sends_are = sent_are ∙ steps.offers ∙ ap (λ (t : TurnInput). (client_turned t life.client).sends) turn_is
+abbrev pub step_with : Client → List Sending → ClientStep
+step_with client sends = record { client = client; sends = sends; reports = [] }
 
-  wanted_here : wanted ≡ wanted_in life wake bytes
-  wanted_here = wanted_is ∙ ap rows_of client_is
+pub acted : (managed : List Managed) (known : Option (List HostRow)) (client : Client) (sends : List Sending) (moment : ℕ) (stop : Option ℕ) (unsent : ℕ) (known_then : Option (List HostRow)) (old mid new : Seen) (t u v : List ℕ)
+    → Does (offering sends 0) unsent old mid t u → Does (hosting managed (rows_of client) known) known_then mid new u v
+    → Does (acting managed known (step_with client sends) moment stop) (left client known_then moment stop unsent) old new t v
+acted managed known client sends moment stop unsent known_then old mid new t u v p q =
+    does_after (offering sends 0) _ unsent _ old mid new t u v p
+    (does_after (hosting managed (rows_of client) known) _ known_then _ mid new new u v v q (does_done _ new v))
 
-  pub turned_is : (known : Option (List HostRow)) (moment : ℕ) (stop : Option ℕ) (unsent : ℕ) (slice : List Sent)
-      → known ≡ known_after managed life.known wanted (met_of asked) → moment ≡ moment_of life wake → stop ≡ stop_after life.stop wake.event moment
-      → slice ≡ sent → unsent ≡ unsent_after (sendings_of slice) (taken_of slice)
-      → record { client = core; known = known; now = moment; stop = stop; unsent = unsent } ≡ turned managed life (met_with wake bytes (taken_of sent) (met_of asked))
-  turned_is known moment stop unsent slice known_is moment_is stop_is slice_is unsent_is =
-      let known_here : known ≡ known_after managed life.known (wanted_in life wake bytes) (met_of asked) = known_is ∙ ap (λ (w : List HostRow). known_after managed life.known w (met_of asked)) wanted_here in
-      let stop_here : stop ≡ stop_after life.stop wake.event (moment_of life wake) = stop_is ∙ ap (stop_after life.stop wake.event) moment_is in
-      let unsent_here : unsent ≡ unsent_after (step_of life wake bytes).sends (taken_of sent) =
-      unsent_is ∙ ap (λ (s : List Sent). unsent_after (sendings_of s) (taken_of s)) slice_is ∙ ap (λ (s : List Sending). unsent_after s (taken_of sent)) sends_are in
-      λ i. record { client = client_is i; known = known_here i; now = moment_is i; stop = stop_here i; unsent = unsent_here i }
+asks_are : (managed : List Managed) (life : Life) (wake : Wake) (bytes : List ℕ) (turn : Turn) (client : Client) (asked : Asked) (moment : ℕ) (stop : Option ℕ)
+    → turn ≡ input_of life wake bytes → Steps (client_turned turn life.client) client asked → moment ≡ turn_moment life wake → stop ≡ stop_after life.stop wake.event moment
+    → acting managed life.known (step_with client asked.sends) moment stop ≡ turn_asks managed life wake bytes
+unfolding turn_asks
+asks_are managed life wake bytes turn client asked moment stop turn_is steps moment_is stop_is =
+    let client_is : client ≡ (step_of life wake bytes).client = steps.goes_on ∙ ap (λ (t : Turn). (client_turned t life.client).client) turn_is in
+    let sends_are : asked.sends ≡ (step_of life wake bytes).sends = steps.offers ∙ ap (λ (t : Turn). (client_turned t life.client).sends) turn_is in
+    let stop_here : stop ≡ stop_after life.stop wake.event (turn_moment life wake) = stop_is ∙ ap (stop_after life.stop wake.event) moment_is in
+    λ i. acting managed life.known (step_with (client_is i) (sends_are i)) (moment_is i) (stop_here i)
 
-  pub offers_are : (failing : Option (List ℕ)) (old new : Option LinkTold) → Offering failing old new (sendings_of sent) (taken_of sent) → Offering failing old new (step_of life wake bytes).sends (taken_of sent)
-  offers_are failing old new offering = subst (λ (s : List Sending). Offering failing old new s (taken_of sent)) sends_are offering
+pub turn_made : (managed : List Managed) (life : Life) (wake : Wake) (bytes : List ℕ) (turn : Turn) (client : Client) (asked : Asked) (moment : ℕ) (stop : Option ℕ) (unsent : ℕ) (known : Option (List HostRow)) (asked_until : Option ℕ)
+    (old mid new : Seen) (s t u v w : List ℕ)
+    → turn ≡ input_of life wake bytes → Steps (client_turned turn life.client) client asked → moment ≡ turn_moment life wake → stop ≡ stop_after life.stop wake.event moment
+    → Prints s t (lines.Turn moment wake.salt wake.event bytes ∷ [])
+    → Does (offering asked.sends 0) unsent old mid t u → Does (hosting managed (rows_of client) life.known) known mid new u v
+    → Prints v w (lines.Until asked_until ∷ []) → asked_until ≡ until (left client known moment stop unsent)
+    → MakesTurn managed life wake bytes (left client known moment stop unsent) old new s w
+turn_made managed life wake bytes turn client asked moment stop unsent known asked_until old mid new s t u v w turn_is steps moment_is stop_is line p q last until_is =
+    let does : Does (acting managed life.known (step_with client asked.sends) moment stop) (left client known moment stop unsent) old new t v =
+    acted managed life.known client asked.sends moment stop unsent known old mid new t u v p q in
+    record {
+      calls = does.calls;
+      did = subst (λ (asks : Asks Life). Did asks does.calls (left client known moment stop unsent) old new) (asks_are managed life wake bytes turn client asked moment stop turn_is steps moment_is stop_is) does.did;
+      lines = prints_then line (prints_then does.lines (subst (λ (m : Option ℕ). Prints v w (lines.Until m ∷ [])) until_is last));
+    }
 
-  pub answers_are : AnswersAll managed life.known wanted (met_of asked) → AnswersAll managed life.known (wanted_in life wake bytes) (met_of asked)
-  answers_are answers = subst (λ (w : List HostRow). AnswersAll managed life.known w (met_of asked)) wanted_here answers
+-- ---- the opening
 
-  pub asked_is : (old new : Option HostTold) → AddsHostCalls old new (calls_of asked) → calls_of asked ≡ host_calls managed life.known wanted (met_of asked)
-      → AddsHostCalls old new (host_calls managed life.known (wanted_in life wake bytes) (met_of asked))
-  asked_is old new adds calls =
-      subst (λ (w : List HostRow). AddsHostCalls old new (host_calls managed life.known w (met_of asked))) wanted_here (subst (λ (cs : List HostCall). AddsHostCalls old new cs) calls adds)
+opens_as : (managed : List Managed) (begin : Begin) (names : List (List ℕ)) (client : Client) (asked : Asked) (moment unsent : ℕ) (known : Option (List HostRow)) (old one two three new : Seen) (t u v w x : List ℕ) (read : List FileRead) (done : Unit {0})
+    → names ≡ file_names managed → Steps (opening_step managed begin) client asked → moment ≡ moment_of begin.at
+    → Does clearing done old one t u → Does (reading [] names) read one two u v → Does (offering asked.sends 0) unsent two three v w → Does (hosting managed (rows_of client) None) known three new w x
+    → Does (opening_asks managed begin) (left client known moment None unsent) old new t x
+unfolding opening_asks
+opens_as managed begin names client asked moment unsent known old one two three new t u v w x read done names_are steps moment_is p q o r =
+    let acts : Does (acting managed None (step_with client asked.sends) moment None) (left client known moment None unsent) two new v x =
+    acted managed None client asked.sends moment None unsent known two three new v w x o r in
+    let acts_here : Does (acting managed None (opening_step managed begin) (moment_of begin.at) None) (left client known moment None unsent) two new v x =
+    subst (λ (asks : Asks Life). Does asks (left client known moment None unsent) two new v x) (λ i. acting managed None (step_with (steps.goes_on i) (steps.offers i)) (moment_is i) None) acts in
+    does_after clearing (λ _. after (reading [] (file_names managed)) (λ files. acting managed None (opening_step managed begin) (moment_of begin.at) None)) done (left client known moment None unsent) old one new t u x p
+    (does_after (reading [] (file_names managed)) (λ files. acting managed None (opening_step managed begin) (moment_of begin.at) None) read (left client known moment None unsent) one two new u v x (subst (λ (ns : List (List ℕ)). Does (reading [] ns) read one two u v) names_are q) acts_here)
 
-  pub told_is : (failing : Option (List ℕ)) (old new : Option HostTold) → Determined (told_host_for managed life.known wanted) failing old (met_of asked) new
-      → Determined (told_host_for managed life.known (wanted_in life wake bytes)) failing old (met_of asked) new
-  told_is failing old new told = subst (λ (w : List HostRow). Determined (told_host_for managed life.known w) failing old (met_of asked) new) wanted_here told
-
-  pub turn_prints : (t u v w x : List ℕ) (moment : ℕ) (asked_until : Option ℕ) (slice : List Sent)
-      → Prints t u (lines.Turn moment wake.salt wake.event bytes ∷ []) → moment ≡ moment_of life wake
-      → Prints u v (send_lines (sendings_of slice) (taken_of slice)) → slice ≡ sent
-      → Prints v w (host_lines (calls_of asked)) → calls_of asked ≡ host_calls managed life.known wanted (met_of asked)
-      → Prints w x (lines.Until asked_until ∷ []) → asked_until ≡ until (turned managed life (met_with wake bytes (taken_of sent) (met_of asked)))
-      → Prints t x (turn_lines managed life (met_with wake bytes (taken_of sent) (met_of asked)))
-  turn_prints t u v w x moment asked_until slice p moment_is q slice_is r calls z until_is =
-      let sent_here : send_lines (sendings_of slice) (taken_of slice) ≡ send_lines (step_of life wake bytes).sends (taken_of sent) =
-      ap (λ (s : List Sent). send_lines (sendings_of s) (taken_of s)) slice_is ∙ ap (λ (s : List Sending). send_lines s (taken_of sent)) sends_are in
-      let calls_here : calls_of asked ≡ host_calls managed life.known (wanted_in life wake bytes) (met_of asked) = calls ∙ ap (λ (k : List HostRow). host_calls managed life.known k (met_of asked)) wanted_here in
-      prints_then (prints_same p (ap (λ (m : ℕ). lines.Turn m wake.salt wake.event bytes ∷ []) moment_is))
-      (prints_then (prints_same q sent_here)
-      (prints_then (prints_same r (ap host_lines calls_here))
-      (prints_same z (ap (λ (m : Option ℕ). lines.Until m ∷ []) until_is))))
+pub opening_made : (managed : List Managed) (begin : Begin) (names : List (List ℕ)) (client : Client) (asked : Asked) (moment unsent : ℕ) (known : Option (List HostRow)) (asked_until : Option ℕ) (read : List FileRead) (done : Unit {0})
+    (old one two three new : Seen) (s t u v w x y : List ℕ)
+    → names ≡ file_names managed → Steps (opening_step managed begin) client asked → moment ≡ moment_of begin.at
+    → Prints s t (lines.Start begin ∷ [])
+    → Does clearing done old one t u → Does (reading [] names) read one two u v → Does (offering asked.sends 0) unsent two three v w → Does (hosting managed (rows_of client) None) known three new w x
+    → Prints x y (lines.Until asked_until ∷ []) → asked_until ≡ until (left client known moment None unsent)
+    → MakesOpening managed begin (left client known moment None unsent) old new s y
+opening_made managed begin names client asked moment unsent known asked_until read done old one two three new s t u v w x y names_are steps moment_is line p q o r last until_is =
+    let does : Does (opening_asks managed begin) (left client known moment None unsent) old new t x =
+    opens_as managed begin names client asked moment unsent known old one two three new t u v w x read done names_are steps moment_is p q o r in
+    record {
+      calls = does.calls;
+      did = does.did;
+      lines = prints_then line (prints_then does.lines (subst (λ (m : Option ℕ). Prints x y (lines.Until m ∷ [])) until_is last));
+    }

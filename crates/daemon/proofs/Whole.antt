@@ -1,113 +1,143 @@
 -- A whole life.
-use Rattle.std.proofs.Common.{ℕ, ◌≡◌, List, [], ◌++◌, Option, Some, None, Result, Ok, ap, subst, ◌∙◌}
-use Rattle.net_types.specs.declared.fault.Failed.{Failed}
+use Rattle.std.proofs.Common.{ℕ, ◌≡◌, ◌≤◌, List, [], ◌++◌, length, inl, inr, Option, Some, None, refl, sym, ap, subst, ◌∙◌, arith}
+use Rattle.std.specs.Prelude.{IfSome, flat_map}
 use Rattle.world.specs.declared.wakes.Begin.{Begin}
-use Rattle.world.specs.HostCalls.{HostTold}
-use Rattle.world.specs.LinkCalls.{LinkTold, Begins}
-use Rattle.world.specs.StoreCalls.{StoreTold}
-use Rattle.client_model.specs.declared.interfaces.Managed.{Managed}
-use Rattle.client_model.specs.Clients.{opening, rows_of}
-use Rattle.client_model.specs.HostTurn.{host_calls}
-use Rattle.client_model.specs.Opening.{OpeningMet, opened_client, opened_life}
-use Rattle.client_model.specs.Turns.{Life, Met, capped, life_after}
-use Rattle.client_model.specs.Lives.{AllAnswered, turns_lines, opening_lines, closing_lines}
-use Rattle.client_model.specs.Lines.{Line}
-use Rattle.client_model.specs.ToldDevices.{Failing, Determined, told_host, told_host_for, told_opening, told_turns}
-use Rattle.daemon.specs.Asked.{turns_ask, turns_change, IsLast, AddsCalls, AddsHostCalls}
-use Rattle.daemon.specs.Printing.{Prints}
-use Rattle.daemon.specs.Openings.{FindsNothing, MakesOpening}
-use Rattle.daemon.specs.Serving.{WritesLines, failing_of, told_by, AreWhole, AreManyTurns}
-use Rattle.daemon.specs.Waking.{WritesBytes, EndsThere}
-use Rattle.daemon.specs.Served.{OpensForetold, Served}
-use Rattle.daemon.proofs.Wakes.{begun}
-use Rattle.daemon.proofs.Asking.{begin_adds}
-use Rattle.daemon.proofs.HostAsking.{host_adds_then}
+use Rattle.world.specs.LinkCalls.{Given}
+use Rattle.settings.specs.declared.interfaces.Managed.{Managed}
+use Rattle.script_model.specs.Lines.{Line}
+use Rattle.device_calls.specs.Calls.{Call}
+use Rattle.device_calls.specs.Worlds.{Seen, World, Ran, world_of, run}
+use Rattle.device_calls.specs.Does.{IsRun}
+use Rattle.device_calls.specs.Printing.{Prints}
+use Rattle.device_calls.proofs.Doing.{tells_then}
+use Rattle.device_calls.proofs.Running.{run_coming}
+use Rattle.turn_model.specs.Turns.{Life}
+use Rattle.turn_model.specs.Opening.{opening_asks}
+use Rattle.turn_model.specs.Lives.{OpeningMet, Met, IsLast, life_after, turns_calls, opening_lines, turn_lines, closing_lines}
+use Rattle.turn_model.specs.Foretold.{ForetoldLife, foretold_turns, foretold_life}
+use Rattle.daemon.specs.declared.serving.ServeEnd.{ServeEnd}
+use Rattle.daemon.specs.declared.serving.ServeEnd.TheVariants as ends
+use Rattle.daemon.specs.Waits.{BeginsThere}
+use Rattle.daemon.specs.Streams.{WritesBytes, WritesSome, WritesLines, WritesFront}
+use Rattle.daemon.specs.Serving.{opening_with, MakesOpening, Ends, AreManyTurns, HasServeCause}
+use Rattle.daemon.specs.Served.{Served}
+use Rattle.daemon.specs.Cuts.{cut_lines, turns_left, TellsUnlessMemory, BreaksOff, CutOpening, CutLife, BeginFails, Leaves}
+use Rattle.daemon.proofs.Waitings.{began, begun_world}
 use Rattle.daemon.proofs.Stretches.{lines_then}
+use Rattle.daemon.proofs.CutOffs.{front_some, front_after, told_left, left_whole, tells_unless}
 
-met_is : (managed : List Managed) (failing : List ℕ) (host : HostTold) (begin : Begin) (met : OpeningMet) → met.begin ≡ begin → FindsNothing met
-    → met.host ≡ (told_host managed failing None (rows_of (opening managed met.begin.up (capped met.begin.at))) host).answer → met ≡ (told_opening managed failing begin host).answer
-met_is managed failing host begin met begins nothing host_is =
-    let host_here : met.host ≡ (told_host managed failing None (rows_of (opening managed begin.up (capped begin.at))) host).answer = host_is ∙ ap (λ (b : Begin). (told_host managed failing None (rows_of (opening managed b.up (capped b.at))) host).answer) begins in
-    λ i. record { begin = begins i; asides = nothing.asides i; settled = nothing.settled i; readings = nothing.readings i; host = host_here i }
+-- ---- what was foretold
 
-both_told : (managed : List Managed) (failing : Failing) (here : Option Failing) (host : HostTold) (host_mid : Option HostTold) (link : LinkTold) (link_mid : Option LinkTold) (begin : Begin) (met : OpeningMet) (mets : List Met) (life : Life)
-    → here ≡ Some failing → met.begin ≡ begin → FindsNothing met
-    → Determined (told_host_for managed None (rows_of (opened_client managed met))) (Some failing.host) (Some host) met.host host_mid
-    → (begin ≡ link.begin) × (link_mid ≡ Some link) → life ≡ opened_life managed met → AreWhole managed here life host_mid link_mid mets
-    → OpensForetold managed (Some failing) (Some host) (Some link) met mets
-both_told managed failing here host host_mid link link_mid begin met mets life same begins nothing told starts after whole =
-    let begin_is : met.begin ≡ link.begin = begins ∙ starts.0 in
-    let told_here : host_mid ≡ Some (told_opening managed failing.host link.begin host).told =
-    told.1 ∙ ap (λ (b : Begin). Some (told_host managed failing.host None (rows_of (opening managed b.up (capped b.at))) host).told) begin_is in (
-      met_is managed failing.host host link.begin met begin_is nothing told.0,
-      subst (λ (l : Life). told_turns managed failing l (told_by link (told_opening managed failing.host link.begin host).told) link.coming ≡ mets) after
-          (subst (λ (h : Option HostTold). AreWhole managed (Some failing) life h (Some link) mets) told_here
-          (subst (λ (k : Option LinkTold). AreWhole managed (Some failing) life host_mid k mets) starts.1
-          (subst (λ (f : Option Failing). AreWhole managed f life host_mid link_mid mets) same whole))),
-    )
+abbrev lived : OpeningMet → List Met → ForetoldLife
+lived opening mets = record { opening = opening; mets = mets }
 
-pub opens_foretold : (managed : List Managed) (sends failing : Option (List ℕ)) (here : Option Failing) (host host_mid : Option HostTold) (link link_mid : Option LinkTold) (begin : Begin) (met : OpeningMet) (mets : List Met) (life : Life)
-    → here ≡ failing_of sends failing → met.begin ≡ begin → FindsNothing met
-    → Determined (told_host_for managed None (rows_of (opened_client managed met))) failing host met.host host_mid
-    → Begins link link_mid (begun begin) → life ≡ opened_life managed met → AreWhole managed here life host_mid link_mid mets
-    → OpensForetold managed (failing_of sends failing) host link met mets
-opens_foretold managed None failing here host host_mid link link_mid begin met mets life same begins nothing told starts after whole = tt
-opens_foretold managed (Some s) None here host host_mid link link_mid begin met mets life same begins nothing told starts after whole = tt
-opens_foretold managed (Some s) (Some f) here None host_mid link link_mid begin met mets life same begins nothing told starts after whole = tt
-opens_foretold managed (Some s) (Some f) here (Some h) host_mid None link_mid begin met mets life same begins nothing told starts after whole = tt
-opens_foretold managed (Some s) (Some f) here (Some h) host_mid (Some l) link_mid begin met mets life same begins nothing told starts after whole =
-    both_told managed (record { sends = s; host = f }) here h host_mid l link_mid begin met mets life same begins nothing told starts after whole
+opens_foretold : (managed : List Managed) (begin : Begin) (calls : List Call) (life : Life) (mets : List Met) (old mid opened : Option World)
+    → IfSome old (λ world. (begin ≡ world.link.told.begin) × (mid ≡ Some world))
+    → IfSome mid (λ world. IsRun (run (opening_asks managed begin) world) calls life opened)
+    → IfSome opened (λ world. foretold_turns managed life world ≡ mets)
+    → IfSome old (λ world. foretold_life managed world ≡ lived (opening_with begin calls life) mets)
+opens_foretold managed begin calls life mets None mid opened p q r = tt
+opens_foretold managed begin calls life mets (Some world) mid opened p q r =
+    let ran : IsRun (run (opening_asks managed begin) world) calls life opened = subst (λ (m : Option World). IfSome m (λ world. IsRun (run (opening_asks managed begin) world) calls life opened)) p.1 q in
+    let rest : foretold_turns managed life (run (opening_asks managed begin) world).world ≡ mets = subst (λ (m : Option World). IfSome m (λ world. foretold_turns managed life world ≡ mets)) ran.world_is r in
+    (λ i. lived (opening_with (sym p.0 i) (run (opening_asks managed (sym p.0 i)) world).calls (run (opening_asks managed (sym p.0 i)) world).result) (foretold_turns managed (run (opening_asks managed (sym p.0 i)) world).result (run (opening_asks managed (sym p.0 i)) world).world))
+    ∙ (λ i. lived (opening_with begin (sym ran.calls_are i) (sym ran.result_is i)) (foretold_turns managed (sym ran.result_is i) (run (opening_asks managed begin) world).world))
+    ∙ ap (lived (opening_with begin calls life)) rest
 
-pub opening_written : (old new : Option (List ℕ)) (text : List ℕ) (lines : List Line) → WritesBytes old new text → Prints [] text lines → WritesLines old new lines
+many_from : (managed : List Managed) (begin : Begin) (calls : List Call) (life : Life) (turns : ℕ) (old mid opened : Option World)
+    → IfSome old (λ world. (begin ≡ world.link.told.begin) × (mid ≡ Some world))
+    → IfSome mid (λ world. IsRun (run (opening_asks managed begin) world) calls life opened)
+    → IfSome opened (λ world. turns ≤ length world.link.told.coming) → IfSome old (λ world. turns ≤ length world.link.told.coming)
+many_from managed begin calls life turns None mid opened p q r = tt
+many_from managed begin calls life turns (Some world) mid opened p q r =
+    let ran : IsRun (run (opening_asks managed begin) world) calls life opened = subst (λ (m : Option World). IfSome m (λ world. IsRun (run (opening_asks managed begin) world) calls life opened)) p.1 q in
+    let here : turns ≤ length (run (opening_asks managed begin) world).world.link.told.coming = subst (λ (m : Option World). IfSome m (λ world. turns ≤ length world.link.told.coming)) ran.world_is r in
+    subst (λ (c : List Given). turns ≤ length c) (run_coming (opening_asks managed begin) world) here
+
+-- as many wakes come as were allowed, from the beginning on
+pub many_before : (managed : List Managed) (begin : Begin) (life : Life) (turns : ℕ) (old mid opened : Seen) (text_old text : List ℕ)
+    → BeginsThere old mid (began begin) → MakesOpening managed begin life mid opened text_old text → AreManyTurns opened turns → AreManyTurns old turns
+many_before managed begin life turns old mid opened text_old text begins made many =
+    many_from managed begin made.calls life turns (world_of old) (world_of mid) (world_of opened) (begun_world begin old mid begins) made.did.foretold many
+
+opening_written : (old new : Option (List ℕ)) (text : List ℕ) (lines : List Line) → WritesBytes old new text → Prints [] text lines → WritesLines old new lines
 opening_written None new text lines w p = w
 opening_written (Some written) new text lines w p = w ∙ ap (λ (x : List ℕ). Some (written ++ x)) p.appended
 
-pub serves : (managed : List Managed) (sends failing : Option (List ℕ)) (here : Option Failing) (host host_mid host_to : Option HostTold) (link link_mid link_to : Option LinkTold) (store_failing : Option (List ℕ)) (store : Option StoreTold) (begin : Begin) (life last : Life)
-    (text_old text written : List ℕ) (out out_one out_two out_three : Option (List ℕ))
-    → here ≡ failing_of sends failing → Begins link link_mid (begun begin)
-    → text_old ≡ [] → MakesOpening managed begin life failing host host_mid store_failing store text_old text
-    → written ≡ text → WritesBytes out out_one written
-    → EndsThere managed here life host_mid link_mid out_one last host_to link_to out_two
-    → WritesLines out_two out_three (closing_lines last)
-    → Served managed (failing_of sends failing) host host_to link link_to store_failing store out out_three
-serves managed sends failing here host host_mid host_to link link_mid link_to store_failing store begin life last text_old text written out out_one out_two out_three same starts empty made text_is wrote ends closes =
-    let life_is : life ≡ opened_life managed made.met = made.after in
-    let mets : List Met = ends.mets in
-    let last_is : last ≡ life_after managed (opened_life managed made.met) mets = ends.ends.passes.after ∙ ap (λ (l : Life). life_after managed l mets) life_is in
-    let opening_is : WritesLines out out_one (opening_lines managed made.met) =
-    opening_written out out_one text (opening_lines managed made.met) (subst (λ (t : List ℕ). WritesBytes out out_one t) text_is wrote) (subst (λ (t : List ℕ). Prints t text (opening_lines managed made.met)) empty made.lines) in
-    let turns_are : WritesLines out_one out_two (turns_lines managed (opened_life managed made.met) mets) =
-    subst (λ (l : Life). WritesLines out_one out_two (turns_lines managed l mets)) life_is ends.ends.passes.written in
-    let closing_is : WritesLines out_two out_three (closing_lines (life_after managed (opened_life managed made.met) mets)) =
-    subst (λ (l : Life). WritesLines out_two out_three (closing_lines l)) last_is closes in
-    record {
-      opening = made.met;
-      mets = mets;
-      opens = made.opens;
-      answers = subst (λ (l : Life). AllAnswered managed l mets) life_is ends.ends.passes.answers;
-      written = lines_then out out_one out_three (opening_lines managed made.met) (turns_lines managed (opened_life managed made.met) mets ++ closing_lines (life_after managed (opened_life managed made.met) mets)) opening_is
-          (lines_then out_one out_two out_three (turns_lines managed (opened_life managed made.met) mets) (closing_lines (life_after managed (opened_life managed made.met) mets)) turns_are closing_is);
-      last = ends.ends.last;
-      last_is = subst (λ (l : Life). IsLast l ends.ends.last) last_is ends.ends.last_is;
-      asked = begin_adds begin link link_mid link_to (turns_ask managed (opened_life managed made.met) mets ++ ends.ends.last) starts
-          (subst (λ (l : Life). AddsCalls link_mid link_to (turns_ask managed l mets ++ ends.ends.last)) life_is ends.ends.asked);
-      changed = host_adds_then host host_mid host_to (host_calls managed None (rows_of (opened_client managed made.met)) made.met.host) (turns_change managed (opened_life managed made.met) mets) made.asked
-          (subst (λ (l : Life). AddsHostCalls host_mid host_to (turns_change managed l mets)) life_is ends.ends.changed);
-      foretold = λ quiet. opens_foretold managed sends failing here host host_mid link link_mid begin made.met mets life same made.begins (made.quiet quiet) made.told starts life_is ends.ends.whole;
-    }
+module _ (managed : List Managed) (begin : Begin) (life : Life) (old mid opened : Seen) (text_old text written : List ℕ) (out out_one : Option (List ℕ))
+    (begins : BeginsThere old mid (began begin)) (made : MakesOpening managed begin life mid opened text_old text) (empty : text_old ≡ []) (same : written ≡ text) where
+  lines_written : WritesBytes out out_one written → WritesLines out out_one (opening_lines (opening_with begin made.calls life))
+  lines_written wrote =
+      opening_written out out_one text (opening_lines (opening_with begin made.calls life)) (subst (λ (t : List ℕ). WritesBytes out out_one t) same wrote)
+      (subst (λ (t : List ℕ). Prints t text (opening_lines (opening_with begin made.calls life))) empty made.lines)
 
--- as many wakes come as were allowed, from the beginning on
-pub many_before : (managed : List Managed) (sends failing : Option (List ℕ)) (here : Option Failing) (host host_mid : Option HostTold) (link link_mid : Option LinkTold) (begin : Begin) (met : OpeningMet) (turns : ℕ)
-    → here ≡ failing_of sends failing
-    → Determined (told_host_for managed None (rows_of (opened_client managed met))) failing host met.host host_mid
-    → Begins link link_mid (begun begin) → AreManyTurns here host_mid link_mid turns → AreManyTurns (failing_of sends failing) host link turns
-many_before managed None failing here host host_mid link link_mid begin met turns same told starts many = tt
-many_before managed (Some s) None here host host_mid link link_mid begin met turns same told starts many = tt
-many_before managed (Some s) (Some f) here None host_mid link link_mid begin met turns same told starts many = tt
-many_before managed (Some s) (Some f) here (Some h) host_mid None link_mid begin met turns same told starts many = tt
-many_before managed (Some s) (Some f) here (Some h) host_mid (Some l) link_mid begin met turns same told starts many =
-    let failing : Failing = record { sends = s; host = f } in
-    let told_then : HostTold = (told_host managed f None (rows_of (opened_client managed met)) h).told in
-    subst (λ (k : Option LinkTold). AreManyTurns (Some failing) (Some told_then) k turns) starts.1
-    (subst (λ (m : Option HostTold). AreManyTurns (Some failing) m link_mid turns) told.1
-    (subst (λ (f : Option Failing). AreManyTurns f host_mid link_mid turns) same many))
+  -- it was lived to its end
+  pub serves : (last : Life) (new : Seen) (out_two out_three : Option (List ℕ)) → WritesBytes out out_one written → Ends managed life opened out_one last new out_two
+      → WritesLines out_two out_three (closing_lines last) → Served managed old new out out_three
+  serves last new out_two out_three wrote ends closes = record {
+    begun = record { begin = begin; seen = mid; begins = begins };
+    opening = opening_with begin made.calls life;
+    mets = ends.mets;
+    last = ends.last;
+    begins = refl;
+    opens = made.did.makes;
+    turns = ends.turns;
+    last_is = subst (λ (l : Life). IsLast l ends.last) ends.after ends.last_is;
+    tells = tells_then mid opened new made.calls (turns_calls life ends.mets ++ ends.last) made.did.tells ends.tells;
+    written = lines_then out out_one out_three (opening_lines (opening_with begin made.calls life)) (flat_map turn_lines ends.mets ++ closing_lines (life_after life ends.mets)) (lines_written wrote)
+        (lines_then out_one out_two out_three (flat_map turn_lines ends.mets) (closing_lines (life_after life ends.mets)) ends.written
+        (subst (λ (l : Life). WritesLines out_two out_three (closing_lines l)) ends.after closes));
+    foretold = opens_foretold managed begin made.calls life ends.mets (world_of old) (world_of mid) (world_of opened) (begun_world begin old mid begins) made.did.foretold ends.whole;
+  }
+
+  -- the lines of the opening were not all written
+  cut_opening : (end : ServeEnd) (out_to : Option (List ℕ)) → WritesSome out out_to written → TellsUnlessMemory end mid opened made.calls → CutOpening end managed old opened out out_to
+  cut_opening end out_to some tells = record {
+    begun = record { begin = begin; seen = mid; begins = begins };
+    opening = opening_with begin made.calls life;
+    rest = told_left managed life (world_of opened);
+    begins = refl;
+    opens = made.did.makes;
+    written = front_some out out_to text_old written text (opening_lines (opening_with begin made.calls life)) empty made.lines same some;
+    tells = tells;
+    foretold = opens_foretold managed begin made.calls life (told_left managed life (world_of opened)) (world_of old) (world_of mid) (world_of opened) (begun_world begin old mid begins) made.did.foretold (left_whole managed life (world_of opened));
+  }
+
+  pub leaves_opening : (end : ServeEnd) (out_to : Option (List ℕ)) (a b : ℕ) → WritesSome out out_to written → HasServeCause end a b 0 0 → Leaves end managed old opened out out_to
+  leaves_opening ends.End out_to a b some cause = absurd cause
+  leaves_opening ends.TurnsOver out_to a b some cause = absurd cause
+  leaves_opening ends.LinkFault out_to a b some cause = absurd (omega (arith, cause.1))
+  leaves_opening ends.WriteFault out_to a b some cause = inl (cut_opening ends.WriteFault out_to some made.did.tells)
+  leaves_opening ends.NoMemory out_to a b some cause = inr (inl (cut_opening ends.NoMemory out_to some tt))
+
+  -- it was cut off later
+  cut_life : (end : ServeEnd) (new : Seen) (out_to : Option (List ℕ)) → WritesBytes out out_one written → BreaksOff end managed life opened new out_one out_to → CutLife end managed old new out out_to
+  cut_life end new out_to wrote breaks = record {
+    begun = record { begin = begin; seen = mid; begins = begins };
+    opening = opening_with begin made.calls life;
+    mets = breaks.mets;
+    at = breaks.at;
+    calls = breaks.calls;
+    begins = refl;
+    opens = made.did.makes;
+    cuts = breaks.cuts;
+    turns = breaks.turns;
+    written = front_after out out_one out_to (opening_lines (opening_with begin made.calls life)) (flat_map turn_lines breaks.mets) (cut_lines (life_after life breaks.mets) breaks.at) (lines_written wrote) breaks.written;
+    tells = tells_unless end mid opened new made.calls (turns_calls life breaks.mets ++ breaks.calls) made.did.tells breaks.tells;
+    foretold = opens_foretold managed begin made.calls life (breaks.mets ++ turns_left breaks.at) (world_of old) (world_of mid) (world_of opened) (begun_world begin old mid begins) made.did.foretold breaks.whole;
+  }
+
+  pub leaves_life : (end : ServeEnd) (new : Seen) (out_to : Option (List ℕ)) → WritesBytes out out_one written → BreaksOff end managed life opened new out_one out_to → Leaves end managed old new out out_to
+  leaves_life ends.End new out_to wrote breaks = tt
+  leaves_life ends.TurnsOver new out_to wrote breaks = cut_life ends.TurnsOver new out_to wrote breaks
+  leaves_life ends.LinkFault new out_to wrote breaks = inr (cut_life ends.LinkFault new out_to wrote breaks)
+  leaves_life ends.WriteFault new out_to wrote breaks = inr (cut_life ends.WriteFault new out_to wrote breaks)
+  leaves_life ends.NoMemory new out_to wrote breaks = inr (inr (cut_life ends.NoMemory new out_to wrote breaks))
+
+-- it could not begin
+pub leaves_unbegun : (end : ServeEnd) (managed : List Managed) (old new : Seen) (out : Option (List ℕ)) → BeginFails end old new → Leaves end managed old new out out
+leaves_unbegun ends.End managed old new out fails = absurd fails
+leaves_unbegun ends.TurnsOver managed old new out fails = absurd fails
+leaves_unbegun ends.LinkFault managed old new out fails = inl (refl, fails)
+leaves_unbegun ends.WriteFault managed old new out fails = absurd fails
+leaves_unbegun ends.NoMemory managed old new out fails = absurd fails

@@ -1,24 +1,20 @@
--- What stands written where a life was cut off.
-use Rattle.std.specs.Prelude.{ℕ, ◌≡◌, ◌⊎◌, List, [], ◌∷◌, ◌++◌, take, Option, Some, None}
-use Rattle.world.specs.HostCalls.{HostTold}
-use Rattle.world.specs.LinkCalls.{LinkTold}
-use Rattle.world.specs.StoreCalls.{StoreTold}
-use Rattle.client_model.specs.declared.interfaces.Managed.{Managed}
-use Rattle.client_model.specs.Opening.{OpeningMet, Opens, opened_life}
-use Rattle.client_model.specs.Turns.{Life, Met, life_after}
-use Rattle.client_model.specs.Lives.{AllAnswered, opening_lines, turn_lines, turns_lines, closing_lines}
-use Rattle.client_model.specs.Lines.{Line, lines_text}
-use Rattle.client_model.specs.ToldDevices.{Failing}
-use Rattle.lease_file.specs.Quiet.{IsQuiet}
+-- What stands written where a life was cut off, and what was asked then.
+use Rattle.std.specs.Prelude.{ℕ, ◌≡◌, ◌⊎◌, false, List, [], ◌∷◌, ◌++◌, flat_map, Option, Some, None, IfSome, Err}
+use Rattle.net_types.specs.declared.fault.Failed.{Failed}
+use Rattle.world.specs.LinkCalls.{Waited}
+use Rattle.settings.specs.declared.interfaces.Managed.{Managed}
+use Rattle.script_model.specs.Lines.{Line}
+use Rattle.device_calls.specs.Calls.{Call, Link}
+use Rattle.device_calls.specs.Worlds.{Seen, World, world_of}
+use Rattle.device_calls.specs.Telling.{Tells}
+use Rattle.turn_model.specs.Turns.{Life, until, is_over}
+use Rattle.turn_model.specs.Lives.{OpeningMet, IsOpening, Met, AreTurns, IsLast, life_after, turn_calls, turns_calls, opening_lines, turn_lines, closing_lines}
 use Rattle.daemon.specs.declared.serving.ServeEnd.{ServeEnd}
 use Rattle.daemon.specs.declared.serving.ServeEnd.TheVariants as ends
+use Rattle.daemon.specs.Streams.{WritesFront}
 use Rattle.daemon.specs.Serving.{AreWhole}
-use Rattle.daemon.specs.Served.{OpensForetold}
-
--- lines were written whole, and then a front of the bytes of further lines, where it is told what is written
-abbrev pub WritesFront : Option (List ℕ) → Option (List ℕ) → List Line → List Line → Type 0
-WritesFront None new whole lines = new ≡ None
-WritesFront (Some written) new whole lines = (n : ℕ) × (new ≡ Some ((written ++ lines_text whole) ++ take n (lines_text lines)))
+use Rattle.daemon.specs.Served.{Begun, IsForetold}
+use Rattle.daemon.specs.Waits.{BeginsThere}
 
 -- what was being written, and the turns that were still to come, where these are foretold
 pub data CutAt : Type 0 where
@@ -29,10 +25,10 @@ pub data CutAt : Type 0 where
   -- the lines after the last turn
   AtEnd : CutAt
 
-abbrev pub cut_lines : List Managed → Life → CutAt → List Line
-cut_lines managed life (Between rest) = []
-cut_lines managed life (InTurn met rest) = turn_lines managed life met
-cut_lines managed life AtEnd = closing_lines life
+abbrev pub cut_lines : Life → CutAt → List Line
+cut_lines life (Between rest) = []
+cut_lines life (InTurn met rest) = turn_lines met
+cut_lines life AtEnd = closing_lines life
 
 -- the turn whose lines were being written
 abbrev pub cut_turns : CutAt → List Met
@@ -46,55 +42,81 @@ turns_left (Between rest) = rest
 turns_left (InTurn met rest) = met ∷ rest
 turns_left AtEnd = []
 
--- A failed wait and the bound on the turns cut between turns, a failed write in the lines that it was to write.
-abbrev pub CutsAt : ServeEnd → CutAt → Type 0
-CutsAt ends.End at = ⊥
-CutsAt ends.TurnsOver (Between rest) = Unit {0}
-CutsAt ends.TurnsOver other = ⊥
-CutsAt ends.LinkFault (Between rest) = Unit {0}
-CutsAt ends.LinkFault other = ⊥
-CutsAt ends.WriteFault (Between rest) = ⊥
-CutsAt ends.WriteFault other = Unit {0}
-CutsAt ends.NoMemory at = Unit {0}
+-- What was asked after the turns whose lines stand written whole, and where the life was cut off: between two turns, since as
+-- many were handled as were allowed, or the next wait failed; in the lines of a turn, or in those after the last one, since
+-- writing failed. Of want of memory nothing is said.
+abbrev pub CutsAt : ServeEnd → Life → CutAt → List Call → Type 0
+CutsAt ends.End life at calls = ⊥
+CutsAt ends.TurnsOver life (Between rest) calls = (calls ≡ []) × (is_over life ≡ false)
+CutsAt ends.TurnsOver life other calls = ⊥
+CutsAt ends.LinkFault life (Between rest) calls = (calls ≡ Link (Waited (until life) None) ∷ []) × (is_over life ≡ false)
+CutsAt ends.LinkFault life other calls = ⊥
+CutsAt ends.WriteFault life (Between rest) calls = ⊥
+CutsAt ends.WriteFault life (InTurn met rest) calls = calls ≡ turn_calls life met
+CutsAt ends.WriteFault life AtEnd calls = IsLast life calls
+CutsAt ends.NoMemory life at calls = Unit {0}
+
+-- but after want of memory, the devices tell what was asked
+abbrev pub TellsUnlessMemory : ServeEnd → Seen → Seen → List Call → Type 0
+TellsUnlessMemory ends.NoMemory old new calls = Unit {0}
+TellsUnlessMemory end old new calls = Tells old new calls
 
 -- turns were handled and their lines written whole, and then the life was cut off
-pub record BreaksOff (end : ServeEnd) (managed : List Managed) (failing : Option Failing) (from : Life) (host : Option HostTold) (link : Option LinkTold)
-    (out_from out_to : Option (List ℕ)) : Type 0 where
+pub record BreaksOff (end : ServeEnd) (managed : List Managed) (from : Life) (old new : Seen) (out_from out_to : Option (List ℕ)) : Type 0 where
   pub mets : List Met
   pub at : CutAt
-  pub cuts : CutsAt end at
-  pub answers : AllAnswered managed from (mets ++ cut_turns at)
-  pub written : WritesFront out_from out_to (turns_lines managed from mets) (cut_lines managed (life_after managed from mets) at)
-  pub foretold : AreWhole managed failing from host link (mets ++ turns_left at)
+  pub calls : List Call
+  pub cuts : CutsAt end (life_after from mets) at calls
+  pub turns : AreTurns managed from (mets ++ cut_turns at)
+  pub written : WritesFront out_from out_to (flat_map turn_lines mets) (cut_lines (life_after from mets) at)
+  pub tells : TellsUnlessMemory end old new (turns_calls from mets ++ calls)
+  pub whole : AreWhole managed from old (mets ++ turns_left at)
 
 -- a life was cut off in the lines of its opening
-pub record CutOpening (managed : List Managed) (failing : Option Failing) (host : Option HostTold) (link : Option LinkTold)
-    (store_failing : Option (List ℕ)) (store : Option StoreTold) (out_from out_to : Option (List ℕ)) : Type 0 where
+pub record CutOpening (end : ServeEnd) (managed : List Managed) (old new : Seen) (out_from out_to : Option (List ℕ)) : Type 0 where
+  pub begun : Begun old
   pub opening : OpeningMet
   pub rest : List Met
-  pub opens : Opens managed opening
-  pub written : WritesFront out_from out_to [] (opening_lines managed opening)
-  pub foretold : IsQuiet store_failing store → OpensForetold managed failing host link opening rest
+  pub begins : opening.begin ≡ begun.begin
+  pub opens : IsOpening managed opening
+  pub written : WritesFront out_from out_to [] (opening_lines opening)
+  pub tells : TellsUnlessMemory end begun.seen new opening.calls
+  pub foretold : IsForetold managed old opening rest
 
 -- a life was cut off after its opening and some turns, whose lines stand written whole
-pub record CutLife (end : ServeEnd) (managed : List Managed) (failing : Option Failing) (host : Option HostTold) (link : Option LinkTold)
-    (store_failing : Option (List ℕ)) (store : Option StoreTold) (out_from out_to : Option (List ℕ)) : Type 0 where
+pub record CutLife (end : ServeEnd) (managed : List Managed) (old new : Seen) (out_from out_to : Option (List ℕ)) : Type 0 where
+  pub begun : Begun old
   pub opening : OpeningMet
   pub mets : List Met
   pub at : CutAt
-  pub cuts : CutsAt end at
-  pub opens : Opens managed opening
-  pub answers : AllAnswered managed (opened_life managed opening) (mets ++ cut_turns at)
-  pub written : WritesFront out_from out_to (opening_lines managed opening ++ turns_lines managed (opened_life managed opening) mets)
-      (cut_lines managed (life_after managed (opened_life managed opening) mets) at)
-  pub foretold : IsQuiet store_failing store → OpensForetold managed failing host link opening (mets ++ turns_left at)
+  pub calls : List Call
+  pub begins : opening.begin ≡ begun.begin
+  pub opens : IsOpening managed opening
+  pub cuts : CutsAt end (life_after opening.life mets) at calls
+  pub turns : AreTurns managed opening.life (mets ++ cut_turns at)
+  pub written : WritesFront out_from out_to (opening_lines opening ++ flat_map turn_lines mets) (cut_lines (life_after opening.life mets) at)
+  pub tells : TellsUnlessMemory end begun.seen new (opening.calls ++ (turns_calls opening.life mets ++ calls))
+  pub foretold : IsForetold managed old opening (mets ++ turns_left at)
+
+-- a wait that failed, or wanted memory
+abbrev pub WaitFails : ServeEnd → (until : Option ℕ) → Seen → Seen → Type 0
+WaitFails ends.LinkFault until old new = Tells old new (Link (Waited until None) ∷ [])
+WaitFails ends.NoMemory until old new = Unit {0}
+WaitFails other until old new = ⊥
+
+-- a life that could not begin, which was asked once; no other call was made
+abbrev pub FailsToBegin : Seen → Seen → Type 0
+FailsToBegin old new = (failed : Failed) × BeginsThere old new (Err failed)
+
+abbrev pub BeginFails : ServeEnd → Seen → Seen → Type 0
+BeginFails ends.LinkFault old new = FailsToBegin old new
+BeginFails other old new = ⊥
 
 -- What stands written. Where beginning failed, or memory was wanted before the opening's lines were written, nothing was.
-abbrev pub Leaves : ServeEnd → List Managed → Option Failing → Option HostTold → Option LinkTold → Option (List ℕ) → Option StoreTold → Option (List ℕ) → Option (List ℕ) → Type 0
-Leaves ends.End managed failing host link store_failing store old new = Unit {0}
-Leaves ends.TurnsOver managed failing host link store_failing store old new = CutLife ends.TurnsOver managed failing host link store_failing store old new
-Leaves ends.LinkFault managed failing host link store_failing store old new = (new ≡ old) ⊎ CutLife ends.LinkFault managed failing host link store_failing store old new
-Leaves ends.WriteFault managed failing host link store_failing store old new =
-    CutOpening managed failing host link store_failing store old new ⊎ CutLife ends.WriteFault managed failing host link store_failing store old new
-Leaves ends.NoMemory managed failing host link store_failing store old new =
-    (new ≡ old) ⊎ (CutOpening managed failing host link store_failing store old new ⊎ CutLife ends.NoMemory managed failing host link store_failing store old new)
+abbrev pub Leaves : ServeEnd → List Managed → Seen → Seen → Option (List ℕ) → Option (List ℕ) → Type 0
+Leaves ends.End managed old new out_from out_to = Unit {0}
+Leaves ends.TurnsOver managed old new out_from out_to = CutLife ends.TurnsOver managed old new out_from out_to
+Leaves ends.LinkFault managed old new out_from out_to = ((out_to ≡ out_from) × FailsToBegin old new) ⊎ CutLife ends.LinkFault managed old new out_from out_to
+Leaves ends.WriteFault managed old new out_from out_to = CutOpening ends.WriteFault managed old new out_from out_to ⊎ CutLife ends.WriteFault managed old new out_from out_to
+Leaves ends.NoMemory managed old new out_from out_to =
+    (out_to ≡ out_from) ⊎ (CutOpening ends.NoMemory managed old new out_from out_to ⊎ CutLife ends.NoMemory managed old new out_from out_to)

@@ -1,11 +1,8 @@
-pub mod HostTurns
-pub mod Printing
+pub mod Answered
+pub mod Waits
 pub mod Lives
-pub mod Sends
-pub mod Asked
-pub mod TurnsMade
+pub mod Streams
 pub mod Serving
 pub mod Waking
-pub mod Openings
-pub mod Served
 pub mod Cuts
+pub mod Served

@@ -1,38 +1,37 @@
 -- A whole life, from its opening to its end.
-use Rattle.std.specs.Prelude.{ℕ, ◌≡◌, List, ◌++◌, Option, Some, None}
-use Rattle.world.specs.HostCalls.{HostTold}
-use Rattle.world.specs.LinkCalls.{LinkCall, LinkTold}
-use Rattle.world.specs.StoreCalls.{StoreTold}
-use Rattle.client_model.specs.declared.interfaces.Managed.{Managed}
-use Rattle.client_model.specs.Clients.{rows_of}
-use Rattle.client_model.specs.HostTurn.{host_calls}
-use Rattle.client_model.specs.Opening.{OpeningMet, Opens, opened_client, opened_life}
-use Rattle.client_model.specs.Turns.{Met, life_after}
-use Rattle.client_model.specs.Lives.{AllAnswered, life_lines}
-use Rattle.client_model.specs.ToldDevices.{Failing, told_opening, told_turns}
-use Rattle.lease_file.specs.Quiet.{IsQuiet}
-use Rattle.daemon.specs.Asked.{turns_ask, turns_change, IsLast, AddsCalls, AddsHostCalls}
-use Rattle.daemon.specs.Serving.{WritesLines, told_by}
+use Rattle.std.specs.Prelude.{ℕ, ◌≡◌, List, ◌++◌, Option, Some, IfSome, Ok}
+use Rattle.world.specs.declared.wakes.Begin.{Begin}
+use Rattle.settings.specs.declared.interfaces.Managed.{Managed}
+use Rattle.device_calls.specs.Calls.{Call}
+use Rattle.device_calls.specs.Worlds.{Seen, world_of}
+use Rattle.device_calls.specs.Telling.{Tells}
+use Rattle.turn_model.specs.Lives.{OpeningMet, IsOpening, Met, AreTurns, IsLast, life_after, turns_calls, life_lines}
+use Rattle.turn_model.specs.Foretold.{foretold_life}
+use Rattle.daemon.specs.Waits.{BeginsThere}
+use Rattle.daemon.specs.Streams.{WritesLines}
 
--- the opening is the one that devices which tell foretold, over a store without files
-abbrev pub OpensForetold : List Managed → Option Failing → Option HostTold → Option LinkTold → OpeningMet → List Met → Type 0
-OpensForetold managed None host link opening mets = Unit {0}
-OpensForetold managed (Some failing) None link opening mets = Unit {0}
-OpensForetold managed (Some failing) (Some host) None opening mets = Unit {0}
-OpensForetold managed (Some failing) (Some host) (Some link) opening mets =
-    (opening ≡ (told_opening managed failing.host link.begin host).answer)
-    × (told_turns managed failing (opened_life managed opening) (told_by link (told_opening managed failing.host link.begin host).told) link.coming ≡ mets)
+-- how a life began, and what the devices tell then
+pub record Begun (old : Seen) : Type 0 where
+  pub begin : Begin
+  pub seen : Seen
+  pub begins : BeginsThere old seen (Ok begin)
 
--- a life was lived to its end, its lines were written, and the link and the host were asked what they say
-pub record Served (managed : List Managed) (failing : Option Failing) (host host_to : Option HostTold) (link link_to : Option LinkTold)
-    (store_failing : Option (List ℕ)) (store : Option StoreTold) (out_from out_to : Option (List ℕ)) : Type 0 where
+-- where all devices tell, the opening and the turns are those that they foretold
+abbrev pub IsForetold : List Managed → Seen → OpeningMet → List Met → Type 0
+IsForetold managed old opening mets =
+    IfSome (world_of old) (λ world. foretold_life managed world ≡ record { opening = opening; mets = mets })
+
+-- A life was lived to its end: it was begun once, its opening and turns asked what they are to ask, the devices that tell their
+-- calls tell these and no other, and its lines were written.
+pub record Served (managed : List Managed) (old new : Seen) (out_from out_to : Option (List ℕ)) : Type 0 where
+  pub begun : Begun old
   pub opening : OpeningMet
   pub mets : List Met
-  pub opens : Opens managed opening
-  pub answers : AllAnswered managed (opened_life managed opening) mets
-  pub written : WritesLines out_from out_to (life_lines managed opening mets)
-  pub last : List LinkCall
-  pub last_is : IsLast (life_after managed (opened_life managed opening) mets) last
-  pub asked : AddsCalls link link_to (turns_ask managed (opened_life managed opening) mets ++ last)
-  pub changed : AddsHostCalls host host_to (host_calls managed None (rows_of (opened_client managed opening)) opening.host ++ turns_change managed (opened_life managed opening) mets)
-  pub foretold : IsQuiet store_failing store → OpensForetold managed failing host link opening mets
+  pub last : List Call
+  pub begins : opening.begin ≡ begun.begin
+  pub opens : IsOpening managed opening
+  pub turns : AreTurns managed opening.life mets
+  pub last_is : IsLast (life_after opening.life mets) last
+  pub tells : Tells begun.seen new (opening.calls ++ (turns_calls opening.life mets ++ last))
+  pub written : WritesLines out_from out_to (life_lines opening mets)
+  pub foretold : IsForetold managed old opening mets

@@ -1,13 +1,13 @@
 ghost use Rattle.std.specs.Prelude.{◌≡◌, ◌≤◌, OnOk, IfOk, IfErr, [], ◌∷◌};
 ghost use Rattle.client_model.specs.Clients.{rows_of};
-ghost use Rattle.client_model.specs.Lives.{hold_lines, closing_lines};
+ghost use Rattle.turn_model.specs.Lives.{hold_lines, closing_lines};
 ghost use Rattle.daemon.specs.Lives.{life_of};
-ghost use Rattle.daemon.specs.Printing.{Prints};
-ghost use Rattle.daemon.specs.Serving.{HasServeCause, WritesLines};
-ghost use Rattle.daemon.specs.Cuts.{WritesFront};
+ghost use Rattle.device_calls.specs.Printing.{Prints};
+ghost use Rattle.daemon.specs.Serving.{HasServeCause};
+ghost use Rattle.daemon.specs.Streams.{WritesLines, WritesFront};
 
-use crate::host_lines::say;
 use crate::lives::Life;
+use crate::saying::say;
 use crate::serving::ServeEnd;
 use crate::waking::write_all;
 use client_core::rows;
@@ -38,7 +38,7 @@ fn say_closing(alloc: Global, life: &Life, text: &mut Vec<u8>) -> Result<(), NoM
 {
     let wanted: Vec<HostRow> = rows(&life.core).iter().copied().collect(alloc)?;
     say_holds(&wanted, text)?;
-    say(&TranscriptLine::End, text)?;
+    say(&TranscriptLine::EndOfLife, text)?;
     Ok(())
 }
 

@@ -1,3 +1,17 @@
+ghost use Rattle.std.specs.Prelude.{◌≡◌, IfOk, IfErr, IfSome};
+ghost use Rattle.std.specs.List.{AllByRecursion};
+ghost use Rattle.std.specs.String.{string_bytes};
+ghost use Rattle.world.specs.FileNames.{IsFileName};
+ghost use Rattle.lease_file.specs.FileReads.{got_reading};
+ghost use Rattle.daemon.specs.Answered.{rows_listed, names_of, FitsChange, OfferedBy, ListedBy, ChangedBy, AsidesBy, ReadBy, RemovedBy, SettledBy};
+
+use crate::outside::Outside;
+use host_model::HostChange;
+use lease_file::Got;
+use net_types::{Failed, IfIndex};
+use std::alloc::Global;
+use world::{Begin, DeviceAnswer, Hooks, Host, HostRow, Link, NoMemory, Store, Wake};
+
 /// The devices that a life runs over.
 #[derive(Drop)]
 pub struct Devices<L, S, H, K> {
@@ -5,4 +19,156 @@ pub struct Devices<L, S, H, K> {
     pub store: S,
     pub host: H,
     pub hooks: K,
+}
+
+#[tactic(auto, using(crate::proofs::Answers::offered_by, crate::proofs::Answers::untaken_by, crate::proofs::Answers::unoffered))]
+fn offer_to<L: Link>(link: &mut L, iface: IfIndex, frame: &[u8]) -> Result<bool, NoMemory>
+    ensures offered { IfOk result (λ taken. OfferedBy iface.number frame.now taken (L.failing_sends link.old) (L.told link.old) (L.told link.new)) }
+    ensures failing { (L.failing_waits link.new ≡ L.failing_waits link.old) × (L.failing_sends link.new ≡ L.failing_sends link.old) }
+    ensures waits { L.faults link.new ≡ L.faults link.old }
+    ensures begins { L.begins link.new ≡ L.begins link.old }
+    ensures memory { IfErr result (λ _. (L.told link.new ≡ L.told link.old) × (L.send_faults link.new ≡ L.send_faults link.old)) }
+{
+    match link.send(iface, frame) {
+        Ok(()) => Ok(true),
+        Err(DeviceAnswer::Failed) => Ok(false),
+        Err(DeviceAnswer::NoMemory) => Err(NoMemory),
+    }
+}
+
+#[tactic(auto, using(crate::proofs::Answers::listed_by, crate::proofs::Answers::failed_list_by, crate::proofs::Answers::unlisted))]
+fn list_of<H: Host>(alloc: Global, host: &mut H) -> Result<Option<Vec<HostRow>>, NoMemory>
+    ensures listed { IfOk result (λ rows. ListedBy (rows_listed rows) (H.failing host.old) (H.told host.old) (H.told host.new)) }
+    ensures failing { H.failing host.new ≡ H.failing host.old }
+    ensures memory { IfErr result (λ _. (H.told host.new ≡ H.told host.old) × (H.faults host.new ≡ H.faults host.old)) }
+{
+    let mut rows = Vec::new(alloc);
+    match host.list(&mut rows) {
+        Ok(()) => Ok(Some(rows)),
+        Err(DeviceAnswer::Failed) => Ok(None),
+        Err(DeviceAnswer::NoMemory) => Err(NoMemory),
+    }
+}
+
+#[tactic(auto, using(crate::proofs::Answers::done_by, crate::proofs::Answers::undone_by, crate::proofs::Answers::unchanged))]
+fn change_of<H: Host>(host: &mut H, change: HostChange) -> Result<bool, NoMemory>
+    requires { FitsChange change }
+    ensures changed { IfOk result (λ done. ChangedBy change done (H.failing host.old) (H.told host.old) (H.told host.new)) }
+    ensures failing { H.failing host.new ≡ H.failing host.old }
+    ensures memory { IfErr result (λ _. (H.told host.new ≡ H.told host.old) × (H.faults host.new ≡ H.faults host.old)) }
+{
+    let answer = match change {
+        HostChange::Remove(row) => host.remove(&row),
+        HostChange::Add(row) => host.add(&row),
+    };
+    match answer {
+        Ok(()) => Ok(true),
+        Err(DeviceAnswer::Failed) => Ok(false),
+        Err(DeviceAnswer::NoMemory) => Err(NoMemory),
+    }
+}
+
+#[tactic(auto, using(crate::proofs::Answers::asides_by, crate::proofs::Answers::failed_asides_by, crate::proofs::Answers::asides_unlisted))]
+fn asides_of<S: Store>(alloc: Global, store: &mut S) -> Result<Option<Vec<String>>, NoMemory>
+    ensures listed { IfOk result (λ names. AsidesBy (names_of names) (S.failing store.old) (S.told store.old) (S.told store.new)) }
+    ensures fit { IfOk result (λ names. IfSome names (λ v. AllByRecursion (λ name. IsFileName (string_bytes name)) v.items)) }
+    ensures failing { S.failing store.new ≡ S.failing store.old }
+    ensures memory { IfErr result (λ _. (S.told store.new ≡ S.told store.old) × (S.faults store.new ≡ S.faults store.old)) }
+{
+    let mut names = Vec::new(alloc);
+    match store.list_asides(&mut names) {
+        Ok(()) => Ok(Some(names)),
+        Err(DeviceAnswer::Failed) => Ok(None),
+        Err(DeviceAnswer::NoMemory) => Err(NoMemory),
+    }
+}
+
+#[tactic(auto, using(crate::proofs::Answers::found_by, crate::proofs::Answers::missing_by, crate::proofs::Answers::unread_by, crate::proofs::Answers::not_read))]
+fn read_from<S: Store>(alloc: Global, store: &mut S, name: &str) -> Result<Got, NoMemory>
+    requires { IsFileName name.now }
+    ensures read { IfOk result (λ got. ReadBy name.now (got_reading got) (S.failing store.old) (S.told store.old) (S.told store.new)) }
+    ensures failing { S.failing store.new ≡ S.failing store.old }
+    ensures memory { IfErr result (λ _. (S.told store.new ≡ S.told store.old) × (S.faults store.new ≡ S.faults store.old)) }
+{
+    let mut bytes = Vec::new(alloc);
+    match store.read_file(name, &mut bytes) {
+        Ok(true) => Ok(Got::Text(bytes)),
+        Ok(false) => Ok(Got::Missing),
+        Err(DeviceAnswer::Failed) => Ok(Got::Unread),
+        Err(DeviceAnswer::NoMemory) => Err(NoMemory),
+    }
+}
+
+#[tactic(auto, using(crate::proofs::Answers::removed_by, crate::proofs::Answers::unremoved_by, crate::proofs::Answers::unwritten))]
+fn remove_from<S: Store>(store: &mut S, name: &str) -> Result<bool, NoMemory>
+    requires { IsFileName name.now }
+    ensures removed { IfOk result (λ done. RemovedBy name.now done (S.failing store.old) (S.told store.old) (S.told store.new)) }
+    ensures failing { S.failing store.new ≡ S.failing store.old }
+    ensures memory { IfErr result (λ _. (S.told store.new ≡ S.told store.old) × (S.faults store.new ≡ S.faults store.old)) }
+{
+    match store.remove(name) {
+        Ok(()) => Ok(true),
+        Err(DeviceAnswer::Failed) => Ok(false),
+        Err(DeviceAnswer::NoMemory) => Err(NoMemory),
+    }
+}
+
+#[tactic(auto, using(crate::proofs::Answers::settled_by, crate::proofs::Answers::unsettled_by, crate::proofs::Answers::unwritten))]
+fn settle_in<S: Store>(store: &mut S) -> Result<bool, NoMemory>
+    ensures settled { IfOk result (λ done. SettledBy done (S.failing store.old) (S.told store.old) (S.told store.new)) }
+    ensures failing { S.failing store.new ≡ S.failing store.old }
+    ensures memory { IfErr result (λ _. (S.told store.new ≡ S.told store.old) × (S.faults store.new ≡ S.faults store.old)) }
+{
+    match store.settle() {
+        Ok(()) => Ok(true),
+        Err(DeviceAnswer::Failed) => Ok(false),
+        Err(DeviceAnswer::NoMemory) => Err(NoMemory),
+    }
+}
+
+#[tactic(auto, using(crate::proofs::Ones::one_offer, crate::proofs::Ones::one_list, crate::proofs::Ones::one_change, crate::proofs::Ones::one_asides, crate::proofs::Ones::one_read, crate::proofs::Ones::one_remove, crate::proofs::Ones::one_settle, crate::proofs::Ones::link_stays, crate::proofs::Ones::host_stays, crate::proofs::Ones::store_stays))]
+impl<L: Link, S: Store, H: Host, K: Hooks> Outside for Devices<L, S, H, K> {
+    ghost seen = { λ d. record {
+      link = record { told = L.told d.link; failing = L.failing_sends d.link; faults = L.send_faults d.link };
+      host = record { told = H.told d.host; failing = H.failing d.host; faults = H.faults d.host };
+      store = record { told = S.told d.store; failing = S.failing d.store; faults = S.faults d.store };
+      hooks = record { told = K.told d.hooks; failing = K.failing d.hooks; faults = K.faults d.hooks };
+      waiting = record { begins = L.begins d.link; faults = L.faults d.link; failing = L.failing_waits d.link };
+    } };
+
+    fn begin(&mut self) -> Result<Begin, Failed> {
+        self.link.begin()
+    }
+
+    fn wait(&mut self, until: Option<u64>, buf: &mut [u8]) -> Result<Wake, DeviceAnswer> {
+        self.link.wait(until, buf)
+    }
+
+    fn offer(&mut self, iface: IfIndex, frame: &[u8]) -> Result<bool, NoMemory> {
+        offer_to(&mut self.link, iface, frame)
+    }
+
+    fn list(&mut self, alloc: Global) -> Result<Option<Vec<HostRow>>, NoMemory> {
+        list_of(alloc, &mut self.host)
+    }
+
+    fn change(&mut self, change: HostChange) -> Result<bool, NoMemory> {
+        change_of(&mut self.host, change)
+    }
+
+    fn list_asides(&mut self, alloc: Global) -> Result<Option<Vec<String>>, NoMemory> {
+        asides_of(alloc, &mut self.store)
+    }
+
+    fn read(&mut self, alloc: Global, name: &str) -> Result<Got, NoMemory> {
+        read_from(alloc, &mut self.store, name)
+    }
+
+    fn remove(&mut self, name: &str) -> Result<bool, NoMemory> {
+        remove_from(&mut self.store, name)
+    }
+
+    fn settle(&mut self) -> Result<bool, NoMemory> {
+        settle_in(&mut self.store)
+    }
 }

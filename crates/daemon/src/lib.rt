@@ -1,18 +1,19 @@
-//! The loop of turns over the devices, and the top call.
+//! One life over the devices: its opening, its turns and its end.
 #![tactic(auto)]
 
+mod changes;
 mod closing;
 mod devices;
-mod host_changes;
-mod host_lines;
-mod host_turns;
+mod hosts;
 mod lives;
 mod openings;
-mod send_lines;
+mod outside;
+mod saying;
 mod sends;
 mod serving;
 mod turns;
 mod waking;
 
 pub use devices::Devices;
+pub use outside::Outside;
 pub use serving::{ServeEnd, serve};

@@ -1,6 +1,7 @@
 ghost use Rattle.std.specs.Prelude.{◌≡◌, ◌<◌, ◌≤◌, ◌+◌, ◌^◌, max};
 ghost use Rattle.client_model.specs.Clients.{earlier};
-ghost use Rattle.client_model.specs.Turns.{capped, stop_after, retry_at, end_at, is_past, until, is_over};
+ghost use Rattle.machine.specs.Moment.{moment_of};
+ghost use Rattle.turn_model.specs.Turns.{stop_after, retry_at, end_at, is_past, until, is_over};
 ghost use Rattle.daemon.specs.Lives.{life_of, IsBelowEnd, IsTimely, retry_unless};
 
 use client_core::{Core, core_due, earlier_of};
@@ -33,7 +34,7 @@ pub struct Life {
 /// A moment as it counts: moments end, and don't go back.
 pub fn raised(now: u64, at: u64) -> u64
     requires { now < 10 ^ 15 }
-    ensures value { result ≡ max now (capped at) }
+    ensures value { result ≡ max now (moment_of at) }
     ensures below { result < 10 ^ 15 }
 {
     now.max(cut(at))
@@ -41,7 +42,7 @@ pub fn raised(now: u64, at: u64) -> u64
 
 /// A moment of at most the end of time.
 pub fn cut(at: u64) -> u64
-    ensures value { result ≡ capped at }
+    ensures value { result ≡ moment_of at }
     ensures below { result < 10 ^ 15 }
 {
     at.min(END_OF_TIME - 1)

@@ -1,152 +1,228 @@
-ghost use Rattle.std.specs.Prelude.{◌≡◌, ◌≤◌, ◌++◌, [], ◌∷◌, Some, None, false, IfOk, OnOk, map, length, codes};
+ghost use Rattle.std.specs.Prelude.{◌≡◌, [], ◌∷◌, Some, None, false, IfOk, OnOk, IfSome, map};
+ghost use Rattle.std.specs.List.{AllByRecursion};
 ghost use Rattle.std.specs.String.{string_bytes};
-ghost use Rattle.client_model.specs.Fitting.{AreManaged};
-ghost use Rattle.client_model.specs.Opening as model;
-ghost use Rattle.client_model.specs.Lines as lines;
-ghost use Rattle.client_model.specs.Lives.{removal_line, settle_lines, aside_lines};
-ghost use Rattle.client_model.specs.Turns.{is_over};
+ghost use Rattle.world.specs.FileNames.{IsFileName};
+ghost use Rattle.settings.specs.Fitting.{AreManaged};
 ghost use Rattle.transcript_text.specs.Printed.{reading_of};
-ghost use Rattle.lease_file.specs.Quiet.{IsQuiet};
 ghost use Rattle.lease_file.specs.FileReads.{got_reading};
-ghost use Rattle.daemon.specs.Lives.{life_of, IsTimely};
-ghost use Rattle.daemon.specs.Printing.{Prints};
-ghost use Rattle.daemon.specs.Openings.{aside_of, asides_of, settled_of, IsNothing, MakesOpening};
+ghost use Rattle.device_calls.specs.Calls.{ListAsides, Read, RemoveFile, Settle};
+ghost use Rattle.device_calls.specs.Programs.{Then, Done};
+ghost use Rattle.script_model.specs.Lines as lines;
+ghost use Rattle.world.specs.StoreCalls.{ListedAsides};
+ghost use Rattle.device_calls.specs.CallLines.{store_lines};
+ghost use Rattle.device_calls.specs.Printing.{Prints};
+ghost use Rattle.device_calls.specs.Does.{Does};
+ghost use Rattle.turn_model.specs.Turns.{is_over};
+ghost use Rattle.iface_core.specs.Outcomes.{asked_in, sends_in};
+ghost use Rattle.client_core.specs.Stepping.{IsOnInterface, Steps};
+ghost use Rattle.turn_model.specs.Opening.{clearing_listed, clearing, reading, file_names, opening_step};
+ghost use Rattle.daemon.specs.Answered.{names_of};
+ghost use Rattle.daemon.specs.Lives.{life_of, IsTimely, file_of};
+ghost use Rattle.daemon.specs.Serving.{MakesOpening};
 
-use crate::host_lines::{say, say_host_turn};
-use crate::host_turns::host_turn;
+use crate::hosts::host_turn;
 use crate::lives::{Life, cut};
-use client_core::{core_open, rows};
-use client_model::Managed;
-use lease_file::{Cleared, Clearing, Got, SaveFault, clear_asides, read_file};
-use std::alloc::Global;
-use transcript_text::{ReadLine, TranscriptLine};
-use world::{Begin, Host, NoMemory, Store};
+use crate::outside::Outside;
+use crate::saying::say;
+use crate::sends::offer_all;
+use client_core::{Core, Outs, core_open, rows};
+use lease_file::Got;
+use net_types::IfSpec;
+use settings::Managed;
+use std::alloc::{AllocError, Global};
+use transcript_text::{Reading, TranscriptLine};
+use world::{Begin, NoMemory};
 
 /// The file that the host's resolver reads.
 const RESOLVER_FILE: &str = "resolv.conf";
 
-/// What became of the asides.
-#[derive(Drop)]
-pub enum Asides {
-    /// They could not be listed.
-    Failed,
-    Cleared(Clearing),
-}
-
-fn clear<S: Store>(alloc: Global, store: &mut S) -> Result<Asides, NoMemory>
-    ensures later { S.faults store.old ≤ S.faults store.new }
-    ensures settled { IfOk result (λ asides. model.SettlesIfAny (asides_of asides) (settled_of asides)) }
-    ensures quiet { IsQuiet (S.failing store.old) (S.told store.old) → IfOk result IsNothing × IsQuiet (S.failing store.new) (S.told store.new) }
+fn say_listing(listed: &Option<Vec<String>>, text: &mut Vec<u8>) -> Result<(), NoMemory>
+    ensures { OnOk result (Prints text.old.items text.new.items (store_lines (ListedAsides (names_of listed.now)))) }
 {
-    match clear_asides(alloc, store) {
-        Ok(clearing) => Ok(Asides::Cleared(clearing)),
-        Err(SaveFault::Failed(_)) => Ok(Asides::Failed),
-        Err(SaveFault::NoMemory) => Err(NoMemory),
+    match listed {
+        None => say(&TranscriptLine::AsidesFailed, text),
+        Some(names) => say(&TranscriptLine::Asides(names), text),
     }
 }
 
-fn names_of(alloc: Global, removed: &[Cleared]) -> Result<Vec<String>, NoMemory>
-    ensures { IfOk result (λ names. map string_bytes names.items ≡ map (λ cleared. string_bytes cleared.name) removed.now) }
+fn list<W: Outside>(
+    alloc: Global,
+    outside: &mut W,
+    text: &mut Vec<u8>,
+) -> Result<Option<Vec<String>>, NoMemory>
+    ensures does { IfOk result (λ names. Does (Then ListAsides Done) (names_of names) (W.seen outside.old) (W.seen outside.new) text.old.items text.new.items) }
+    ensures fit { IfOk result (λ names. IfSome names (λ v. AllByRecursion (λ name. IsFileName (string_bytes name)) v.items)) }
+    ensures waiting { (W.seen outside.new).waiting ≡ (W.seen outside.old).waiting }
 {
-    let mut names = Vec::new(alloc);
-    for cleared in removed {
-        names.push(cleared.name.clone()?)?;
-    }
-    Ok(names)
+    let listed = outside.list_asides(alloc)?;
+    say_listing(&listed, text)?;
+    Ok(listed)
 }
 
-fn say_removals(removed: &[Cleared], text: &mut Vec<u8>) -> Result<(), NoMemory>
-    ensures { OnOk result (Prints text.old.items text.new.items (map removal_line (map aside_of removed.now))) }
+fn remove<W: Outside>(outside: &mut W, name: &str, text: &mut Vec<u8>) -> Result<bool, NoMemory>
+    requires { IsFileName name.now }
+    ensures does { IfOk result (λ done. Does (Then (RemoveFile name.now) Done) done (W.seen outside.old) (W.seen outside.new) text.old.items text.new.items) }
+    ensures waiting { (W.seen outside.new).waiting ≡ (W.seen outside.old).waiting }
 {
-    for cleared in removed {
-        let line = TranscriptLine::FileRemove {
-            name: cleared.name.as_str(),
-            ok: cleared.ok,
-        };
-        say(&line, text)?;
+    let done = outside.remove(name)?;
+    say(&TranscriptLine::Removed { name, done }, text)?;
+    Ok(done)
+}
+
+fn settle<W: Outside>(outside: &mut W, text: &mut Vec<u8>) -> Result<bool, NoMemory>
+    ensures does { IfOk result (λ done. Does (Then Settle Done) done (W.seen outside.old) (W.seen outside.new) text.old.items text.new.items) }
+    ensures waiting { (W.seen outside.new).waiting ≡ (W.seen outside.old).waiting }
+{
+    let done = outside.settle()?;
+    say(&TranscriptLine::Settled { done }, text)?;
+    Ok(done)
+}
+
+/// Removes the asides, and settles that, where there are any. A failed removal doesn't stop the others.
+fn remove_all<W: Outside>(
+    outside: &mut W,
+    names: &[String],
+    text: &mut Vec<u8>,
+) -> Result<(), NoMemory>
+    requires { AllByRecursion (λ name. IsFileName (string_bytes name)) names.now }
+    ensures does { IfOk result (λ x. Does (clearing_listed (Some (map string_bytes names.now))) x (W.seen outside.old) (W.seen outside.new) text.old.items text.new.items) }
+    ensures waiting { (W.seen outside.new).waiting ≡ (W.seen outside.old).waiting }
+{
+    if names.is_empty() {
+        return Ok(());
     }
+    for name in names {
+        let _done = remove(outside, name, text)?;
+    }
+    let _done = settle(outside, text)?;
     Ok(())
 }
 
-fn say_settled(settled: Option<bool>, text: &mut Vec<u8>) -> Result<(), NoMemory>
-    ensures { OnOk result (Prints text.old.items text.new.items (settle_lines settled)) }
+/// Clears the files that an interrupted save left.
+fn clear<W: Outside>(alloc: Global, outside: &mut W, text: &mut Vec<u8>) -> Result<(), NoMemory>
+    ensures does { IfOk result (λ x. Does clearing x (W.seen outside.old) (W.seen outside.new) text.old.items text.new.items) }
+    ensures waiting { (W.seen outside.new).waiting ≡ (W.seen outside.old).waiting }
 {
-    match settled {
+    match list(alloc, outside, text)? {
         None => Ok(()),
-        Some(ok) => say(&TranscriptLine::Settled { ok }, text),
+        Some(names) => remove_all(outside, &names, text),
     }
 }
 
-fn say_clearing(alloc: Global, clearing: &Clearing, text: &mut Vec<u8>) -> Result<(), NoMemory>
-    ensures { OnOk result (Prints text.old.items text.new.items (aside_lines (Some (map aside_of clearing.now.removed.items)) clearing.now.settled)) }
-{
-    let names = names_of(alloc, &clearing.removed)?;
-    say(&TranscriptLine::Listed(&names), text)?;
-    say_removals(&clearing.removed, text)?;
-    say_settled(clearing.settled, text)?;
-    Ok(())
-}
-
-fn say_asides(alloc: Global, asides: &Asides, text: &mut Vec<u8>) -> Result<(), NoMemory>
-    ensures { OnOk result (Prints text.old.items text.new.items (aside_lines (asides_of asides.now) (settled_of asides.now))) }
-{
-    match asides {
-        Asides::Failed => say(&TranscriptLine::ListFailed, text),
-        Asides::Cleared(clearing) => say_clearing(alloc, clearing, text),
-    }
-}
-
-fn read_line(got: &Got) -> ReadLine<'_>
+fn reading_line(got: &Got) -> Reading<'_>
     ensures { reading_of result ≡ got_reading got.now }
 {
     match got {
-        Got::Text(bytes) => ReadLine::Bytes(bytes),
-        Got::Missing => ReadLine::Missing,
-        Got::Unread => ReadLine::Failed,
+        Got::Text(bytes) => Reading::Found(bytes),
+        Got::Missing => Reading::Missing,
+        Got::Unread => Reading::Unread,
     }
 }
 
-fn say_read(got: &Got, text: &mut Vec<u8>) -> Result<(), NoMemory>
-    ensures { OnOk result (Prints text.old.items text.new.items (lines.Read (codes "resolv.conf") (got_reading got.now) ∷ [])) }
+fn say_read<'a>(name: &'a str, got: &'a Got, text: &mut Vec<u8>) -> Result<(), NoMemory>
+    ensures { OnOk result (Prints text.old.items text.new.items (lines.Read name.now (got_reading got.now) ∷ [])) }
 {
-    let line = TranscriptLine::FileRead {
-        name: RESOLVER_FILE,
-        got: read_line(got),
-    };
-    say(&line, text)?;
-    Ok(())
+    let reading = reading_line(got);
+    let line = TranscriptLine::Read { name, reading };
+    say(&line, text)
 }
 
-/// Opens a life: clears the asides, reads the files, and makes the host's table the wanted one.
+fn read<W: Outside>(
+    alloc: Global,
+    outside: &mut W,
+    name: &str,
+    text: &mut Vec<u8>,
+) -> Result<Got, NoMemory>
+    requires { IsFileName name.now }
+    ensures does { IfOk result (λ got. Does (Then (Read name.now) Done) (got_reading got) (W.seen outside.old) (W.seen outside.new) text.old.items text.new.items) }
+    ensures waiting { (W.seen outside.new).waiting ≡ (W.seen outside.old).waiting }
+{
+    let got = outside.read(alloc, name)?;
+    say_read(name, &got, text)?;
+    Ok(got)
+}
+
+/// A file that was read, and what reading it gave.
+#[derive(Drop)]
+pub struct FileRead {
+    pub name: String,
+    pub got: Got,
+}
+
+/// The files that a life reads and keeps.
+fn names_to_read(alloc: Global, _managed: &[Managed]) -> Result<Vec<String>, NoMemory>
+    ensures names { IfOk result (λ names. map string_bytes names.items ≡ file_names _managed.now) }
+    ensures fit { IfOk result (λ names. AllByRecursion (λ name. IsFileName (string_bytes name)) names.items) }
+{
+    let mut names = Vec::new(alloc);
+    names.push(String::from_str(alloc, RESOLVER_FILE)?)?;
+    Ok(names)
+}
+
+/// Reads files, one after another. One that can't be read doesn't stop the others.
+fn read_all<W: Outside>(
+    alloc: Global,
+    outside: &mut W,
+    names: Vec<String>,
+    text: &mut Vec<u8>,
+) -> Result<Vec<FileRead>, NoMemory>
+    requires { AllByRecursion (λ name. IsFileName (string_bytes name)) names.items }
+    ensures does { IfOk result (λ files. Does (reading [] (map string_bytes names.items)) (map file_of files.items) (W.seen outside.old) (W.seen outside.new) text.old.items text.new.items) }
+    ensures waiting { (W.seen outside.new).waiting ≡ (W.seen outside.old).waiting }
+{
+    let mut files = Vec::new(alloc);
+    for name in names {
+        let got = read(alloc, outside, &name, text)?;
+        files.push(FileRead { name, got })?;
+    }
+    Ok(files)
+}
+
+/// The interfaces that are managed.
+fn managed_specs(alloc: Global, managed: &[Managed]) -> Result<Vec<IfSpec>, AllocError>
+    ensures { IfOk result (λ specs. specs.items ≡ map (λ m. m.spec) managed.now) }
+{
+    managed.iter().map(|m| m.spec).collect(alloc)
+}
+
+/// Opens the client, which may offer frames at once.
+fn open_client(alloc: Global, managed: &[Managed], begin: Begin) -> Result<(Core, Outs), NoMemory>
+    requires { AreManaged managed.now }
+    ensures steps { IfOk result (λ done. Steps (opening_step managed.now begin) done.0 (asked_in done.1)) }
+    ensures on_interfaces { IfOk result (λ done. AllByRecursion IsOnInterface (sends_in done.1)) }
+{
+    let specs = managed_specs(alloc, managed)?;
+    core_open(alloc, managed, &specs, begin)
+}
+
+/// Opens a life: clears the asides, reads the files, and then does what the client's opening asks.
 /// Appends the opening's lines to `text`.
-pub fn open<S: Store, H: Host>(
+pub fn open<W: Outside>(
     alloc: Global,
     managed: &[Managed],
     begin: Begin,
-    store: &mut S,
-    host: &mut H,
+    outside: &mut W,
     text: &mut Vec<u8>,
 ) -> Result<Life, NoMemory>
     requires { AreManaged managed.now }
-    ensures failing { H.failing host.new ≡ H.failing host.old }
+    ensures waiting { (W.seen outside.new).waiting ≡ (W.seen outside.old).waiting }
     ensures timely { IfOk result IsTimely }
     ensures going { IfOk result (λ life. is_over (life_of life) ≡ false) }
-    ensures made { IfOk result (λ life. MakesOpening managed.now begin (life_of life) (H.failing host.old) (H.told host.old) (H.told host.new) (S.failing store.old) (S.told store.old) text.old.items text.new.items) }
+    ensures made { IfOk result (λ life. MakesOpening managed.now begin (life_of life) (W.seen outside.old) (W.seen outside.new) text.old.items text.new.items) }
 {
     say(&TranscriptLine::Start(begin), text)?;
-    let asides = clear(alloc, store)?;
-    say_asides(alloc, &asides, text)?;
-    let got = read_file(alloc, store, RESOLVER_FILE)?;
-    say_read(&got, text)?;
-    let core = core_open(alloc, managed, begin)?;
-    let (asked, known) = host_turn(alloc, host, managed, None, rows(&core))?;
-    say_host_turn(alloc, &asked, text)?;
+    clear(alloc, outside, text)?;
+    let names = names_to_read(alloc, managed)?;
+    let _files = read_all(alloc, outside, names, text)?;
+    let (core, outs) = open_client(alloc, managed, begin)?;
+    let unsent = offer_all(outside, &outs.sends, 0, text)?;
+    let known = host_turn(alloc, outside, managed, None, rows(&core), text)?;
     let life = Life {
         core,
         known,
         moment: cut(begin.at),
         stop: None,
-        unsent: 0,
+        unsent,
     };
     say(&TranscriptLine::Until(life.until()), text)?;
     Ok(life)

@@ -1,77 +1,68 @@
-ghost use Rattle.std.specs.Prelude.{◌≡◌, ◌-◌, ◌^◌, IfOk, map};
+ghost use Rattle.std.specs.Prelude.{◌≡◌, IfOk, map};
 ghost use Rattle.std.specs.List.{AllByRecursion};
 ghost use Rattle.world.specs.Rows.{IsInterface};
-ghost use Rattle.client_model.specs.Sends.{unsent_after};
 ghost use Rattle.iface_core.specs.Outcomes.{sending_of};
 ghost use Rattle.client_core.specs.Stepping.{IsOnInterface};
-ghost use Rattle.daemon.specs.Sends.{Offering, IsOffered, sendings_of, taken_of};
+ghost use Rattle.device_calls.specs.Calls.{Offer};
+ghost use Rattle.device_calls.specs.Programs.{Then, Done};
+ghost use Rattle.device_calls.specs.Does.{Does};
+ghost use Rattle.turn_model.specs.Turns.{marked, offering};
 
+use crate::outside::Outside;
+use crate::saying::say;
 use client_core::Sending;
 use net_types::IfIndex;
 use std::alloc::Global;
-use world::{DeviceAnswer, Link, NoMemory};
+use transcript_text::TranscriptLine;
+use world::NoMemory;
 
-/// A frame that was offered to the link, and whether it was taken.
-#[derive(Debug, Drop)]
-pub struct Sent {
-    pub sending: Sending,
-    pub taken: bool,
-}
-
-/// Offers one frame, and says whether the link took it.
-fn offer<L: Link>(link: &mut L, sending: &Sending) -> Result<bool, NoMemory>
-    ensures waits { L.faults link.new ≡ L.faults link.old }
-    ensures failing { (L.failing_waits link.new ≡ L.failing_waits link.old) × (L.failing_sends link.new ≡ L.failing_sends link.old) }
-    ensures offered { IfOk result (λ taken. IsOffered (L.failing_sends link.old) (L.told link.old) (L.told link.new) (sending_of sending.now) taken) }
+/// The interfaces on which a send failed, with one more where this one did: bit `i - 1` is interface `i`.
+fn marked(unsent: u64, iface: IfIndex, taken: bool) -> u64
+    requires { IsInterface iface.number }
+    ensures { result ≡ marked unsent iface.number taken }
 {
-    match link.send(sending.iface, &sending.bytes) {
-        Ok(()) => Ok(true),
-        Err(DeviceAnswer::Failed) => Ok(false),
-        Err(DeviceAnswer::NoMemory) => Err(NoMemory),
+    if taken {
+        unsent
+    } else {
+        unsent | 2u64.pow(iface.number - 1)
     }
 }
 
-/// Offers all frames, one after another. A failed send doesn't stop the others.
-pub fn offer_all<L: Link>(
-    alloc: Global,
-    link: &mut L,
-    sends: Vec<Sending>,
-) -> Result<Vec<Sent>, NoMemory>
-    ensures waits { L.faults link.new ≡ L.faults link.old }
-    ensures failing { (L.failing_waits link.new ≡ L.failing_waits link.old) × (L.failing_sends link.new ≡ L.failing_sends link.old) }
-    ensures sendings { IfOk result (λ sent. sendings_of sent.items ≡ map sending_of sends.items) }
-    ensures offered { IfOk result (λ sent. Offering (L.failing_sends link.old) (L.told link.old) (L.told link.new) (sendings_of sent.items) (taken_of sent.items)) }
+fn offer<W: Outside>(
+    outside: &mut W,
+    sending: &Sending,
+    text: &mut Vec<u8>,
+) -> Result<bool, NoMemory>
+    ensures does { IfOk result (λ taken. Does (Then (Offer sending.now.iface.number sending.now.bytes.items) Done) taken (W.seen outside.old) (W.seen outside.new) text.old.items text.new.items) }
+    ensures waiting { (W.seen outside.new).waiting ≡ (W.seen outside.old).waiting }
 {
-    let mut sent = Vec::new(alloc);
-    for sending in sends {
-        let taken = offer(link, &sending)?;
-        sent.push(Sent { sending, taken })?;
-    }
-    Ok(sent)
+    let taken = outside.offer(sending.iface, &sending.bytes)?;
+    let line = TranscriptLine::Send {
+        iface: sending.iface,
+        bytes: &sending.bytes,
+        taken,
+    };
+    say(&line, text)?;
+    Ok(taken)
 }
 
-/// The set that has this interface alone: bit `i - 1` is interface `i`.
-fn only(index: IfIndex) -> u64
-    requires { IsInterface index.number }
-    ensures { result ≡ 2 ^ (index.number - 1) }
+/// Offers the frames, one after another. A failed send doesn't stop the others.
+/// Answers the interfaces on which one failed: bit `i - 1` is interface `i`.
+pub fn offer_all<W: Outside>(
+    outside: &mut W,
+    sends: &[Sending],
+    unsent: u64,
+    text: &mut Vec<u8>,
+) -> Result<u64, NoMemory>
+    requires { AllByRecursion IsOnInterface (map sending_of sends.now) }
+    ensures does { IfOk result (λ set. Does (offering (map sending_of sends.now) unsent) set (W.seen outside.old) (W.seen outside.new) text.old.items text.new.items) }
+    ensures waiting { (W.seen outside.new).waiting ≡ (W.seen outside.old).waiting }
 {
-    2u64.pow(index.number - 1)
-}
-
-/// The interfaces on which a send failed: bit `i - 1` is interface `i`.
-pub fn unsent_on(sent: &[Sent]) -> u64
-    requires { AllByRecursion IsOnInterface (sendings_of sent.now) }
-    ensures { result ≡ unsent_after (sendings_of sent.now) (taken_of sent.now) }
-{
-    match sent {
-        [] => 0,
+    match sends {
+        [] => Ok(unsent),
         [first, later @ ..] => {
-            let unsent = unsent_on(later);
-            if first.taken {
-                unsent
-            } else {
-                unsent | only(first.sending.iface)
-            }
+            let taken = offer(outside, first, text)?;
+            offer_all(outside, later, marked(unsent, first.iface, taken), text)
         }
     }
 }

@@ -1,22 +1,21 @@
-ghost use Rattle.std.specs.Prelude.{◌≡◌, ◌≢◌, ◌≤◌, ◌<◌, [], Some, None, false, Ok, Err, IfOk, IfErr, IfSome, length};
-ghost use Rattle.client_model.specs.Fitting.{AreManaged};
-ghost use Rattle.client_model.specs.Turns.{is_over};
-ghost use Rattle.world.specs.LinkCalls.{Begins};
+ghost use Rattle.std.specs.Prelude.{◌≡◌, ◌≢◌, ◌≤◌, [], Some, false, Ok, Err, IfOk, IfErr, length};
+ghost use Rattle.settings.specs.Fitting.{AreManaged};
+ghost use Rattle.turn_model.specs.Turns.{is_over};
 ghost use Rattle.daemon.specs.declared.serving.ServeEnd.TheVariants.{NoMemory as no_memory};
 ghost use Rattle.daemon.specs.Lives.{life_of, IsTimely};
-ghost use Rattle.daemon.specs.Serving.{HasServeCause, HasLifeCause, HasEndCause, AreManyTurns, failing_of};
-ghost use Rattle.daemon.specs.Waking.{EndsThere};
+ghost use Rattle.daemon.specs.Waits.{BeginsThere};
+ghost use Rattle.daemon.specs.Serving.{HasServeCause, HasLifeCause, HasEndCause, AreManyTurns, Ends};
 ghost use Rattle.daemon.specs.Served.{Served};
-ghost use Rattle.daemon.specs.Cuts.{BreaksOff, Leaves};
+ghost use Rattle.daemon.specs.Cuts.{BreaksOff, BeginFails, Leaves};
 
 use crate::closing::close;
-use crate::devices::Devices;
 use crate::lives::Life;
 use crate::openings::open;
+use crate::outside::Outside;
 use crate::waking::{Woken, one_turn, write_all};
-use client_model::Managed;
+use settings::Managed;
 use std::alloc::Global;
-use world::{Begin, Failed, Hooks, Host, Link, NoMemory, Sink, Store};
+use world::{Begin, Failed, NoMemory, Sink};
 
 /// The room for a frame, in bytes.
 const FRAME_ROOM: usize = 2048;
@@ -49,28 +48,28 @@ fn frame_buffer(alloc: Global) -> Result<Vec<u8>, NoMemory>
 
 /// Takes turns until the life is over, at most so many.
 #[tactic(auto, using(crate::proofs::Causes::cause_after))]
-fn take_turns<O: Sink, L: Link, S: Store, H: Host, K: Hooks>(
+fn take_turns<O: Sink, W: Outside>(
     alloc: Global,
     managed: &[Managed],
     life: Life,
-    live: &mut Devices<L, S, H, K>,
+    outside: &mut W,
     out: &mut O,
     turns: u64,
     text: &mut Vec<u8>,
 ) -> Result<Life, ServeEnd>
     requires timely { IsTimely life }
     requires going { is_over (life_of life) ≡ false }
-    ensures ok { IfOk result (λ last. EndsThere managed.now (failing_of (L.failing_sends live.old.link) (H.failing live.old.host)) (life_of life) (H.told live.old.host) (L.told live.old.link) (O.written out.old) (life_of last) (H.told live.new.host) (L.told live.new.link) (O.written out.new)) }
-    ensures cut { IfErr result (λ end. BreaksOff end managed.now (failing_of (L.failing_sends live.old.link) (H.failing live.old.host)) (life_of life) (H.told live.old.host) (L.told live.old.link) (O.written out.old) (O.written out.new)) }
-    ensures later { IfOk result (λ _. (O.faults out.old ≤ O.faults out.new) × (L.faults live.old.link ≤ L.faults live.new.link)) }
-    ensures cause { IfErr result (λ end. HasLifeCause end (O.faults out.old) (O.faults out.new) (L.faults live.old.link) (L.faults live.new.link)) }
-    ensures foretold { L.failing_waits live.old.link ≡ Some [] → result ≢ Err ServeEnd.LinkFault }
-    ensures many { result ≡ Err ServeEnd.TurnsOver → AreManyTurns (failing_of (L.failing_sends live.old.link) (H.failing live.old.host)) (H.told live.old.host) (L.told live.old.link) turns }
+    ensures ok { IfOk result (λ last. Ends managed.now (life_of life) (W.seen outside.old) (O.written out.old) (life_of last) (W.seen outside.new) (O.written out.new)) }
+    ensures cut { IfErr result (λ end. BreaksOff end managed.now (life_of life) (W.seen outside.old) (W.seen outside.new) (O.written out.old) (O.written out.new)) }
+    ensures later { IfOk result (λ _. (O.faults out.old ≤ O.faults out.new) × ((W.seen outside.old).waiting.faults ≤ (W.seen outside.new).waiting.faults)) }
+    ensures cause { IfErr result (λ end. HasLifeCause end (O.faults out.old) (O.faults out.new) (W.seen outside.old).waiting.faults (W.seen outside.new).waiting.faults) }
+    ensures foretold { (W.seen outside.old).waiting.failing ≡ Some [] → result ≢ Err ServeEnd.LinkFault }
+    ensures many { result ≡ Err ServeEnd.TurnsOver → AreManyTurns (W.seen outside.old) turns }
 {
     let mut buf = frame_buffer(alloc)?;
     let mut life = life;
     'wakes: for _ in 0..turns {
-        match one_turn(alloc, managed, life, live, out, &mut buf, text)? {
+        match one_turn(alloc, managed, life, outside, out, &mut buf, text)? {
             Woken::Over(last) => return Ok(last),
             Woken::On(next) => life = next,
         }
@@ -78,64 +77,57 @@ fn take_turns<O: Sink, L: Link, S: Store, H: Host, K: Hooks>(
     Err(ServeEnd::TurnsOver)
 }
 
-fn begin<L: Link>(link: &mut L) -> Result<Begin, ServeEnd>
-    ensures ok { IfOk result (λ begin. (L.faults link.old ≤ L.faults link.new) × Begins (L.told link.old) (L.told link.new) (Ok begin)) }
-    ensures cause { IfErr result (λ end. HasServeCause end 0 0 (L.faults link.old) (L.faults link.new)) }
-    ensures foretold { L.failing_waits link.old ≡ Some [] → result ≢ Err ServeEnd.LinkFault }
-    ensures failing { (L.failing_waits link.new ≡ L.failing_waits link.old) × (L.failing_sends link.new ≡ L.failing_sends link.old) }
+fn begin<W: Outside>(outside: &mut W) -> Result<Begin, ServeEnd>
+    ensures ok { IfOk result (λ begin. ((W.seen outside.old).waiting.faults ≤ (W.seen outside.new).waiting.faults) × BeginsThere (W.seen outside.old) (W.seen outside.new) (Ok begin)) }
+    ensures failed { IfErr result (λ end. BeginFails end (W.seen outside.old) (W.seen outside.new)) }
+    ensures cause { IfErr result (λ end. HasServeCause end 0 0 (W.seen outside.old).waiting.faults (W.seen outside.new).waiting.faults) }
+    ensures foretold { (W.seen outside.old).waiting.failing ≡ Some [] → result ≢ Err ServeEnd.LinkFault }
 {
-    match link.begin() {
+    match outside.begin() {
         Ok(begin) => Ok(begin),
         Err(Failed) => Err(ServeEnd::LinkFault),
     }
 }
 
 #[tactic(auto, using(crate::proofs::Causes::cause_after, crate::proofs::Causes::life_cause_after))]
-fn live_on<O: Sink, L: Link, S: Store, H: Host, K: Hooks>(
+fn live_on<O: Sink, W: Outside>(
     alloc: Global,
     managed: &[Managed],
-    live: &mut Devices<L, S, H, K>,
+    outside: &mut W,
     out: &mut O,
     turns: u64,
 ) -> Result<(), ServeEnd>
     requires { AreManaged managed.now }
-    ensures ok { IfOk result (λ _. Served managed.now (failing_of (L.failing_sends live.old.link) (H.failing live.old.host)) (H.told live.old.host) (H.told live.new.host) (L.told live.old.link) (L.told live.new.link) (S.failing live.old.store) (S.told live.old.store) (O.written out.old) (O.written out.new)) }
-    ensures cut { IfErr result (λ end. Leaves end managed.now (failing_of (L.failing_sends live.old.link) (H.failing live.old.host)) (H.told live.old.host) (L.told live.old.link) (S.failing live.old.store) (S.told live.old.store) (O.written out.old) (O.written out.new)) }
-    ensures later { IfOk result (λ _. (O.faults out.old ≤ O.faults out.new) × (L.faults live.old.link ≤ L.faults live.new.link)) }
-    ensures cause { IfErr result (λ end. HasLifeCause end (O.faults out.old) (O.faults out.new) (L.faults live.old.link) (L.faults live.new.link)) }
-    ensures foretold { L.failing_waits live.old.link ≡ Some [] → result ≢ Err ServeEnd.LinkFault }
-    ensures many { result ≡ Err ServeEnd.TurnsOver → AreManyTurns (failing_of (L.failing_sends live.old.link) (H.failing live.old.host)) (H.told live.old.host) (L.told live.old.link) turns }
+    ensures ok { IfOk result (λ _. Served managed.now (W.seen outside.old) (W.seen outside.new) (O.written out.old) (O.written out.new)) }
+    ensures cut { IfErr result (λ end. Leaves end managed.now (W.seen outside.old) (W.seen outside.new) (O.written out.old) (O.written out.new)) }
+    ensures later { IfOk result (λ _. (O.faults out.old ≤ O.faults out.new) × ((W.seen outside.old).waiting.faults ≤ (W.seen outside.new).waiting.faults)) }
+    ensures cause { IfErr result (λ end. HasLifeCause end (O.faults out.old) (O.faults out.new) (W.seen outside.old).waiting.faults (W.seen outside.new).waiting.faults) }
+    ensures foretold { (W.seen outside.old).waiting.failing ≡ Some [] → result ≢ Err ServeEnd.LinkFault }
+    ensures many { result ≡ Err ServeEnd.TurnsOver → AreManyTurns (W.seen outside.old) turns }
 {
-    let start = begin(&mut live.link)?;
+    let start = begin(outside)?;
     let mut text = Vec::new(alloc);
-    let life = open(
-        alloc,
-        managed,
-        start,
-        &mut live.store,
-        &mut live.host,
-        &mut text,
-    )?;
+    let life = open(alloc, managed, start, outside, &mut text)?;
     write_all(out, &text)?;
-    let last = take_turns(alloc, managed, life, live, out, turns, &mut text)?;
+    let last = take_turns(alloc, managed, life, outside, out, turns, &mut text)?;
     close(alloc, &last, out, &mut text)?;
     Ok(())
 }
 
 /// Runs one life over the devices, from its start line to its end line, with at most so many wakes.
-pub fn serve<O: Sink, L: Link, S: Store, H: Host, K: Hooks>(
+pub fn serve<O: Sink, W: Outside>(
     alloc: Global,
     managed: &[Managed],
-    live: &mut Devices<L, S, H, K>,
+    live: &mut W,
     out: &mut O,
     turns: u64,
 ) -> ServeEnd
     requires { AreManaged managed.now }
-    ensures served { result ≡ ServeEnd.End → Served managed.now (failing_of (L.failing_sends live.old.link) (H.failing live.old.host)) (H.told live.old.host) (H.told live.new.host) (L.told live.old.link) (L.told live.new.link) (S.failing live.old.store) (S.told live.old.store) (O.written out.old) (O.written out.new) }
-    ensures cut { Leaves result managed.now (failing_of (L.failing_sends live.old.link) (H.failing live.old.host)) (H.told live.old.host) (L.told live.old.link) (S.failing live.old.store) (S.told live.old.store) (O.written out.old) (O.written out.new) }
-    ensures cause { HasEndCause result (O.faults out.old) (O.faults out.new) (L.faults live.old.link) (L.faults live.new.link) }
-    ensures foretold { L.failing_waits live.old.link ≡ Some [] → result ≢ ServeEnd.LinkFault }
-    ensures many { result ≡ ServeEnd.TurnsOver → AreManyTurns (failing_of (L.failing_sends live.old.link) (H.failing live.old.host)) (H.told live.old.host) (L.told live.old.link) turns }
+    ensures served { result ≡ ServeEnd.End → Served managed.now (W.seen live.old) (W.seen live.new) (O.written out.old) (O.written out.new) }
+    ensures cut { Leaves result managed.now (W.seen live.old) (W.seen live.new) (O.written out.old) (O.written out.new) }
+    ensures cause { HasEndCause result (O.faults out.old) (O.faults out.new) (W.seen live.old).waiting.faults (W.seen live.new).waiting.faults }
+    ensures foretold { (W.seen live.old).waiting.failing ≡ Some [] → result ≢ ServeEnd.LinkFault }
+    ensures many { result ≡ ServeEnd.TurnsOver → AreManyTurns (W.seen live.old) turns }
 {
     match live_on(alloc, managed, live, out, turns) {
         Ok(()) => ServeEnd::End,

@@ -1,21 +1,20 @@
-ghost use Rattle.std.specs.Prelude.{◌≡◌, ◌≤◌, false, IfOk, length};
+ghost use Rattle.std.specs.Prelude.{◌≡◌, false, IfOk, length};
 ghost use Rattle.world.specs.LinkCalls.{frame_len};
-ghost use Rattle.client_model.specs.Turns.{is_end};
 ghost use Rattle.iface_core.specs.Inputs.{event_of, bytes_of};
+ghost use Rattle.turn_model.specs.Turns.{is_end};
 ghost use Rattle.daemon.specs.Lives.{life_of, IsTimely};
-ghost use Rattle.daemon.specs.TurnsMade.{MakesTurn};
-ghost use Rattle.daemon.specs.Printing.{Prints};
+ghost use Rattle.daemon.specs.Serving.{MakesTurn};
 
-use crate::host_lines::{say, say_host_turn};
-use crate::host_turns::host_turn;
+use crate::hosts::host_turn;
 use crate::lives::{Life, raised, stop_moment};
-use crate::send_lines::say_sends;
-use crate::sends::{offer_all, unsent_on};
+use crate::outside::Outside;
+use crate::saying::say;
+use crate::sends::offer_all;
 use client_core::{Turn, TurnInput, rows, step};
-use client_model::Managed;
+use settings::Managed;
 use std::alloc::Global;
 use transcript_text::TranscriptLine;
-use world::{Event, Host, Link, NoMemory, Wake};
+use world::{Event, NoMemory, Wake};
 
 /// What a wake brings to the client.
 fn input(event: Event, bytes: &[u8]) -> TurnInput<'_>
@@ -37,23 +36,21 @@ fn input(event: Event, bytes: &[u8]) -> TurnInput<'_>
 }
 
 /// Handles a wake: the client's step, its frames, then the host calls. Appends the turn's lines to `text`.
-pub fn turn<L: Link, H: Host>(
+pub fn turn<W: Outside>(
     alloc: Global,
     managed: &[Managed],
     life: Life,
     wake: Wake,
     bytes: &[u8],
-    link: &mut L,
-    host: &mut H,
+    outside: &mut W,
     text: &mut Vec<u8>,
 ) -> Result<Life, NoMemory>
     requires timely { IsTimely life }
     requires more { is_end wake.event ≡ false }
     requires whole { frame_len wake.event ≡ length bytes.now }
-    ensures waits { L.faults link.new ≡ L.faults link.old }
-    ensures failing { (L.failing_waits link.new ≡ L.failing_waits link.old) × (L.failing_sends link.new ≡ L.failing_sends link.old) × (H.failing host.new ≡ H.failing host.old) }
+    ensures waiting { (W.seen outside.new).waiting ≡ (W.seen outside.old).waiting }
     ensures timely { IfOk result IsTimely }
-    ensures made { IfOk result (λ next. MakesTurn managed.now (life_of life) wake bytes.now (life_of next) (record { failing_sends = L.failing_sends link.old; failing_host = H.failing host.old; link_old = L.told link.old; link_new = L.told link.new; host_old = H.told host.old; host_new = H.told host.new }) text.old.items text.new.items) }
+    ensures made { IfOk result (λ next. MakesTurn managed.now (life_of life) wake bytes.now (life_of next) (W.seen outside.old) (W.seen outside.new) text.old.items text.new.items) }
 {
     let Life {
         core,
@@ -69,16 +66,6 @@ pub fn turn<L: Link, H: Host>(
         unsent,
         input: input(wake.event, bytes),
     };
-    let (core, outs) = step(core, turn)?;
-    let sent = offer_all(alloc, link, outs.sends)?;
-    let (asked, known) = host_turn(alloc, host, managed, known, rows(&core))?;
-    let life = Life {
-        core,
-        known,
-        moment,
-        stop: stop_moment(stop, wake.event, moment),
-        unsent: unsent_on(&sent),
-    };
     let line = TranscriptLine::Turn {
         at: moment,
         salt: wake.salt,
@@ -86,8 +73,16 @@ pub fn turn<L: Link, H: Host>(
         bytes,
     };
     say(&line, text)?;
-    say_sends(&sent, text)?;
-    say_host_turn(alloc, &asked, text)?;
+    let (core, outs) = step(core, turn)?;
+    let unsent = offer_all(outside, &outs.sends, 0, text)?;
+    let known = host_turn(alloc, outside, managed, known, rows(&core), text)?;
+    let life = Life {
+        core,
+        known,
+        moment,
+        stop: stop_moment(stop, wake.event, moment),
+        unsent,
+    };
     say(&TranscriptLine::Until(life.until()), text)?;
     Ok(life)
 }

@@ -1,25 +1,27 @@
-ghost use Rattle.std.specs.Prelude.{◌≡◌, ◌≤◌, ◌<◌, [], ◌∷◌, Bool, true, false, Some, None, Ok, Err, ◌≢◌, IfOk, IfErr, length, take};
-ghost use Rattle.world.specs.LinkCalls.{frame_len, Waits};
-ghost use Rattle.client_model.specs.Lines as lines;
-ghost use Rattle.client_model.specs.Turns.{is_over, is_end};
+ghost use Rattle.std.specs.Prelude.{◌≡◌, ◌≢◌, ◌≤◌, [], ◌∷◌, true, false, Some, Ok, Err, IfOk, IfErr, length, take};
+ghost use Rattle.world.specs.LinkCalls.{frame_len};
+ghost use Rattle.turn_model.specs.Turns.{is_over, is_end};
 ghost use Rattle.daemon.specs.Lives.{life_of, IsTimely};
-ghost use Rattle.daemon.specs.Serving.{HasServeCause, failing_of};
-ghost use Rattle.daemon.specs.Waking.{WritesBytes, WritesSome, IsOneTurn};
-ghost use Rattle.daemon.specs.Cuts.{BreaksOff};
+ghost use Rattle.daemon.specs.Serving.{HasServeCause};
+ghost use Rattle.daemon.specs.Streams.{WritesBytes, WritesSome};
+ghost use Rattle.daemon.specs.Waking.{IsOneTurn};
+ghost use Rattle.daemon.specs.Waits.{WaitsThere};
+ghost use Rattle.daemon.specs.Cuts.{WaitFails, BreaksOff};
 
-use crate::devices::Devices;
 use crate::lives::Life;
+use crate::outside::Outside;
 use crate::serving::ServeEnd;
 use crate::turns::turn;
-use client_model::Managed;
+use settings::Managed;
 use std::alloc::Global;
-use world::{DeviceAnswer, Event, Hooks, Host, Link, NoMemory, Sink, Store, Wake};
+use world::{DeviceAnswer, Event, NoMemory, Sink, Wake};
 
 /// Writes all the bytes.
 pub fn write_all<O: Sink>(out: &mut O, bytes: &[u8]) -> Result<(), ServeEnd>
     ensures ok { IfOk result (λ _. (O.faults out.old ≤ O.faults out.new) × WritesBytes (O.written out.old) (O.written out.new) bytes.now) }
     ensures some { IfErr result (λ _. WritesSome (O.written out.old) (O.written out.new) bytes.now) }
     ensures cause { IfErr result (λ end. HasServeCause end (O.faults out.old) (O.faults out.new) 0 0) }
+    ensures memory { result ≡ Err ServeEnd.NoMemory → O.faults out.new ≡ O.faults out.old }
 {
     match out.write(bytes) {
         Ok(()) => Ok(()),
@@ -28,13 +30,18 @@ pub fn write_all<O: Sink>(out: &mut O, bytes: &[u8]) -> Result<(), ServeEnd>
     }
 }
 
-fn wait<L: Link>(link: &mut L, until: Option<u64>, buf: &mut [u8]) -> Result<Wake, ServeEnd>
-    ensures ok { IfOk result (λ wake. (L.faults link.old ≤ L.faults link.new) × (frame_len wake.event ≤ length buf.new) × Waits until (L.told link.old) (L.told link.new) buf.new (Ok wake)) }
-    ensures cause { IfErr result (λ end. HasServeCause end 0 0 (L.faults link.old) (L.faults link.new)) }
-    ensures foretold { L.failing_waits link.old ≡ Some [] → result ≢ Err ServeEnd.LinkFault }
-    ensures failing { (L.failing_waits link.new ≡ L.failing_waits link.old) × (L.failing_sends link.new ≡ L.failing_sends link.old) }
+#[tactic(auto, using(crate::proofs::Waitings::failed_wait_tells))]
+fn wait<W: Outside>(outside: &mut W, until: Option<u64>, buf: &mut [u8]) -> Result<Wake, ServeEnd>
+    ensures room { IfOk result (λ wake. frame_len wake.event ≤ length buf.new) }
+    ensures waits { IfOk result (λ wake. WaitsThere until (W.seen outside.old) (W.seen outside.new) buf.new (Ok wake)) }
+    ensures failed { IfErr result (λ end. WaitFails end until (W.seen outside.old) (W.seen outside.new)) }
+    ensures later { IfOk result (λ _. (W.seen outside.old).waiting.faults ≤ (W.seen outside.new).waiting.faults) }
+    ensures cause { IfErr result (λ end. HasServeCause end 0 0 (W.seen outside.old).waiting.faults (W.seen outside.new).waiting.faults) }
+    ensures memory { result ≡ Err ServeEnd.NoMemory → (W.seen outside.new).waiting.faults ≡ (W.seen outside.old).waiting.faults }
+    ensures foretold { (W.seen outside.old).waiting.failing ≡ Some [] → result ≢ Err ServeEnd.LinkFault }
+    ensures failing { (W.seen outside.new).waiting.failing ≡ (W.seen outside.old).waiting.failing }
 {
-    match link.wait(until, buf) {
+    match outside.wait(until, buf) {
         Ok(wake) => Ok(wake),
         Err(DeviceAnswer::Failed) => Err(ServeEnd::LinkFault),
         Err(DeviceAnswer::NoMemory) => Err(ServeEnd::NoMemory),
@@ -90,11 +97,11 @@ pub enum Woken {
 }
 
 /// Waits for the next wake, and handles it.
-pub fn one_turn<O: Sink, L: Link, S: Store, H: Host, K: Hooks>(
+pub fn one_turn<O: Sink, W: Outside>(
     alloc: Global,
     managed: &[Managed],
     life: Life,
-    live: &mut Devices<L, S, H, K>,
+    outside: &mut W,
     out: &mut O,
     buf: &mut [u8],
     text: &mut Vec<u8>,
@@ -102,29 +109,20 @@ pub fn one_turn<O: Sink, L: Link, S: Store, H: Host, K: Hooks>(
     requires timely { IsTimely life }
     requires going { is_over (life_of life) ≡ false }
     requires room { length buf.old ≡ 2048 }
-    ensures ok { IfOk result (λ woken. IsOneTurn managed.now (failing_of (L.failing_sends live.old.link) (H.failing live.old.host)) (life_of life) (H.told live.old.host) (L.told live.old.link) (O.written out.old) woken (H.told live.new.host) (L.told live.new.link) (O.written out.new)) }
-    ensures cut { IfErr result (λ end. BreaksOff end managed.now (failing_of (L.failing_sends live.old.link) (H.failing live.old.host)) (life_of life) (H.told live.old.host) (L.told live.old.link) (O.written out.old) (O.written out.new)) }
-    ensures later { IfOk result (λ woken. (O.faults out.old ≤ O.faults out.new) × (L.faults live.old.link ≤ L.faults live.new.link)) }
-    ensures cause { IfErr result (λ end. HasServeCause end (O.faults out.old) (O.faults out.new) (L.faults live.old.link) (L.faults live.new.link)) }
-    ensures foretold { L.failing_waits live.old.link ≡ Some [] → result ≢ Err ServeEnd.LinkFault }
-    ensures failing { (L.failing_waits live.new.link ≡ L.failing_waits live.old.link) × (L.failing_sends live.new.link ≡ L.failing_sends live.old.link) × (H.failing live.new.host ≡ H.failing live.old.host) }
+    ensures ok { IfOk result (λ woken. IsOneTurn managed.now (life_of life) (W.seen outside.old) (O.written out.old) woken (W.seen outside.new) (O.written out.new)) }
+    ensures cut { IfErr result (λ end. BreaksOff end managed.now (life_of life) (W.seen outside.old) (W.seen outside.new) (O.written out.old) (O.written out.new)) }
+    ensures later { IfOk result (λ woken. (O.faults out.old ≤ O.faults out.new) × ((W.seen outside.old).waiting.faults ≤ (W.seen outside.new).waiting.faults)) }
+    ensures cause { IfErr result (λ end. HasServeCause end (O.faults out.old) (O.faults out.new) (W.seen outside.old).waiting.faults (W.seen outside.new).waiting.faults) }
+    ensures foretold { (W.seen outside.old).waiting.failing ≡ Some [] → result ≢ Err ServeEnd.LinkFault }
+    ensures failing { (W.seen outside.new).waiting.failing ≡ (W.seen outside.old).waiting.failing }
 {
-    let wake = wait(&mut live.link, life.until(), buf)?;
+    let wake = wait(outside, life.until(), buf)?;
     if ends_life(wake.event) {
         return Ok(Woken::Over(life));
     }
     let len = frame_size(wake.event);
     text.clear();
-    let life = turn(
-        alloc,
-        managed,
-        life,
-        wake,
-        front(buf, len),
-        &mut live.link,
-        &mut live.host,
-        text,
-    )?;
+    let life = turn(alloc, managed, life, wake, front(buf, len), outside, text)?;
     write_all(out, text)?;
     if life.is_over() {
         return Ok(Woken::Over(life));

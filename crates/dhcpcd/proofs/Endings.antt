@@ -1,13 +1,13 @@
 -- What the answers of the top call come to.
-use Rattle.std.proofs.Common.{ℕ, ◌≡◌, ◌≤◌, List, [], length, Option, Some, None, inr, sym, subst, arith}
-use Rattle.client_model.specs.declared.interfaces.Managed.{Managed}
-use Rattle.client_model.specs.Scripts.{ScriptLines}
-use Rattle.daemon.specs.Cuts.{WritesFront}
+use Rattle.std.proofs.Common.{ℕ, ◌≡◌, ◌≤◌, List, [], length, Option, Some, None, inr, sym, subst, arith, ◌∙◌}
+use Rattle.settings.specs.declared.interfaces.Managed.{Managed}
+use Rattle.script_model.specs.ScriptTexts.{ScriptLines}
+use Rattle.daemon.specs.Streams.{WritesFront}
 use Rattle.dhcpcd.specs.declared.status.Status.{Status}
 use Rattle.dhcpcd.specs.declared.status.Status.TheVariants as status
 use Rattle.dhcpcd.specs.Input.{limit, IsInput, IsTooLong}
 use Rattle.dhcpcd.specs.Replays.{IsScript, transcript}
-use Rattle.dhcpcd.specs.Statuses.{SpellsNoScript, SpellsScript, IsStopped, IsAnswer, HasStatusCause, StopsWriting, CompletesScript}
+use Rattle.dhcpcd.specs.Statuses.{IsNoScript, SpellsScript, IsStopped, IsAnswer, HasStatusCause, StopsWriting, CompletesScript}
 
 -- writing stopped before its end
 pub stopped_answer : (answer : Status) (input old new : Option (List ℕ)) (bytes : List ℕ) (script : ScriptLines) (managed : List Managed) → IsInput input bytes → length bytes ≤ limit → IsScript bytes script managed
@@ -29,9 +29,10 @@ stopped_answer answer input old new bytes script managed read within is front st
 some_is : {A : Type 0} {a b : A} → Some a ≡ Some b → a ≡ b
 some_is e = cc
 
-not_refused : (input : Option (List ℕ)) → SpellsScript input → SpellsNoScript input → ⊥
-not_refused None spells none = let never : ⊥ = cc in never
-not_refused (Some input) spells none = none spells.script spells.managed (subst (λ (b : List ℕ). IsScript b spells.script spells.managed) (sym (some_is spells.told)) spells.is_script)
+not_refused : (input : Option (List ℕ)) (bytes : List ℕ) → SpellsScript input → IsInput input bytes → IsNoScript bytes → ⊥
+not_refused None bytes spells read none = let never : ⊥ = cc in never
+not_refused (Some input) bytes spells read none =
+    none spells.script spells.managed (subst (λ (b : List ℕ). IsScript b spells.script spells.managed) (sym (some_is spells.told) ∙ read) spells.is_script)
 
 not_too_long : (input : Option (List ℕ)) → SpellsScript input → IsTooLong input → ⊥
 not_too_long None spells long = let never : ⊥ = cc in never
@@ -41,7 +42,7 @@ not_too_long (Some input) spells long = omega (arith, long, subst (λ (b : List 
 pub completes : (answer : Status) (input old new : Option (List ℕ)) (a b p q : ℕ) → SpellsScript input → b ≡ a → q ≡ p → IsAnswer answer input old new → HasStatusCause answer a b p q → CompletesScript answer
 completes status.Done input old new a b p q spells read wrote answer cause = tt
 completes status.Usage input old new a b p q spells read wrote answer cause = absurd answer
-completes (status.Script fault) input old new a b p q spells read wrote answer cause = absurd (not_refused input spells answer.0)
+completes (status.Script fault) input old new a b p q spells read wrote answer cause = absurd (not_refused input answer.bytes spells answer.read answer.none)
 completes status.ReadFault input old new a b p q spells read wrote answer cause = absurd (omega (arith, read, cause.0))
 completes status.WriteFault input old new a b p q spells read wrote answer cause = absurd (omega (arith, wrote, cause.1))
 completes status.TooLong input old new a b p q spells read wrote answer cause = absurd (not_too_long input spells answer.0)

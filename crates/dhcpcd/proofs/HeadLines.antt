@@ -10,10 +10,10 @@ use Rattle.net_types.proofs.ListLaws.{split_smaller}
 use Rattle.replay_text.specs.Blocks.{parts_of}
 use Rattle.replay_text.specs.ScriptContent.{lines_within, conf_lines}
 use Rattle.replay_text.proofs.BlockLaws.{parts_line, parts_joined, parts_lack}
-use Rattle.client_model.specs.Lines.{Line}
-use Rattle.client_model.specs.Lines as lines
-use Rattle.daemon.specs.Printing.{Prints}
-use Rattle.daemon.proofs.Printings.{prints_none, prints_then, prints_same}
+use Rattle.script_model.specs.Lines.{Line}
+use Rattle.script_model.specs.Lines as lines
+use Rattle.device_calls.specs.Printing.{Prints}
+use Rattle.device_calls.proofs.Printings.{prints_none, prints_then, prints_same}
 
 last_part : (text : List ℕ) → split_at_byte 10 text ≡ None → (parts : List (List ℕ)) → parts_of text ≡ parts → lines_within parts ≡ []
 last_part text none [] is = refl

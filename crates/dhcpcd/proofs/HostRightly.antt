@@ -1,26 +1,32 @@
--- The host holds what it shall in the life of a script.
-use Rattle.std.proofs.Common.{ℕ, suc, ◌≡◌, ◌+◌, ◌<◌, Bool, true, false, cond, List, [], ◌∷◌, ◌++◌, length, take, Option, Some, None, refl, sym, ap, subst, ◌∙◌}
+-- The host holds what it shall in the lives of a script.
+use Rattle.std.proofs.Common.{ℕ, suc, ◌≡◌, ◌+◌, ◌<◌, Bool, true, false, cond, List, [], ◌∷◌, ◌++◌, length, take, Option, Some, None, refl, sym, ap, subst, ◌∙◌, arith}
 use Rattle.std.specs.Prelude.{IfSome, map, option_map, option_and_then}
 use Rattle.std.proofs.Math.Seq.{take-append_seam}
 use Rattle.std.proofs.lemmas.List.{length-append}
 use Rattle.net_types.specs.declared.interface.IfSpec.{IfSpec}
 use Rattle.world.specs.LinkCalls.{Given}
-use Rattle.client_model.specs.declared.interfaces.IfConf.{IfConf}
-use Rattle.client_model.specs.declared.interfaces.Managed.{Managed}
-use Rattle.client_model.specs.Scripts.{ScriptLines, CountsFrom}
-use Rattle.client_model.specs.Turns.{Met}
-use Rattle.client_model.specs.ToldDevices.{Failing, told_turns}
-use Rattle.client_model.specs.HostInLife.{Running, running_turned, running_after}
-use Rattle.client_model.proofs.HostTableRows.{in_order_sorted}
-use Rattle.client_model.proofs.HostInLifeTurns.{opening_holds, turn_in_life}
+use Rattle.settings.specs.declared.interfaces.IfConf.{IfConf}
+use Rattle.settings.specs.declared.interfaces.Managed.{Managed}
+use Rattle.world.specs.declared.rows.HostRow.{HostRow}
+use Rattle.script_model.specs.ScriptTexts.{ScriptLines, LifeScript}
+use Rattle.script_model.specs.Scripts.{CountsFrom}
+use Rattle.turn_model.specs.Lives.{Met}
+use Rattle.device_calls.specs.Worlds.{World}
+use Rattle.device_calls.proofs.Running.{run_coming}
+use Rattle.turn_model.specs.Opening.{opening_asks}
+use Rattle.turn_model.specs.Foretold.{told_turns}
+use Rattle.turn_model.specs.HostInLife.{Running, running_turned, running_after}
+use Rattle.host_model.proofs.HostTableRows.{in_order_sorted}
+use Rattle.turn_model.proofs.HostInLifeTurns.{opening_holds, turn_in_life}
 use Rattle.conf_text.specs.Settings.{Configuration, is_built, in_force, block_for, managed_one, managed_each, managed_of}
 use Rattle.evidence.specs.Laws.{AreNumbered}
 use Rattle.evidence.specs.HeldAddresses.{mets_of, RestOnEvidence}
 use Rattle.evidence.proofs.HostRests.{opening_rests, turns_rest}
 use Rattle.evidence.proofs.Numbered.{counted}
 use Rattle.evidence.proofs.Foretold.{foretold}
-use Rattle.dhcpcd.specs.Replays.{IsScript, failing_in, mets_of_script}
-use Rattle.dhcpcd.specs.HostHeld.{first_host, opening_of, opened, lived_on, IsTurn, HoldsRightly}
+use Rattle.dhcpcd.specs.Memory.{first_host}
+use Rattle.dhcpcd.specs.Replays.{IsScript, failing_in, at_first, opening_in, opened_in, mets_in, Failing, world_in}
+use Rattle.dhcpcd.specs.HostHeld.{lived_on, IsTurn, HoldsRightly, AllHoldRightly}
 
 -- ---- the managed interfaces are those of the script
 
@@ -58,32 +64,49 @@ module _ (bytes : List ℕ) (script : ScriptLines) (managed : List Managed) (is 
   numbered : AreNumbered managed
   numbered = counted 1 managed (subst (CountsFrom 1) (sym specs_are) is.fits.ifaces.counted)
 
-  -- ---- the turns that the evidence speaks of are those of the transcript
+  module _ (failing : Failing) (rows : List HostRow) (life : LifeScript) where
+    abbrev world : World
+    world = world_in failing (at_first rows) life
 
-  mets_length : (failing : Failing) (running : Running) (turns : List Given) → length (mets_of managed failing running turns) ≡ length turns
-  mets_length failing running [] = refl
-  mets_length failing running (given ∷ turns) = ap (λ (n : ℕ). suc n) (mets_length failing (running_turned managed failing running given) turns)
+    abbrev begun : Running
+    begun = opened_in managed failing (at_first rows) life
 
-  handled_mets : (earlier : List Given) (given : Given) (coming : List Given) → IsTurn managed script earlier given coming
-      → mets_of managed (failing_in script) (opened managed script) (earlier ++ given ∷ []) ≡ take (length earlier + 1) (mets_of_script managed script)
-  handled_mets earlier given coming turn =
-      let from : Running = opened managed script in
-      let failing : Failing = failing_in script in
-      let met : List Met = mets_of managed failing from (earlier ++ given ∷ []) in
-      let after : Running = running_after managed failing (earlier ++ given ∷ []) from in
-      let later : List Met = told_turns managed failing after.life after.told coming in
-      let all : mets_of_script managed script ≡ told_turns managed failing from.life from.told (earlier ++ given ∷ coming) = ap (told_turns managed failing from.life from.told) turn.stands in
-      let parts : mets_of_script managed script ≡ met ++ later =
-      all ∙ foretold managed failing from earlier given coming (subst (λ (ms : List Met). length earlier < length ms) all turn.handled) in
-      let count : length met ≡ length earlier + 1 = mets_length failing from (earlier ++ given ∷ []) ∙ length-append earlier (given ∷ []) in
-      sym (take-append_seam met later) ∙ ap (λ (n : ℕ). take n (met ++ later)) count ∙ ap (take (length earlier + 1)) (sym parts)
+    abbrev all_mets : List Met
+    all_mets = mets_in managed failing (at_first rows) life
 
-  pub holds_rightly : HoldsRightly managed script
-  holds_rightly = record {
-    opening_holds = opening_holds managed (failing_in script) script.life.begin (first_host script) (in_order_sorted script.rows);
-    turns_hold = λ earlier given. turn_in_life managed (failing_in script) script.life.begin (first_host script) (in_order_sorted script.rows) earlier given;
-    opening_rests = λ well. opening_rests managed (failing_in script) script.life.begin (first_host script) numbered (in_order_sorted script.rows) well;
-    turns_rest = λ earlier given coming turn well.
-        subst (λ (ms : List Met). RestOnEvidence managed (opening_of managed script) ms (lived_on managed script earlier given).told.host.rows) (handled_mets earlier given coming turn)
-        (turns_rest managed (failing_in script) script.life.begin (first_host script) earlier given numbered (in_order_sorted script.rows) well);
-  }
+    -- ---- the turns that the evidence speaks of are those of the transcript
+
+    mets_length : (running : Running) (turns : List Given) → length (mets_of managed running turns) ≡ length turns
+    mets_length running [] = refl
+    mets_length running (given ∷ turns) = ap (λ (n : ℕ). suc n) (mets_length (running_turned managed running given) turns)
+
+    handled_mets : (earlier : List Given) (given : Given) (coming : List Given) → IsTurn managed failing (at_first rows) life earlier given coming
+        → mets_of managed begun (earlier ++ given ∷ []) ≡ take (length earlier + 1) all_mets
+    handled_mets earlier given coming turn =
+        let met : List Met = mets_of managed begun (earlier ++ given ∷ []) in
+        let after : Running = running_after managed (earlier ++ given ∷ []) begun in
+        let later : List Met = told_turns managed after.life after.world coming in
+        let comes : begun.world.link.told.coming ≡ life.turns = run_coming (opening_asks managed life.begin) (world_in failing (at_first rows) life) in
+        let all : all_mets ≡ told_turns managed begun.life begun.world (earlier ++ given ∷ coming) = ap (told_turns managed begun.life begun.world) (comes ∙ turn.stands) in
+        let parts : all_mets ≡ met ++ later =
+        all ∙ foretold managed begun earlier given coming (subst (λ (ms : List Met). length earlier < length ms) all turn.handled) in
+        let count : length met ≡ length earlier + 1 = mets_length begun (earlier ++ given ∷ []) ∙ length-append earlier (given ∷ []) in
+        sym (take-append_seam met later) ∙ ap (λ (n : ℕ). take n (met ++ later)) count ∙ ap (take (length earlier + 1)) (sym parts)
+
+    first_holds : HoldsRightly managed failing (at_first rows) life
+    first_holds = record {
+      opening_holds = opening_holds managed (world_in failing (at_first rows) life) (in_order_sorted rows);
+      turns_hold = λ earlier given. turn_in_life managed (world_in failing (at_first rows) life) (in_order_sorted rows) earlier given;
+      opening_rests = λ well. opening_rests managed (world_in failing (at_first rows) life) numbered (in_order_sorted rows) well;
+      turns_rest = λ earlier given coming turn well.
+          subst (λ (ms : List Met). RestOnEvidence managed (opening_in managed failing (at_first rows) life) ms (lived_on managed failing (at_first rows) life earlier given).world.host.told.rows) (handled_mets earlier given coming turn)
+          (turns_rest managed (world_in failing (at_first rows) life) earlier given numbered (in_order_sorted rows) well);
+    }
+
+  only_first : (failing : Failing) (rows : List HostRow) (lives : List LifeScript) → length lives ≡ 1 → AllHoldRightly managed failing (at_first rows) lives
+  only_first failing rows [] one = absurd (omega (arith, one))
+  only_first failing rows (life ∷ []) one = (first_holds failing rows life, tt)
+  only_first failing rows (life ∷ next ∷ lives) one = absurd (omega (arith, one))
+
+  pub holds_rightly : AllHoldRightly managed (failing_in script.fails) (at_first script.rows) script.lives
+  holds_rightly = only_first (failing_in script.fails) script.rows script.lives (let fits = is.fits in fits.one)

@@ -2,10 +2,10 @@
 use Rattle.std.proofs.Common.{ℕ, ◌≡◌, ◌<◌, ◌≤◌, ◌+◌, ◌^◌, ◌-◌, List, [], ◌++◌, length, take, drop, Option, Some, None, Ok, Err, refl, sym, ap, subst, ◌∙◌, append_assoc, append-nil, arith}
 use Rattle.std.proofs.lemmas.List.{take-append-drop, length-append}
 use Rattle.std.proofs.Math.Seq.{drop-append-add}
-use Rattle.std.proofs.Math.Nat.{min-le_left}
+use Rattle.std.proofs.Math.Nat.{min-le_left, min-eq_left}
 use Rattle.net_types.specs.declared.fault.Failed.{Failed}
-use Rattle.world.specs.Streams.{Reads, count_after}
-use Rattle.dhcpcd.specs.Input.{limit, Moves, Takes, TakesSome, ReadsWithin, IsFront, HasRead, IsInput, IsTooLong}
+use Rattle.world.specs.Streams.{Reads, count_after, taken_after}
+use Rattle.dhcpcd.specs.Input.{limit, Moves, Takes, InputTold, CountsTaken, TakesSome, ReadsWithin, IsFront, HasRead, IsInput, IsTooLong}
 
 pub read_none : (input : Option (List ℕ)) → HasRead input [] input
 read_none None = tt
@@ -40,14 +40,35 @@ pub read_long : (input left : Option (List ℕ)) (read : List ℕ) → limit < l
 read_long None left read long has = tt
 read_long (Some input) left read long has = front_long input read left long has
 
--- a read that failed took nothing
-pub takes_none : (room : ℕ) (old new : Option (List ℕ)) (buffer : List ℕ) (e : Failed) → Reads old new buffer (Err e) → TakesSome room old new
-takes_none room None new buffer e read = (0, omega arith, tt)
-takes_none room (Some bytes) new buffer e read = (0, omega arith, (omega arith, read))
+failed_takes : (old new : Option (List ℕ)) (buffer : List ℕ) (e : Failed) → Reads old new buffer (Err e) → Takes 0 old new
+failed_takes None new buffer e read = tt
+failed_takes (Some bytes) new buffer e read = (omega arith, read)
 
-pub takes_some : (room : ℕ) (old new : Option (List ℕ)) (buffer : List ℕ) (n : ℕ) → n ≤ room → Reads old new buffer (Ok n) → TakesSome room old new
-takes_some room None new buffer n few read = (n, few, tt)
-takes_some room (Some bytes) new buffer n few read = (n, few, (read.0, read.2))
+-- a read that failed took nothing
+pub takes_none : (room : ℕ) (old new : InputTold) (buffer : List ℕ) (e : Failed) → Reads old.left new.left buffer (Err e)
+    → new.taken ≡ taken_after old.taken (Err e) → TakesSome room old new
+takes_none room old new buffer e read counted = record {
+  taken = 0;
+  few = omega arith;
+  takes = failed_takes old.left new.left buffer e read;
+  counted = λ within. omega (arith, counted);
+}
+
+done_takes : (old new : Option (List ℕ)) (buffer : List ℕ) (n : ℕ) → Reads old new buffer (Ok n) → Takes n old new
+done_takes None new buffer n read = tt
+done_takes (Some bytes) new buffer n read = (read.0, read.2)
+
+pub counts_taken : (old new n : ℕ) → new ≡ taken_after old (Ok n) → CountsTaken n old new
+counts_taken old new n is within = is ∙ min-eq_left within
+
+pub takes_some : (room : ℕ) (old new : InputTold) (buffer : List ℕ) (n : ℕ) → n ≤ room → Reads old.left new.left buffer (Ok n)
+    → new.taken ≡ taken_after old.taken (Ok n) → TakesSome room old new
+takes_some room old new buffer n few read counted = record {
+  taken = n;
+  few = few;
+  takes = done_takes old.left new.left buffer n read;
+  counted = counts_taken old.taken new.taken n counted;
+}
 
 pub reads_once : (old new : ℕ) → new ≡ count_after old → new ≤ old + 1
 reads_once old new is = subst (λ (k : ℕ). k ≤ old + 1) (sym is) (min-le_left (old + 1) (2 ^ 64 - 1))
@@ -63,12 +84,21 @@ takes_after : (input mid new : Option (List ℕ)) (read : List ℕ) (n : ℕ) �
 takes_after None mid new read n has takes = tt
 takes_after (Some input) mid new read n has takes = front_takes input read mid new n has takes
 
+-- counts of two takings add up
+pub counts_more : (old mid new a b : ℕ) → CountsTaken a old mid → CountsTaken b mid new → CountsTaken (a + b) old new
+counts_more old mid new a b first then within =
+    let before : mid ≡ old + a = first (omega (arith, within)) in
+    then (omega (arith, within, before)) ∙ omega (arith, before)
+
 -- a read gave nothing that was kept, after all that was read before
-pub within_stopped : (input mid new : Option (List ℕ)) (read : List ℕ) (room a b d : ℕ) → HasRead input read mid → TakesSome room mid new → length read + room ≤ limit + 1 → b ≤ a + length read → d ≤ b + 1 → ReadsWithin input new a d
-within_stopped input mid new read room a b d has takes fits before once = record {
-  taken = length read + takes.0;
-  few = omega (arith, fits, takes.1);
-  takes = takes_after input mid new read takes.0 has takes.2;
+pub within_stopped : (input mid new : InputTold) (read : List ℕ) (room : ℕ) → HasRead input.left read mid.left
+    → CountsTaken (length read) input.taken mid.taken → TakesSome room mid new → length read + room ≤ limit + 1
+    → mid.reads ≤ input.reads + length read → new.reads ≤ mid.reads + 1 → ReadsWithin input new
+within_stopped input mid new read room has counted some fits before once = record {
+  taken = length read + some.taken;
+  few = omega (arith, fits, some.few);
+  takes = takes_after input.left mid.left new.left read some.taken has some.takes;
+  counted = counts_more input.taken mid.taken new.taken (length read) some.taken counted some.counted;
   reads = omega (arith, before, once);
 }
 
@@ -77,13 +107,15 @@ nothing_more None = tt
 nothing_more (Some bytes) = (omega arith, refl)
 
 -- all that was taken was read
-pub within_read : (input new : Option (List ℕ)) (read : List ℕ) (a d : ℕ) → HasRead input read new → length read ≤ limit + 1 → d ≤ a + length read + 1 → ReadsWithin input new a d
-within_read input new read a d has fits few = record {
+pub within_read : (input new : InputTold) (read : List ℕ) → HasRead input.left read new.left → CountsTaken (length read) input.taken new.taken
+    → length read ≤ limit + 1 → new.reads ≤ input.reads + length read + 1 → ReadsWithin input new
+within_read input new read has counted fits few = record {
   taken = length read + 0;
   few = omega (arith, fits);
-  takes = takes_after input new new read 0 has (nothing_more new);
+  takes = takes_after input.left new.left new.left read 0 has (nothing_more new.left);
+  counted = λ within. counted (omega (arith, within)) ∙ omega arith;
   reads = omega (arith, few);
 }
 
-pub within_none : (left : Option (List ℕ)) (reads : ℕ) → ReadsWithin left left reads reads
-within_none left reads = within_read left left [] reads reads (read_none left) (omega arith) (omega arith)
+pub within_none : (told : InputTold) → ReadsWithin told told
+within_none told = within_read told told [] (read_none told.left) (λ within. omega arith) (omega arith) (omega arith)

@@ -4,4 +4,5 @@ pub mod Inputs
 pub mod OneWord
 pub mod Refusals
 pub mod WholeLife
+pub mod OneLife
 pub mod HostRightly

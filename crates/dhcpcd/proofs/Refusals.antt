@@ -1,41 +1,46 @@
 -- Why bytes are no script.
-use Rattle.std.proofs.Common.{ℕ, ◌≡◌, ◌≤◌, List, length, All, Option, Some, None, inl, sym, ap, subst, ◌∙◌}
+use Rattle.std.proofs.Common.{ℕ, ◌≡◌, ◌≤◌, ◌<◌, ◌+◌, List, length, Option, Some, None, inl, sym, ap, subst, ◌∙◌, arith}
 use Rattle.std.specs.Prelude.{flat_map, option_map}
-use Rattle.std.proofs.lemmas.List.Elements.{All-weaker}
 use Rattle.net_types.specs.declared.interface.IfSpec.{IfSpec}
 use Rattle.net_types.proofs.ReadsLaws.{texts_apart}
-use Rattle.world.specs.Rows.{IsRow}
-use Rattle.world.specs.RowText.{IsBuiltRow}
-use Rattle.client_model.specs.declared.interfaces.Managed.{Managed}
-use Rattle.client_model.specs.Fitting.{AreManaged}
-use Rattle.client_model.specs.Scripts.{ScriptLines, FitsScript, script_text, ended}
+use Rattle.settings.specs.declared.interfaces.Managed.{Managed}
+use Rattle.settings.specs.Fitting.{AreManaged}
+use Rattle.script_model.specs.LineNumbers.{line_feeds}
+use Rattle.script_model.specs.ScriptTexts.{ScriptLines, script_text, ended}
+use Rattle.script_model.specs.Scripts.{FitsScript}
+use Rattle.script_model.proofs.LineNumberLaws.{script_feeds}
 use Rattle.replay_text.specs.declared.script.Script.{Script}
 use Rattle.replay_text.specs.declared.script.ScriptFault.{ScriptFault}
 use Rattle.replay_text.specs.ScriptContent.{script_of, conf_lines, HoldsLines}
 use Rattle.replay_text.proofs.ScriptLaws.{script_reads}
 use Rattle.conf_text.specs.ConfLines.{said_by}
-use Rattle.conf_text.specs.declared.conf.Conf.{Conf}
-use Rattle.conf_text.specs.Settings.{Configuration, configuration, configured, managed_of}
+use Rattle.conf_text.specs.Settings.{Configuration, configured, managed_of}
+use Rattle.conf_text.specs.declared.managing.ManagedAnswer.{ManagedAnswer}
+use Rattle.conf_text.specs.declared.managing.ManagedAnswer.TheVariants.{NotBuilt}
+use Rattle.conf_text.specs.Unbuilt.{NamesUnbuilt}
 use Rattle.conf_text.specs.Reading.{IsConfigurationOf, IsNoConfiguration, ConfigurationIsOne}
 use Rattle.conf_text.proofs.ManagedFit.{managed_fit}
 use Rattle.dhcpcd.specs.declared.status.Status.{Status}
 use Rattle.dhcpcd.specs.declared.status.Status.TheVariants as status
 use Rattle.dhcpcd.specs.Input.{limit, IsInput}
 use Rattle.dhcpcd.specs.Replays.{IsScript}
-use Rattle.dhcpcd.specs.Statuses.{IsNoScript, IsUnspelled, IsRefused, IsAnswer}
+use Rattle.dhcpcd.specs.Statuses.{IsNoScript, NamesLine, IsUnspelled, IsRefused, IsAnswer}
 
 -- what was read of the bytes
 abbrev pub IsRead : List ℕ → Script → Type 0
 IsRead bytes script = (bytes ≡ script_text (script_of script)) × FitsScript (script_of script) × HoldsLines script.conf.items
 
-pub refused_on : (answer : Status) (why other : Type 0) → (why → other) → IsRefused answer why → IsRefused answer other
-refused_on status.Done why other f h = absurd h
-refused_on status.Usage why other f h = absurd h
-refused_on (status.Script fault) why other f h = f h
-refused_on status.ReadFault why other f h = absurd h
-refused_on status.WriteFault why other f h = absurd h
-refused_on status.TooLong why other f h = absurd h
-refused_on status.NoMemory why other f h = tt
+names_more : (few many : ℕ) (fault : ScriptFault) → few ≤ many → NamesLine few fault → NamesLine many fault
+names_more few many fault within named = record { first = named.first; last = let last = named.last in omega (arith, last, within); cause = named.cause }
+
+pub refused_on : (few many : ℕ) (answer : Status) (why other : Type 0) → few ≤ many → (why → other) → IsRefused few answer why → IsRefused many answer other
+refused_on few many status.Done why other within f h = absurd h
+refused_on few many status.Usage why other within f h = absurd h
+refused_on few many (status.Script fault) why other within f h = (f h.0, names_more few many fault within h.1)
+refused_on few many status.ReadFault why other within f h = absurd h
+refused_on few many status.WriteFault why other within f h = absurd h
+refused_on few many status.TooLong why other within f h = absurd h
+refused_on few many status.NoMemory why other within f h = tt
 
 pub unspelled : (bytes : List ℕ) → IsUnspelled bytes → IsNoScript bytes
 unspelled bytes none script managed is = none script is.fits is.spelled
@@ -83,30 +88,34 @@ settled bytes script conf managed read configured some =
 pub settled_fit : (bytes : List ℕ) (script : ScriptLines) (managed : List Managed) → IsScript bytes script managed → AreManaged managed
 settled_fit bytes script managed is = managed_fit (flat_map ended script.conf) is.conf script.ifaces managed is.configured is.fits.ifaces.counted is.fits.ifaces.few is.settings
 
-pub settled_rows : (bytes : List ℕ) (script : ScriptLines) (managed : List Managed) → IsScript bytes script managed → All IsRow script.rows
-settled_rows bytes script managed is = All-weaker IsBuiltRow IsRow (λ r b. b.is_row) script.rows is.fits.rows
+-- ---- the lines that are named
 
-pub refused_for_configuration : (answer : Status) (bytes : List ℕ) (script : Script) → IsRead bytes script → IsRefused answer (IsNoConfiguration script.conf.items) → IsRefused answer (IsNoScript bytes)
-refused_for_configuration answer bytes script read refused = refused_on answer (IsNoConfiguration script.conf.items) (IsNoScript bytes) (conf_refused bytes script read) refused
+-- a script has a line for its head, one for each line of its configuration, each interface and its life
+enough_lines : (bytes : List ℕ) (script : Script) → IsRead bytes script → line_feeds script.conf.items + length script.ifaces.items + 2 ≤ line_feeds bytes
+enough_lines bytes script read =
+    let counts = script_feeds (script_of script) in
+    let fits = read.1 in
+    omega (arith, counts, fits.one, ap line_feeds read.0, ap line_feeds (text_of script.conf.items read.2))
 
-none_of : {A B : Type 0} (f : A → B) (found : Option A) (made : Option B) → found ≡ None → option_map f found ≡ made → made ≡ None
-none_of f found made none same = sym same ∙ ap (option_map f) none
+pub refused_for_configuration : (answer : Status) (bytes : List ℕ) (script : Script) → IsRead bytes script → IsRefused (line_feeds script.conf.items + 2) answer (IsNoConfiguration script.conf.items)
+    → IsRefused (line_feeds bytes + 1) answer (IsNoScript bytes)
+refused_for_configuration answer bytes script read refused =
+    refused_on (line_feeds script.conf.items + 2) (line_feeds bytes + 1) answer (IsNoConfiguration script.conf.items) (IsNoScript bytes) (omega (arith, enough_lines bytes script read)) (conf_refused bytes script read) refused
 
-pub refused_for_settings : {V : Type 0} (items : V → List Managed) (found : Option V) (fault : ScriptFault) (answer : Status) (bytes : List ℕ) (script : Script) (conf : Conf) → found ≡ None → answer ≡ status.Script fault → ConfigurationIsOne → IsRead bytes script
-    → IsConfigurationOf script.conf.items (configuration conf) → option_map items found ≡ managed_of (configuration conf) script.ifaces.items → IsRefused answer (IsNoScript bytes)
-refused_for_settings {V} items found fault answer bytes script conf none is one read says same =
-    subst (λ (s : Status). IsRefused s (IsNoScript bytes)) (sym is)
-    (settings_refused bytes script (configuration conf) one read says (none_of items found (managed_of (configuration conf) script.ifaces.items) none same))
+pub refused_for_settings : (answer : Status) (found : ManagedAnswer) (place : ℕ) (bytes : List ℕ) (script : Script) (conf : Configuration) → ConfigurationIsOne → IsRead bytes script
+    → IsConfigurationOf script.conf.items conf → found ≡ NotBuilt place → NamesUnbuilt found script.ifaces.items (managed_of conf script.ifaces.items)
+    → IsRefused (line_feeds script.conf.items + place + 2) answer (Unit {0}) → IsRefused (line_feeds bytes + 1) answer (IsNoScript bytes)
+refused_for_settings answer found place bytes script conf one read says is names refused =
+    let unbuilt : NamesUnbuilt (NotBuilt place) script.ifaces.items (managed_of conf script.ifaces.items) =
+    subst (λ (f : ManagedAnswer). NamesUnbuilt f script.ifaces.items (managed_of conf script.ifaces.items)) is names in
+    refused_on (line_feeds script.conf.items + place + 2) (line_feeds bytes + 1) answer (Unit {0}) (IsNoScript bytes) (omega (arith, enough_lines bytes script read, unbuilt.1)) (λ any. settings_refused bytes script conf one read says unbuilt.0) refused
 
-pub refused_answer : (answer : Status) (input old new : Option (List ℕ)) (bytes : List ℕ) → IsInput input bytes → length bytes ≤ limit → new ≡ old → IsRefused answer (IsNoScript bytes) → IsAnswer answer input old new
+pub refused_answer : (answer : Status) (input old new : Option (List ℕ)) (bytes : List ℕ) → IsInput input bytes → length bytes ≤ limit → new ≡ old → IsRefused (line_feeds bytes + 1) answer (IsNoScript bytes) → IsAnswer answer input old new
 refused_answer status.Done input old new bytes read within same refused = absurd refused
 refused_answer status.Usage input old new bytes read within same refused = absurd refused
-refused_answer (status.Script fault) None old new bytes read within same refused = (tt, tt, same)
-refused_answer (status.Script fault) (Some input) old new bytes read within same refused = (subst IsNoScript (sym read) refused, subst (λ (b : List ℕ). length b ≤ limit) (sym read) within, same)
+refused_answer (status.Script fault) input old new bytes read within same refused =
+    record { bytes = bytes; read = read; in_limit = within; none = refused.0; line = refused.1; unwritten = same }
 refused_answer status.ReadFault input old new bytes read within same refused = absurd refused
 refused_answer status.WriteFault input old new bytes read within same refused = absurd refused
 refused_answer status.TooLong input old new bytes read within same refused = absurd refused
 refused_answer status.NoMemory input old new bytes read within same refused = inl same
-
-pub some_of : {A B : Type 0} (f : A → B) (found : Option A) (made : Option B) (x : A) → found ≡ Some x → option_map f found ≡ made → made ≡ Some (f x)
-some_of f found made x some same = sym same ∙ ap (option_map f) some

@@ -1,5 +1,5 @@
--- What was read of a source that tells what it holds.
-use Rattle.std.specs.Prelude.{ℕ, ◌≡◌, ◌<◌, ◌≤◌, ◌+◌, List, [], ◌++◌, length, take, drop, Option, Some, None}
+-- What was read of a source.
+use Rattle.std.specs.Prelude.{ℕ, ◌≡◌, ◌<◌, ◌≤◌, ◌+◌, ◌-◌, ◌^◌, List, [], ◌++◌, length, take, drop, Option, Some, None}
 
 -- how many bytes an input may have
 abbrev pub limit : ℕ
@@ -15,16 +15,33 @@ abbrev pub Takes : ℕ → Option (List ℕ) → Option (List ℕ) → Type 0
 Takes n None left = Unit {0}
 Takes n (Some bytes) left = (n ≤ length bytes) × (left ≡ Some (drop n bytes))
 
+-- what a source tells: the bytes left, how many were taken, and how often it was read
+pub record InputTold : Type 0 where
+  pub left : Option (List ℕ)
+  pub taken : ℕ
+  pub reads : ℕ
+
+abbrev pub input_told : Option (List ℕ) → (taken reads : ℕ) → InputTold
+input_told left taken reads = record { left = left; taken = taken; reads = reads }
+
+-- so many bytes were counted, unless the count is at the end of its range
+abbrev pub CountsTaken : ℕ → (old new : ℕ) → Type 0
+CountsTaken n old new = old + n ≤ 2 ^ 64 - 1 → new ≡ old + n
+
 -- some bytes were taken, no more than there was room for
-abbrev pub TakesSome : ℕ → Option (List ℕ) → Option (List ℕ) → Type 0
-TakesSome room old new = (n : ℕ) × (n ≤ room) × Takes n old new
+pub record TakesSome (room : ℕ) (old new : InputTold) : Type 0 where
+  pub taken : ℕ
+  pub few : taken ≤ room
+  pub takes : Takes taken old.left new.left
+  pub counted : CountsTaken taken old.taken new.taken
 
 -- at most one byte past the limit was taken, in reads that each but the last took at least one
-pub record ReadsWithin (left_old left_new : Option (List ℕ)) (reads_old reads_new : ℕ) : Type 0 where
+pub record ReadsWithin (old new : InputTold) : Type 0 where
   pub taken : ℕ
   pub few : taken ≤ limit + 1
-  pub takes : Takes taken left_old left_new
-  pub reads : reads_new ≤ reads_old + taken + 1
+  pub takes : Takes taken old.left new.left
+  pub counted : CountsTaken taken old.taken new.taken
+  pub reads : new.reads ≤ old.reads + taken + 1
 
 -- what was read and what is left are the input
 abbrev pub IsFront : List ℕ → List ℕ → Option (List ℕ) → Type 0
@@ -44,8 +61,3 @@ IsInput (Some input) read = input ≡ read
 abbrev pub IsTooLong : Option (List ℕ) → Type 0
 IsTooLong None = Unit {0}
 IsTooLong (Some input) = limit < length input
-
--- where the input is told, it isn't longer than the limit
-abbrev pub IsInLimit : Option (List ℕ) → Type 0
-IsInLimit None = Unit {0}
-IsInLimit (Some input) = length input ≤ limit

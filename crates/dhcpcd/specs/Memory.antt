@@ -1,22 +1,33 @@
--- What the devices of a script hold before their first call. Of the calls only the listed sends fail.
-use Rattle.std.specs.Prelude.{List, []}
+-- What the devices of a script hold before their first call. Of the calls those fail that the script lists.
+use Rattle.std.specs.Prelude.{ℕ, List, [], None}
 use Rattle.world.specs.declared.rows.HostRow.{HostRow}
 use Rattle.world.specs.RowOrder.{in_row_order}
+use Rattle.world.specs.HostCalls.{HostTold}
+use Rattle.world.specs.LinkCalls.{LinkTold}
+use Rattle.world.specs.StoreCalls.{StoreTold, store_holding}
 use Rattle.world_mem.specs.LinkRecord.{LinkState}
 use Rattle.world_mem.specs.StoreRecord.{StoreState}
 use Rattle.world_mem.specs.HostRecord.{HostState}
-use Rattle.client_model.specs.declared.failing.FailLine.{FailLine}
-use Rattle.client_model.specs.Scripts.{LifeScript, failing_sends}
+use Rattle.script_model.specs.declared.failing.FailDevice.TheVariants.{Link, Store, Host}
+use Rattle.script_model.specs.declared.failing.FailLine.{FailLine}
+use Rattle.script_model.specs.FailingCalls.{failing_calls}
+use Rattle.script_model.specs.ScriptTexts.{LifeScript}
 
-abbrev pub link_of : LifeScript → List FailLine → LinkState
-link_of life fails = record {
-  told = record { begin = life.begin; coming = life.turns; waits = 0; sends = 0; calls = [] };
-  failing_waits = [];
-  failing_sends = failing_sends fails;
-}
+-- what the link of a life tells at first, after so many sends in lives before it
+abbrev pub link_told : LifeScript → ℕ → LinkTold
+link_told life sent = record { begin = life.begin; coming = life.turns; waits = 0; sends = sent; calls = [] }
 
-abbrev pub empty_store : StoreState
-empty_store = record { told = record { files = []; calls = [] }; failing = [] }
+abbrev pub link_of : LifeScript → ℕ → List FailLine → LinkState
+link_of life sent fails = record { told = link_told life sent; begins = 0; failing_waits = []; failing_sends = failing_calls Link fails }
 
-abbrev pub host_of : List HostRow → HostState
-host_of rows = record { told = record { rows = in_row_order rows; calls = [] }; failing = [] }
+abbrev pub first_store : StoreTold
+first_store = store_holding []
+
+abbrev pub store_of : List FailLine → StoreState
+store_of fails = record { told = first_store; failing = record { numbers = failing_calls Store fails; from = None } }
+
+abbrev pub first_host : List HostRow → HostTold
+first_host rows = record { rows = in_row_order rows; calls = [] }
+
+abbrev pub host_of : List HostRow → List FailLine → HostState
+host_of rows fails = record { told = first_host rows; failing = failing_calls Host fails }

@@ -1,14 +1,18 @@
 -- What the answers of the top call mean.
-use Rattle.std.specs.Prelude.{ℕ, ◌≡◌, ◌≢◌, ◌<◌, ◌≤◌, ◌⊎◌, List, [], length, Option, Some, None}
-use Rattle.client_model.specs.declared.interfaces.Managed.{Managed}
-use Rattle.client_model.specs.Scripts.{ScriptLines, FitsScript, script_text}
-use Rattle.daemon.specs.Serving.{WritesLines}
-use Rattle.daemon.specs.Cuts.{WritesFront}
+use Rattle.std.specs.Prelude.{ℕ, ◌≡◌, ◌≢◌, ◌<◌, ◌≤◌, ◌+◌, ◌⊎◌, List, [], length, Option, Some, None}
+use Rattle.settings.specs.declared.interfaces.Managed.{Managed}
+use Rattle.script_model.specs.ScriptTexts.{ScriptLines, script_text}
+use Rattle.script_model.specs.Scripts.{FitsScript}
+use Rattle.script_model.specs.LineNumbers.{line_feeds}
+use Rattle.replay_text.specs.declared.script.ScriptCause.TheVariants.{NotBuilt}
+use Rattle.replay_text.specs.declared.script.ScriptFault.{ScriptFault}
+use Rattle.daemon.specs.Streams.{WritesLines}
+use Rattle.daemon.specs.Streams.{WritesFront}
 use Rattle.dhcpcd.specs.declared.status.Status.{Status}
 use Rattle.dhcpcd.specs.declared.status.Status.TheVariants as status
-use Rattle.dhcpcd.specs.Input.{limit, IsInput, IsInLimit, IsTooLong}
-use Rattle.dhcpcd.specs.Replays.{IsScript, transcript}
-use Rattle.dhcpcd.specs.HostHeld.{HoldsRightly}
+use Rattle.dhcpcd.specs.Input.{limit, IsInput, IsTooLong}
+use Rattle.dhcpcd.specs.Replays.{IsScript, failing_in, at_first, transcript}
+use Rattle.dhcpcd.specs.HostHeld.{AllHoldRightly}
 
 -- the exit status
 abbrev pub status_number : Status → ℕ
@@ -20,7 +24,7 @@ status_number status.WriteFault = 6
 status_number status.TooLong = 9
 status_number status.NoMemory = 10
 
--- the input was a script, and its transcript was written; in its life the host holds what it shall
+-- the input was a script, and its transcript was written; in its lives the host holds what it shall
 pub record IsReplayed (input : Option (List ℕ)) (old new : Option (List ℕ)) : Type 0 where
   pub bytes : List ℕ
   pub script : ScriptLines
@@ -29,7 +33,7 @@ pub record IsReplayed (input : Option (List ℕ)) (old new : Option (List ℕ)) 
   pub in_limit : length bytes ≤ limit
   pub is_script : IsScript bytes script managed
   pub written : WritesLines old new (transcript managed script)
-  pub host : HoldsRightly managed script
+  pub host : AllHoldRightly managed (failing_in script.fails) (at_first script.rows) script.lives
 
 -- the input was a script, and a front of the bytes of its transcript was written
 pub record IsStopped (input : Option (List ℕ)) (old new : Option (List ℕ)) : Type 0 where
@@ -50,19 +54,30 @@ pub record SpellsScript (input : Option (List ℕ)) : Type 0 where
   pub in_limit : length bytes ≤ limit
   pub is_script : IsScript bytes script managed
 
--- no script spells the input, where it is told
+-- no script spells the bytes
 abbrev pub IsNoScript : List ℕ → Type 0
 IsNoScript bytes = (script : ScriptLines) (managed : List Managed) → IsScript bytes script managed → ⊥
 
-abbrev pub SpellsNoScript : Option (List ℕ) → Type 0
-SpellsNoScript None = Unit {0}
-SpellsNoScript (Some input) = IsNoScript input
+-- one of so many lines, and why it is bad: so far it isn't built
+pub record NamesLine (lines : ℕ) (fault : ScriptFault) : Type 0 where
+  pub first : 1 ≤ fault.line
+  pub last : fault.line ≤ lines
+  pub cause : fault.cause ≡ NotBuilt
+
+-- the input was no script, one of its lines is named, and nothing was written
+pub record IsRefusal (input : Option (List ℕ)) (fault : ScriptFault) (old new : Option (List ℕ)) : Type 0 where
+  pub bytes : List ℕ
+  pub read : IsInput input bytes
+  pub in_limit : length bytes ≤ limit
+  pub none : IsNoScript bytes
+  pub line : NamesLine (line_feeds bytes + 1) fault
+  pub unwritten : new ≡ old
 
 -- what replay answers, by the input and by what is written before and after
 abbrev pub IsAnswer : Status → Option (List ℕ) → Option (List ℕ) → Option (List ℕ) → Type 0
 IsAnswer status.Done input old new = IsReplayed input old new
 IsAnswer status.Usage input old new = ⊥
-IsAnswer (status.Script fault) input old new = SpellsNoScript input × IsInLimit input × (new ≡ old)
+IsAnswer (status.Script fault) input old new = IsRefusal input fault old new
 IsAnswer status.ReadFault input old new = new ≡ old
 IsAnswer status.WriteFault input old new = IsStopped input old new
 IsAnswer status.TooLong input old new = IsTooLong input × (new ≡ old)
@@ -97,8 +112,8 @@ StopsWriting other = ⊥
 abbrev pub IsUnspelled : List ℕ → Type 0
 IsUnspelled bytes = (script : ScriptLines) → FitsScript script → bytes ≢ script_text script
 
--- a refusal of the input, and why; want of memory is free
-abbrev pub IsRefused : Status → Type 0 → Type 0
-IsRefused (status.Script fault) why = why
-IsRefused status.NoMemory why = Unit {0}
-IsRefused other why = ⊥
+-- a refusal of a text of so many lines, and why; want of memory is free
+abbrev pub IsRefused : ℕ → Status → Type 0 → Type 0
+IsRefused lines (status.Script fault) why = why × NamesLine lines fault
+IsRefused lines status.NoMemory why = Unit {0}
+IsRefused lines other why = ⊥

@@ -1,8 +1,8 @@
 ghost use Rattle.std.specs.Prelude.{◌≡◌, ◌++◌, ◌<◌, [], ◌∷◌, OnOk, map, length};
-ghost use Rattle.client_model.specs.Lines as lines;
+ghost use Rattle.script_model.specs.Lines as lines;
 ghost use Rattle.replay_text.specs.ScriptContent.{conf_lines, script_of};
 ghost use Rattle.transcript_text.specs.Printed.{line_of};
-ghost use Rattle.daemon.specs.Printing.{Prints};
+ghost use Rattle.device_calls.specs.Printing.{Prints};
 ghost use Rattle.dhcpcd.specs.Replays.{head_lines};
 
 use net_types::{IfSpec, split_at_byte};
@@ -10,8 +10,9 @@ use replay_text::Script;
 use transcript_text::{TranscriptLine, print_line};
 use world::NoMemory;
 
-#[tactic(auto, using(daemon::proofs::Printings::prints_line))]
-fn say(line: &TranscriptLine<'_>, text: &mut Vec<u8>) -> Result<(), NoMemory>
+/// Appends a line.
+#[tactic(auto, using(device_calls::proofs::Printings::prints_line))]
+pub fn say(line: &TranscriptLine<'_>, text: &mut Vec<u8>) -> Result<(), NoMemory>
     ensures { OnOk result (Prints text.old.items text.new.items (line_of line.now ∷ [])) }
 {
     print_line(line, text)
@@ -25,7 +26,7 @@ fn say_configuration(conf: &[u8], text: &mut Vec<u8>) -> Result<(), NoMemory>
         match split_at_byte(rest, b'\n') {
             None => return Ok(()),
             Some((line, after)) => {
-                say(&TranscriptLine::ConfLine(line), text)?;
+                say(&TranscriptLine::Conf(line), text)?;
                 rest = after;
             }
         }
@@ -36,19 +37,18 @@ fn say_interfaces(ifaces: &[IfSpec], text: &mut Vec<u8>) -> Result<(), NoMemory>
     ensures { OnOk result (Prints text.old.items text.new.items (map lines.Interface ifaces.now)) }
 {
     for spec in ifaces {
-        say(&TranscriptLine::IfLine(*spec), text)?;
+        say(&TranscriptLine::Interface(*spec), text)?;
     }
     Ok(())
 }
 
-/// Appends the lines before the first life's own.
-#[tactic(auto, using(daemon::proofs::Printings::prints_then), unfolding(crate::specs::Replays::head_lines))]
+/// Appends the lines before the first life.
+#[tactic(auto, using(device_calls::proofs::Printings::prints_then), unfolding(crate::specs::Replays::head_lines))]
 pub fn say_head(script: &Script, text: &mut Vec<u8>) -> Result<(), NoMemory>
     ensures { OnOk result (Prints text.old.items text.new.items (head_lines (script_of script.now))) }
 {
     say(&TranscriptLine::Head, text)?;
     say_configuration(&script.conf, text)?;
     say_interfaces(&script.ifaces, text)?;
-    say(&TranscriptLine::Life(1), text)?;
     Ok(())
 }

@@ -1,5 +1,5 @@
 ghost use Rattle.std.specs.Prelude.{◌≡◌, ◌≢◌, ◌≤◌, ◌<◌, ◌+◌, Ok, Err, IfOk, IfErr, length, vec_len};
-ghost use Rattle.dhcpcd.specs.Input.{Moves, TakesSome, ReadsWithin, IsInput, IsTooLong, limit};
+ghost use Rattle.dhcpcd.specs.Input.{CountsTaken, Moves, TakesSome, ReadsWithin, IsInput, IsTooLong, input_told, limit};
 ghost use Rattle.dhcpcd.specs.Statuses.{HasStatusCause, StopsReading};
 
 use crate::status::Status;
@@ -19,7 +19,8 @@ fn read_some<I: Source>(input: &mut I, piece: &mut [u8], all: &mut Vec<u8>) -> R
     ensures moved { IfOk result (λ n. Moves (I.left input.old) (I.left input.new) all.old.items all.new.items n) }
     ensures count { IfOk result (λ n. (vec_len all.new ≡ vec_len all.old + n) × (n ≤ length piece.old) × (I.faults input.old ≤ I.faults input.new)) }
     ensures cause { IfErr result (λ status. HasStatusCause status (I.faults input.old) (I.faults input.new) 0 0 × StopsReading status) }
-    ensures taken { IfErr result (λ _. TakesSome (length piece.old) (I.left input.old) (I.left input.new)) }
+    ensures counted { IfOk result (λ n. CountsTaken n (I.taken input.old) (I.taken input.new)) }
+    ensures taken { IfErr result (λ _. TakesSome (length piece.old) (input_told (I.left input.old) (I.taken input.old) (I.reads input.old)) (input_told (I.left input.new) (I.taken input.new) (I.reads input.new))) }
     ensures reads { I.reads input.new ≤ I.reads input.old + 1 }
     ensures any_length { result ≢ Err Status.TooLong }
 {
@@ -46,7 +47,7 @@ pub fn read_all<I: Source>(alloc: Global, input: &mut I) -> Result<Vec<u8>, Stat
     ensures in_limit { IfOk result (λ all. length all.items ≤ limit) }
     ensures cause { IfErr result (λ status. HasStatusCause status (I.faults input.old) (I.faults input.new) 0 0 × StopsReading status) }
     ensures too_long { result ≡ Err Status.TooLong → IsTooLong (I.left input.old) }
-    ensures reads { ReadsWithin (I.left input.old) (I.left input.new) (I.reads input.old) (I.reads input.new) }
+    ensures reads { ReadsWithin (input_told (I.left input.old) (I.taken input.old) (I.reads input.old)) (input_told (I.left input.new) (I.taken input.new) (I.reads input.new)) }
 {
     let mut all = Vec::new(alloc);
     let mut buf = piece_buffer(alloc)?;

@@ -3,15 +3,16 @@
 
 mod heads;
 mod input;
-#[cfg(test)]
-mod link_local_tests;
+mod lives;
 mod memory;
 mod replaying;
 mod running;
+mod settling;
 mod status;
 #[cfg(test)]
 mod tests;
+mod writing;
 
-pub use replaying::write_text;
 pub use running::{is_alone, run};
 pub use status::Status;
+pub use writing::write_text;

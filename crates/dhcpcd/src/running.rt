@@ -1,6 +1,6 @@
 ghost use Rattle.std.specs.Prelude.{◌≡◌, [], ◌∷◌, true, map};
 ghost use Rattle.std.specs.String.{string_bytes};
-ghost use Rattle.dhcpcd.specs.Input.{ReadsWithin};
+ghost use Rattle.dhcpcd.specs.Input.{ReadsWithin, input_told};
 ghost use Rattle.dhcpcd.specs.Statuses.{HasStatusCause, IsAnswer, SpellsScript, CompletesScript};
 ghost use Rattle.dhcpcd.specs.Words.{AskReplay};
 
@@ -41,7 +41,7 @@ pub fn run<I: Source, O: Sink>(
     ensures usage { (AskReplay (map string_bytes words.now) → ⊥) → (result ≡ Status.Usage) × (I.reads input.new ≡ I.reads input.old) × (I.left input.new ≡ I.left input.old) × (O.written out.new ≡ O.written out.old) }
     ensures cause { HasStatusCause result (I.faults input.old) (I.faults input.new) (O.faults out.old) (O.faults out.new) }
     ensures complete { AskReplay (map string_bytes words.now) → SpellsScript (I.left input.old) → I.faults input.new ≡ I.faults input.old → O.faults out.new ≡ O.faults out.old → CompletesScript result }
-    ensures reads { AskReplay (map string_bytes words.now) → ReadsWithin (I.left input.old) (I.left input.new) (I.reads input.old) (I.reads input.new) }
+    ensures reads { AskReplay (map string_bytes words.now) → ReadsWithin (input_told (I.left input.old) (I.taken input.old) (I.reads input.old)) (input_told (I.left input.new) (I.taken input.new) (I.reads input.new)) }
 {
     if !is_alone(words, "replay") {
         return Status::Usage;

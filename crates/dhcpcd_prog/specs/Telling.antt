@@ -1,6 +1,6 @@
 -- How the writing of a text of the program's own ends.
 use Rattle.std.specs.Prelude.{ℕ, List, Option}
-use Rattle.daemon.specs.Waking.{WritesBytes}
+use Rattle.daemon.specs.Streams.{WritesBytes}
 use Rattle.dhcpcd.specs.Statuses.{StopsWriting}
 use Rattle.dhcpcd.specs.declared.status.Status.{Status}
 use Rattle.dhcpcd.specs.declared.status.Status.TheVariants as status

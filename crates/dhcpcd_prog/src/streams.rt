@@ -1,4 +1,5 @@
-ghost use Rattle.std.specs.Prelude.{None};
+ghost use Rattle.std.specs.Prelude.{◌≡◌, None, Ok};
+ghost use Rattle.world.specs.Streams.{taken_after};
 
 use std::io::{Read, Write};
 use std::rt::{Stdin, Stdout};
@@ -10,6 +11,7 @@ pub struct StdSource {
     stdin: Stdin,
     faults: u64,
     reads: u64,
+    taken: u64,
 }
 
 impl StdSource {
@@ -18,7 +20,17 @@ impl StdSource {
             stdin,
             faults: 0,
             reads: 0,
+            taken: 0,
         }
+    }
+
+    /// Counts the bytes that a read took.
+    fn count(&mut self, n: usize) -> usize
+        ensures counted { self.new ≡ record self.old { taken = taken_after self.old.taken (Ok n) } }
+        ensures same { result ≡ n }
+    {
+        self.taken = self.taken.saturating_add(n as u64);
+        n
     }
 }
 
@@ -27,18 +39,20 @@ impl Source for StdSource {
 
     ghost reads = { λ source. source.reads };
 
+    ghost taken = { λ source. source.taken };
+
     ghost left = { λ source. None };
 
     fn read(&mut self, buf: &mut [u8]) -> Result<usize, Failed> {
         self.reads = self.reads.saturating_add(1);
         match self.stdin.read(buf) {
-            Ok(n) => Ok(n),
+            Ok(n) => Ok(self.count(n)),
             Err(_) => match self.faults.checked_add(1) {
                 Some(faults) => {
                     self.faults = faults;
                     Err(Failed)
                 }
-                None => Ok(0),
+                None => Ok(self.count(0)),
             },
         }
     }

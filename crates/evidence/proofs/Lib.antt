@@ -1,11 +1,6 @@
-pub mod Announced
-pub mod Offers
-pub mod Phases
-pub mod Ticks
 pub mod Keeping
 pub mod Turns
 pub mod Rows
-pub mod Counting
 pub mod HostRests
 pub mod Numbered
 pub mod Foretold

@@ -3,10 +3,10 @@ use Rattle.std.proofs.Common.{ℕ, ◌+◌, ◌<◌, ◌≡◌, false, List, [],
 use Rattle.std.proofs.lemmas.Bool.Decides.{nat_tests}
 use Rattle.std.specs.Prelude.{map}
 use Rattle.std.specs.List.{AllByRecursion, IsDistinct}
-use Rattle.client_model.specs.declared.interfaces.Managed.{Managed}
-use Rattle.client_model.specs.Scripts.{CountsFrom}
+use Rattle.settings.specs.declared.interfaces.Managed.{Managed}
+use Rattle.script_model.specs.Scripts.{CountsFrom}
 use Rattle.evidence.specs.Laws.{CountedAreNumbered}
-use Rattle.evidence.proofs.Offers.{number_of}
+use Rattle.evidence_words.proofs.Offers.{number_of}
 
 unlike : (a first next other : ℕ) → a ≡ first → first < next → other ≡ next → nat_eq a other ≡ false
 unlike a first next other e below e2 = grind (arith, nat_tests)

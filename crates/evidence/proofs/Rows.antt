@@ -6,6 +6,7 @@ use Rattle.std.proofs.lemmas.List.Folds.{list_any-append}
 use Rattle.std.proofs.lemmas.List.Elements.{All-contains_itself, recursion_from_All}
 use Rattle.std.specs.BTreeMap.{is_at}
 use Rattle.std.specs.Cmp.{Equal-is}
+use Rattle.net_types.proofs.AllLaws.{all_both}
 use Rattle.net_types.specs.declared.address.Ip4.{Ip4}
 use Rattle.net_types.specs.declared.address.Net4.{Net4}
 use Rattle.net_types.specs.declared.address.Net.{Net}
@@ -25,24 +26,26 @@ use Rattle.world.specs.declared.rows.Via.TheVariants.{OnLink}
 use Rattle.world.specs.RowOrder.{row_iface, row_net, row_cmp, has_row}
 use Rattle.world.proofs.ExactRows.{row_cmp_exact}
 use Rattle.world.proofs.RowLists.{in_order_has}
-use Rattle.client_model.specs.declared.interfaces.StaticLine.{StaticLine}
-use Rattle.client_model.specs.declared.interfaces.Managed.{Managed}
+use Rattle.settings.specs.declared.interfaces.StaticLine.{StaticLine}
+use Rattle.settings.specs.declared.interfaces.Managed.{Managed}
 use Rattle.client_model.specs.declared.interfaces.Iface.{Iface}
-use Rattle.client_model.specs.Interfaces.{is_up, index_of}
-use Rattle.client_model.specs.Turns.{Life, life_after}
-use Rattle.client_model.specs.Opening.{opened_life}
-use Rattle.client_model.specs.WantedRows.{network_of, is_within, metric_of, is_kept, router_routes, address_rows, static_rows, local_net, local_rows, iface_rows}
+use Rattle.script_model.specs.IfaceSets.{is_up}
+use Rattle.net_types.specs.Networks.{network_of, is_within}
+use Rattle.client_model.specs.WantedRows.{metric_of, is_kept, router_routes, address_rows, static_rows, local_net, local_rows, iface_rows}
 use Rattle.client_model.proofs.SameInterfaces.{managed_in}
-use Rattle.client_model.proofs.HostTableRows.{has_filter}
-use Rattle.evidence.specs.Entries.{Entry, shown_after}
-use Rattle.evidence.specs.Inputs.{Site}
-use Rattle.evidence.specs.LinkLocalBasis.{LinkLocalBasis}
-use Rattle.evidence.specs.Laws.{Basis, AddressesHaveBasis}
-use Rattle.evidence.proofs.Offers.{all_both, number_of}
-use Rattle.evidence.proofs.Phases.{HeldSince, Carries}
-use Rattle.evidence.proofs.Ticks.{Bears}
+use Rattle.host_model.proofs.HostTableRows.{has_filter}
+use Rattle.turn_model.specs.Turns.{Life}
+use Rattle.turn_model.specs.Lives.{life_after}
+use Rattle.evidence_words.specs.Entries.{Entry, opening_entry, shown_of}
+use Rattle.evidence_words.specs.Inputs.{Site}
+use Rattle.local_evidence.specs.LinkLocalBasis.{Undisturbed, StrongBasis}
+use Rattle.evidence.specs.Laws.{Basis, site_of, StrongestBasis, AddressesHave, AddressesHaveBasis}
+use Rattle.local_evidence.proofs.Weakening.{local_weaker}
+use Rattle.evidence_words.proofs.Offers.{number_of}
+use Rattle.local_evidence.proofs.Phases.{HeldSince, Carries}
+use Rattle.local_evidence.proofs.Ticks.{Bears}
 use Rattle.evidence.proofs.Keeping.{Keeps, at_site}
-use Rattle.evidence.proofs.Turns.{KeptOne, KeptAfter, turns_kept, own_stays, opening_kept}
+use Rattle.evidence.proofs.Turns.{KeptOne, KeptAfter, turns_kept, own_stays, opening_kept, opened_own}
 
 either : (a b : Bool) → (a || b) ≡ true → (a ≡ true) ⊎ (b ≡ true)
 either true b e = inl refl
@@ -62,9 +65,9 @@ record Giver (P : Iface → Type 0) (row : HostRow) : Type 0 where
 giver : (P : Iface → Type 0) (row : HostRow) (ifaces : List Iface) → AllByRecursion P ifaces
     → has_row (flat_map iface_rows ifaces) row ≡ true → Giver P row
 giver P row [] all has = cc
-giver P row (f ∷ ifaces) all has =
-    elim (either _ _ (sym (list_any-append _ (iface_rows f) (flat_map iface_rows ifaces)) ∙ has)) [
-      | inl here ↦ record { iface = f; is_such = all.0; gives = here }
+giver P row (iface ∷ ifaces) all has =
+    elim (either _ _ (sym (list_any-append _ (iface_rows iface) (flat_map iface_rows ifaces)) ∙ has)) [
+      | inl here ↦ record { iface = iface; is_such = all.0; gives = here }
       | inr later ↦ giver P row ifaces all.1 later
     ]
 
@@ -126,13 +129,13 @@ module _ (index : IfIndex) (net : Net) where
   same_net iface other same = ap row_net same
 
   module _ (site : Site) (clean : Type 0) (past : List Entry) where
-    since_basis : (addr : Ip4) (last : Option ℕ) → net ≡ Family.V4 (local_net addr) → IsChoice addr → HeldSince site addr last past
-        → LinkLocalBasis site net past
+    since_basis : (addr : Ip4) (last : Option ℕ) → net ≡ Family.V4 (local_net addr) → IsChoice addr → HeldSince (Undisturbed site) site addr last past
+        → StrongBasis site net past
     since_basis addr last gives range h =
         record { addr = addr; gives = gives; in_range = range; probed = h.probed; alone = h.alone; apart = h.apart }
 
     phase_basis : (chosen addr : Ip4) (phase : Phase) → detection.held_in chosen phase ≡ Some addr → net ≡ Family.V4 (local_net addr)
-        → IsChoice chosen → Carries site chosen clean phase past → LinkLocalBasis site net past
+        → IsChoice chosen → Carries (Undisturbed site) site chosen clean phase past → StrongBasis site net past
     phase_basis chosen addr (Probing n due) held gives range c = cc
     phase_basis chosen addr (Announcing due last) held gives range c =
         let same : chosen ≡ addr = cc in since_basis chosen last (gives ∙ ap (λ a. Family.V4 (local_net a)) (sym same)) range c
@@ -141,9 +144,9 @@ module _ (index : IfIndex) (net : Net) where
     phase_basis chosen addr Over held gives range c = cc
 
     state_basis : (addr : Ip4) (state : State) → held_in state ≡ Some addr → net ≡ Family.V4 (local_net addr)
-        → Bears site clean state past → LinkLocalBasis site net past
+        → Bears (Undisturbed site) site clean state past → StrongBasis site net past
     state_basis addr Off held gives b = cc
-    state_basis addr (Armed due waits_lease probes) held gives b = cc
+    state_basis addr (Armed due waits fallback) held gives b = cc
     state_basis addr (Chosen conflicts acd) held gives b = phase_basis acd.addr addr acd.phase held gives b.0 b.1
     state_basis addr (Waiting conflicts due) held gives b = cc
 
@@ -153,60 +156,75 @@ module _ (index : IfIndex) (net : Net) where
   both_up false true h = cc
   both_up false false h = cc
 
-  iface_basis : (own : List Mac) (start : Bool) (clean : Type 0) (f : Iface) (past : List Entry) → Keeps (at_site own start f.managed) clean f past
-      → has_row (iface_rows f) (Addr index net) ≡ true → (index ≡ f.managed.spec.index) × Basis (at_site own start f.managed) net past
-  iface_basis own start clean f past k has =
-      by_place (either _ _ (sym (list_any-append _ (static_rows f.managed.spec.index (f.up && not f.stopped) f.managed.conf.line)
-      (local_rows f.managed.spec.index (held_in f.local.state))) ∙ has))
+  iface_basis : (own : List Mac) (start : Bool) (clean : Type 0) (iface : Iface) (past : List Entry) → Keeps (at_site own start iface.managed) clean iface past
+      → has_row (iface_rows iface) (Addr index net) ≡ true → (index ≡ iface.managed.spec.index) × StrongestBasis (at_site own start iface.managed) net past
+  iface_basis own start clean iface past k has =
+      by_place (either _ _ (sym (list_any-append _ (static_rows iface.managed.spec.index (iface.up && not iface.stopped) iface.managed.conf.line)
+      (local_rows iface.managed.spec.index (held_in iface.local.state))) ∙ has))
     where
-      by_place : (has_row (static_rows f.managed.spec.index (f.up && not f.stopped) f.managed.conf.line) (Addr index net) ≡ true)
-          ⊎ (has_row (local_rows f.managed.spec.index (held_in f.local.state)) (Addr index net) ≡ true)
-          → (index ≡ f.managed.spec.index) × Basis (at_site own start f.managed) net past
+      by_place : (has_row (static_rows iface.managed.spec.index (iface.up && not iface.stopped) iface.managed.conf.line) (Addr index net) ≡ true)
+          ⊎ (has_row (local_rows iface.managed.spec.index (held_in iface.local.state)) (Addr index net) ≡ true)
+          → (index ≡ iface.managed.spec.index) × StrongestBasis (at_site own start iface.managed) net past
       by_place (inl h) =
-          let g = of_line f.managed.spec.index (f.up && not f.stopped) f.managed.conf.line h in
-          let on : (f.up ≡ true) × (f.stopped ≡ false) = both_up f.up f.stopped g.0 in (
-            same_index f.managed.spec.index (Family.V4 g.1.the_line.address) g.1.same,
+          let g = of_line iface.managed.spec.index (iface.up && not iface.stopped) iface.managed.conf.line h in
+          let on : (iface.up ≡ true) × (iface.stopped ≡ false) = both_up iface.up iface.stopped g.0 in (
+            same_index iface.managed.spec.index (Family.V4 g.1.the_line.address) g.1.same,
             inl (record {
               line = g.1.the_line;
               of_line = g.1.is_line;
-              gives = same_net f.managed.spec.index (Family.V4 g.1.the_line.address) g.1.same;
+              gives = same_net iface.managed.spec.index (Family.V4 g.1.the_line.address) g.1.same;
               up = sym (k.carrier on.1) ∙ on.0;
               running = sym k.stopped ∙ on.1;
             }),
           )
       by_place (inr h) =
-          let g = of_local f.managed.spec.index (held_in f.local.state) h in (
-            same_index f.managed.spec.index (Family.V4 (local_net g.0)) g.2,
-            inr (state_basis (at_site own start f.managed) clean past g.0 f.local.state g.1 (same_net f.managed.spec.index (Family.V4 (local_net g.0)) g.2) k.bears),
+          let g = of_local iface.managed.spec.index (held_in iface.local.state) h in (
+            same_index iface.managed.spec.index (Family.V4 (local_net g.0)) g.2,
+            inr (state_basis (at_site own start iface.managed) clean past g.0 iface.local.state g.1 (same_net iface.managed.spec.index (Family.V4 (local_net g.0)) g.2) k.bears),
           )
 
 -- ---- the law
 
-all_managed : (ifaces : List Iface) (managed : List Managed) → managed_in ifaces ≡ managed → AllByRecursion (λ f. Contains managed f.managed) ifaces
+all_managed : (ifaces : List Iface) (managed : List Managed) → managed_in ifaces ≡ managed → AllByRecursion (λ iface. Contains managed iface.managed) ifaces
 all_managed ifaces managed same =
     mapped ifaces (subst (λ ms. AllByRecursion (Contains managed) ms) (sym same) (recursion_from_All (Contains managed) managed (All-contains_itself managed)))
   where
-    mapped : (fs : List Iface) → AllByRecursion (Contains managed) (managed_in fs) → AllByRecursion (λ f. Contains managed f.managed) fs
+    mapped : (fs : List Iface) → AllByRecursion (Contains managed) (managed_in fs) → AllByRecursion (λ iface. Contains managed iface.managed) fs
     mapped [] h = tt
-    mapped (f ∷ fs) h = (h.0, mapped fs h.1)
+    mapped (iface ∷ fs) h = (h.0, mapped fs h.1)
 
-pub have_basis : AddressesHaveBasis
-have_basis managed opening mets numbered answered index net has =
+-- a link-local address was undisturbed from the turn of its first probe on
+pub have_strong_basis : AddressesHave StrongestBasis
+have_strong_basis managed opening mets numbered is made index net has =
     let start : ℕ → Bool = λ number. is_up opening.begin.up number in
-    let life : Life = life_after managed (opened_life managed opening) mets in
-    let shown : ℕ → List Entry = λ number. shown_after managed number (opened_life managed opening) [] mets in
+    let life : Life = life_after opening.life mets in
+    let shown : List Entry = shown_of opening mets in
     let all : KeptAfter start managed life shown =
-    turns_kept start managed numbered mets (opened_life managed opening) (λ number. []) (opening_kept managed opening) answered in
+    turns_kept start managed numbered mets opening.life (opening_entry opening ∷ []) (opening_kept managed opening is) made in
     let rows : List HostRow = flat_map iface_rows life.client.ifaces in
     let kept : has_row (filter (is_kept rows) rows) (Addr index net) ≡ true = sym (in_order_has (filter (is_kept rows) rows) (Addr index net)) ∙ has in
-    let g = giver (λ f. KeptOne start life.client.own life.unsent shown f × Contains managed f.managed) (Addr index net) life.client.ifaces
-    (all_both _ _ _ (λ f k c. (k, c)) life.client.ifaces all.kept (all_managed life.client.ifaces managed all.of_managed))
+    let g = giver (λ iface. KeptOne start life.client.own life.unsent shown iface × Contains managed iface.managed) (Addr index net) life.client.ifaces
+    (all_both _ _ _ (λ iface k c. (k, c)) life.client.ifaces all.kept (all_managed life.client.ifaces managed all.of_managed))
     (second _ _ (sym (has_filter (is_kept rows) rows (Addr index net)) ∙ kept)) in
-    let b = iface_basis index net life.client.own (start (number_of g.iface.managed)) _ g.iface (shown (index_of g.iface)) g.is_such.0 g.gives in
+    let b = iface_basis index net life.client.own (start (number_of g.iface.managed)) _ g.iface shown g.is_such.0 g.gives in
     record {
       holder = g.iface.managed;
       among = g.is_such.1;
       is_here = b.0;
-      basis = subst (λ own. Basis (at_site own (start (number_of g.iface.managed)) g.iface.managed) net (shown (index_of g.iface)))
-          (own_stays managed mets (opened_life managed opening)) b.1;
+      basis = subst (λ own. StrongestBasis (at_site own (start (number_of g.iface.managed)) g.iface.managed) net shown)
+          (own_stays managed mets opening.life made ∙ opened_own managed opening is) b.1;
+    }
+
+weaker : (site : Site) (net : Net) (past : List Entry) → StrongestBasis site net past → Basis site net past
+weaker site net past (inl static) = inl static
+weaker site net past (inr local) = inr (local_weaker site net past local)
+
+pub have_basis : AddressesHaveBasis
+have_basis managed opening mets numbered is made index net has =
+    let strong = have_strong_basis managed opening mets numbered is made index net has in
+    record {
+      holder = strong.holder;
+      among = strong.among;
+      is_here = strong.is_here;
+      basis = weaker (site_of managed opening strong.holder) net (shown_of opening mets) strong.basis;
     }

@@ -5,24 +5,23 @@ use Rattle.net_types.specs.declared.address.Net.{Net}
 use Rattle.net_types.specs.declared.interface.IfIndex.{IfIndex}
 use Rattle.world.specs.declared.rows.HostRow.{HostRow}
 use Rattle.world.specs.declared.rows.HostRow.TheVariants.{Addr}
-use Rattle.world.specs.declared.wakes.Begin.{Begin}
-use Rattle.world.specs.HostCalls.{HostTold}
 use Rattle.world.specs.LinkCalls.{Given}
 use Rattle.world.specs.RowOrder.{has_row}
-use Rattle.client_model.specs.declared.interfaces.Managed.{Managed}
-use Rattle.client_model.specs.Clients.{is_managed, rows_of}
-use Rattle.client_model.specs.Turns.{Met}
-use Rattle.client_model.specs.Opening.{OpeningMet}
-use Rattle.client_model.specs.ToldDevices.{Failing, told_turn, told_turns, told_opening}
-use Rattle.client_model.specs.HostTable.{InRowOrder, NoneFails, unknown_table}
-use Rattle.client_model.specs.HostInLife.{Running, running_opened, running_turned, running_after, life_run, table_of}
+use Rattle.settings.specs.declared.interfaces.Managed.{Managed}
+use Rattle.settings.specs.ManagedRows.{is_managed}
+use Rattle.host_model.specs.HostTable.{InRowOrder, NoneFails, unknown_table}
+use Rattle.client_model.specs.Clients.{rows_of}
+use Rattle.device_calls.specs.Worlds.{World}
+use Rattle.turn_model.specs.Lives.{OpeningMet, Met}
+use Rattle.turn_model.specs.Foretold.{ran_turn, met_of, told_turns, opening_of}
+use Rattle.turn_model.specs.HostInLife.{Running, running_opened, running_turned, running_after, life_run, table_of}
 use Rattle.evidence.specs.Laws.{AreNumbered, HasBasis}
 
 -- what the turns of a life meet
-abbrev pub mets_of : List Managed → Failing → Running → List Given → List Met
-mets_of managed failing running [] = []
-mets_of managed failing running (given ∷ coming) =
-    (told_turn managed failing running.life running.told given).met ∷ mets_of managed failing (running_turned managed failing running given) coming
+abbrev pub mets_of : List Managed → Running → List Given → List Met
+mets_of managed running [] = []
+mets_of managed running (given ∷ coming) =
+    met_of given (ran_turn managed running.life running.world given) ∷ mets_of managed (running_turned managed running given) coming
 
 -- Each address among the rows of managed interfaces has its basis.
 abbrev pub RestOnEvidence : List Managed → OpeningMet → List Met → List HostRow → Type 0
@@ -31,25 +30,23 @@ RestOnEvidence managed opening mets rows = (index : IfIndex) (net : Net) → is_
 
 -- so after an opening in which no host call failed
 abbrev pub OpeningRests : Type 0
-OpeningRests = (managed : List Managed) (failing : Failing) (begin : Begin) (host : HostTold) → AreNumbered managed → InRowOrder host.rows
-    → let after = running_opened managed failing begin host in
-    NoneFails managed failing.host (rows_of after.life.client) (unknown_table host)
-    → RestOnEvidence managed (told_opening managed failing.host begin host).answer [] after.told.host.rows
+OpeningRests = (managed : List Managed) (world : World) → AreNumbered managed → InRowOrder world.host.told.rows
+    → let after = running_opened managed world in
+    NoneFails managed world.host.failing (rows_of after.life.client) (unknown_table world.host.told)
+    → RestOnEvidence managed (opening_of managed world) [] after.world.host.told.rows
 
 -- and after each turn in which none failed
 abbrev pub TurnsRest : Type 0
-TurnsRest = (managed : List Managed) (failing : Failing) (begin : Begin) (host : HostTold) (earlier : List Given) (given : Given)
-    → AreNumbered managed → InRowOrder host.rows
-    → let before = life_run managed failing begin host earlier in
-    let after = running_turned managed failing before given in
-    NoneFails managed failing.host (rows_of after.life.client) (table_of before)
-    → RestOnEvidence managed (told_opening managed failing.host begin host).answer
-    (mets_of managed failing (running_opened managed failing begin host) (earlier ++ given ∷ [])) after.told.host.rows
+TurnsRest = (managed : List Managed) (world : World) (earlier : List Given) (given : Given) → AreNumbered managed → InRowOrder world.host.told.rows
+    → let before = life_run managed world earlier in
+    let after = running_turned managed before given in
+    NoneFails managed world.host.failing (rows_of after.life.client) (table_of before)
+    → RestOnEvidence managed (opening_of managed world) (mets_of managed (running_opened managed world) (earlier ++ given ∷ [])) after.world.host.told.rows
 
 -- What the devices foretell is what these turns meet, as far as the life goes on, and then the turns to come.
 abbrev pub ForetoldAreMet : Type 0
-ForetoldAreMet = (managed : List Managed) (failing : Failing) (running : Running) (earlier : List Given) (given : Given) (coming : List Given)
-    → length earlier < length (told_turns managed failing running.life running.told (earlier ++ given ∷ coming))
-    → let after = running_after managed failing (earlier ++ given ∷ []) running in
-    told_turns managed failing running.life running.told (earlier ++ given ∷ coming)
-    ≡ mets_of managed failing running (earlier ++ given ∷ []) ++ told_turns managed failing after.life after.told coming
+ForetoldAreMet = (managed : List Managed) (running : Running) (earlier : List Given) (given : Given) (coming : List Given)
+    → length earlier < length (told_turns managed running.life running.world (earlier ++ given ∷ coming))
+    → let after = running_after managed (earlier ++ given ∷ []) running in
+    told_turns managed running.life running.world (earlier ++ given ∷ coming)
+    ≡ mets_of managed running (earlier ++ given ∷ []) ++ told_turns managed after.life after.world coming

@@ -1,7 +1,3 @@
-pub mod Entries
-pub mod Inputs
-pub mod Probed
-pub mod LinkLocalBasis
 pub mod StaticBasis
 pub mod Laws
 pub mod HeldAddresses

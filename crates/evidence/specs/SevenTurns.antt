@@ -7,11 +7,17 @@ use Rattle.net_types.specs.declared.address.Net.TheVariants.{V4}
 use Rattle.frame_link.specs.Packets.{probe_text, announcement_text}
 use Rattle.world.specs.declared.wakes.Event.{Event}
 use Rattle.world.specs.declared.wakes.Event.TheVariants.{Frame, Quiet}
-use Rattle.client_model.specs.declared.interfaces.Managed.{Managed}
-use Rattle.client_model.specs.Turns.{Met}
-use Rattle.client_model.specs.Opening.{OpeningMet}
+use Rattle.settings.specs.declared.interfaces.Managed.{Managed}
+use Rattle.world.specs.LinkCalls.{Given}
+use Rattle.world.specs.StoreCalls.{store_holding}
+use Rattle.world.specs.StoreFails.{never_fails}
+use Rattle.device_calls.specs.Worlds.{World}
+use Rattle.turn_model.specs.Lives.{OpeningMet, Met}
+use Rattle.turn_model.specs.Foretold.{opening_of}
+use Rattle.turn_model.specs.HostInLife.{running_opened}
+use Rattle.evidence.specs.HeldAddresses.{mets_of}
 use Rattle.client_model.specs.WantedRows.{local_net}
-use Rattle.evidence.specs.Entries.{Entry}
+use Rattle.evidence_words.specs.Entries.{Entry}
 
 abbrev pub client_mac : Mac
 client_mac = record { bytes = 2 ∷ 0 ∷ 0 ∷ 0 ∷ 0 ∷ 1 ∷ [] }
@@ -36,37 +42,37 @@ interface = record {
   conf = record { nodhcp = true; noipv4ll = false; line = None };
 }
 
-abbrev pub opens : OpeningMet
-opens = record {
-  begin = record { at = 1000; salt = 0; up = 1 };
-  asides = None;
-  settled = None;
-  readings = [];
-  host = record { listing = None; outcomes = [] };
-}
-
-abbrev met : ℕ → Event → List ℕ → List Bool → Met
-met at event bytes taken = record {
-  wake = record { at = at; salt = 0; event = event };
-  bytes = bytes;
-  taken = taken;
-  host = record { listing = None; outcomes = [] };
-}
+abbrev given : ℕ → Event → List ℕ → Given
+given at event bytes = record { wake = record { at = at; salt = 0; event = event }; bytes = bytes }
 
 -- The choice; three probes; two announcements; a use by another host, which a third announcement answers.
-abbrev pub seven_turns : List Met
-seven_turns =
-    met 1000 Quiet [] []
-    ∷ met 1001 Quiet [] (true ∷ [])
-    ∷ met 2002 Quiet [] (true ∷ [])
-    ∷ met 3003 Quiet [] (true ∷ [])
-    ∷ met 5003 Quiet [] (true ∷ [])
-    ∷ met 7003 Quiet [] (true ∷ [])
-    ∷ met 8000 (Frame 1 42) (announcement_text other_mac chosen) (true ∷ [])
+abbrev pub seven_given : List Given
+seven_given =
+    given 1000 Quiet []
+    ∷ given 1001 Quiet []
+    ∷ given 2002 Quiet []
+    ∷ given 3003 Quiet []
+    ∷ given 5003 Quiet []
+    ∷ given 7003 Quiet []
+    ∷ given 8000 (Frame 1 42) (announcement_text other_mac chosen)
     ∷ []
 
+-- a link that takes every frame, an empty store, and a host that never tells its rows
+abbrev pub devices : World
+devices = record {
+  link = record { told = record { begin = record { at = 1000; salt = 0; up = 1 }; coming = seven_given; waits = 0; sends = 0; calls = [] }; failing = [] };
+  host = record { told = record { rows = []; calls = [] }; failing = 1 ∷ 2 ∷ 3 ∷ 4 ∷ 5 ∷ 6 ∷ 7 ∷ 8 ∷ [] };
+  store = record { told = store_holding []; failing = never_fails };
+}
+
+abbrev pub opens : OpeningMet
+opens = opening_of (interface ∷ []) devices
+
+abbrev pub seven_turns : List Met
+seven_turns = mets_of (interface ∷ []) (running_opened (interface ∷ []) devices) seven_given
+
 abbrev shows : ℕ → Event → List ℕ → List ℕ → Entry
-shows at event bytes frame = record { moment = at; event = event; bytes = bytes; offers = record { bytes = frame; taken = true } ∷ [] }
+shows at event bytes frame = record { moment = at; event = event; bytes = bytes; offers = record { iface = 1; bytes = frame; taken = true } ∷ [] }
 
 -- what they show
 abbrev pub seven_shown : List Entry
@@ -77,5 +83,6 @@ seven_shown =
     ∷ shows 3003 Quiet [] (probe_text client_mac chosen)
     ∷ shows 2002 Quiet [] (probe_text client_mac chosen)
     ∷ shows 1001 Quiet [] (probe_text client_mac chosen)
+    ∷ record { moment = 1000; event = Quiet; bytes = []; offers = [] }
     ∷ record { moment = 1000; event = Quiet; bytes = []; offers = [] }
     ∷ []

@@ -2,9 +2,9 @@
 use Rattle.std.specs.Prelude.{◌≡◌, true, false, List, Some}
 use Rattle.net_types.specs.declared.address.Net.{Net}
 use Rattle.net_types.specs.declared.address.Net.TheVariants.{V4}
-use Rattle.client_model.specs.declared.interfaces.StaticLine.{StaticLine}
-use Rattle.evidence.specs.Entries.{Entry}
-use Rattle.evidence.specs.Inputs.{Site, has_carrier, is_stopped}
+use Rattle.settings.specs.declared.interfaces.StaticLine.{StaticLine}
+use Rattle.evidence_words.specs.Entries.{Entry}
+use Rattle.evidence_words.specs.Inputs.{Site, has_carrier, is_stopped}
 
 -- The static line of the interface gives this very address, its carrier is up, and no stop came.
 pub record StaticBasis (site : Site) (net : Net) (past : List Entry) : Type 0 where

@@ -2,12 +2,11 @@ ghost use Rattle.std.specs.Prelude.{◌≡◌, ◌∷◌, List, [], true};
 ghost use Rattle.world.specs.RowOrder.{has_row};
 ghost use Rattle.world.specs.declared.rows.HostRow.TheVariants.{Addr};
 ghost use Rattle.client_model.specs.Clients.{rows_of};
-ghost use Rattle.client_model.specs.Turns.{life_after};
-ghost use Rattle.client_model.specs.Opening.{opened_life};
-ghost use Rattle.client_model.specs.Lives.{AllAnswered};
+ghost use Rattle.turn_model.specs.Lives.{IsOpening, life_after};
+ghost use Rattle.evidence_words.specs.Entries.{shown_of};
 ghost use Rattle.evidence.specs.HeldAddresses.{ForetoldAreMet, OpeningRests, TurnsRest};
-ghost use Rattle.evidence.specs.Laws.{AddressesHaveBasis, CountedAreNumbered, NeedsThreeProbes, shown_of, site_of};
-ghost use Rattle.evidence.specs.LinkLocalBasis.{LinkLocalBasis};
+ghost use Rattle.evidence.specs.Laws.{AddressesHaveBasis, AreMade, CountedAreNumbered, site_of};
+ghost use Rattle.local_evidence.specs.LinkLocalBasis.{LinkLocalBasis};
 ghost use Rattle.evidence.specs.SevenTurns.{chosen_net, interface, opens, seven_shown, seven_turns};
 
 /// Law: over every list of turns and outcomes, each address that the client wants has its basis in what the life showed
@@ -30,15 +29,11 @@ pub fn counted_interfaces_are_numbered()
     ensures { CountedAreNumbered }
 {}
 
-/// Law: no link-local address has a basis before the link took three probes for it (RFC 5227, section 2.1.1).
-pub fn needs_three_probes()
-    ensures { NeedsThreeProbes }
-{}
-
 /// Law: a run of seven turns in which the client wants a link-local address, with its basis written out.
 pub fn seven_turns_give_a_basis()
-    ensures answered { AllAnswered (interface ∷ []) (opened_life (interface ∷ []) opens) seven_turns }
-    ensures wanted { has_row (rows_of (life_after (interface ∷ []) (opened_life (interface ∷ []) opens) seven_turns).client) (Addr interface.spec.index chosen_net) ≡ true }
-    ensures shown { shown_of (interface ∷ []) opens seven_turns interface ≡ seven_shown }
+    ensures opened { IsOpening (interface ∷ []) opens }
+    ensures made { AreMade (interface ∷ []) opens.life seven_turns }
+    ensures wanted { has_row (rows_of (life_after opens.life seven_turns).client) (Addr interface.spec.index chosen_net) ≡ true }
+    ensures shown { shown_of opens seven_turns ≡ seven_shown }
     ensures basis { LinkLocalBasis (site_of (interface ∷ []) opens interface) chosen_net seven_shown }
 {}

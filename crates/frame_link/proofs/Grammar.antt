@@ -4,7 +4,7 @@ use Rattle.std.proofs.Common.{◌≡◌, ℕ, ◌+◌, ◌≤◌, Bool, true, fa
 use Rattle.std.proofs.lemmas.Bool.{ltb-false, leb-true, eqb-true, and_parts}
 use Rattle.std.proofs.lemmas.List.{take-append-drop, drop-drop, length-take, length-drop, get_or-drop}
 use Rattle.std.proofs.lemmas.Nat.{be_bytes_2, be_bytes_4}
-use Rattle.net_types.specs.Sum.{AreBytes}
+use Rattle.net_types.specs.Marks.{AreBytes}
 use Rattle.net_types.proofs.Checksum.{take_bytes, drop_bytes}
 use Rattle.frame_link.specs.declared.arp.ArpView.{ArpView}
 use Rattle.frame_link.specs.Fields.{cut, word_in, ip4_in, mac_in, word_text, ip4_text}

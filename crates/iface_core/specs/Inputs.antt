@@ -2,7 +2,10 @@
 use Rattle.std.specs.Prelude.{ℕ, List, [], length}
 use Rattle.world.specs.declared.wakes.Event.{Event}
 use Rattle.world.specs.declared.wakes.Event.TheVariants.{Frame, Carrier, Duplicate, Release, Rebind, Stop, Quiet}
-use Rattle.client_model.specs.Interfaces as run
+use Rattle.net_types.specs.declared.address.Mac.{Mac}
+use Rattle.client_model.specs.declared.interfaces.Iface.{Iface}
+use Rattle.client_model.specs.IfaceSteps.{IfaceStep}
+use Rattle.client_model.specs.IfaceTurns as run
 use Rattle.iface_core.specs.declared.inputs.TurnInput.{TurnInput}
 use Rattle.iface_core.specs.declared.inputs.TurnInput.TheVariants as given
 use Rattle.iface_core.specs.declared.inputs.Turn.{Turn}
@@ -26,5 +29,9 @@ bytes_of (given.Rebind iface) = []
 bytes_of given.Stop = []
 bytes_of given.Quiet = []
 
-abbrev pub turn_of : Turn → run.TurnInput
+abbrev pub turn_of : Turn → run.Turn
 turn_of turn = record { at = turn.at; salt = turn.salt; unsent = turn.unsent; event = event_of turn.input; bytes = bytes_of turn.input }
+
+-- what an interface makes of the input of a turn
+abbrev pub input_of : List Mac → Turn → Iface → IfaceStep
+input_of own turn iface = run.input_step own turn.at turn.salt (event_of turn.input) (bytes_of turn.input) iface

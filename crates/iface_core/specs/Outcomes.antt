@@ -1,11 +1,12 @@
 -- What an interface asks of the outside, in the words of the definitions.
 use Rattle.std.specs.Prelude.{◌≡◌, List, ◌++◌, map}
 use Rattle.client_model.specs.declared.interfaces.Iface.{Iface}
-use Rattle.client_model.specs.Interfaces.{IfaceStep}
+use Rattle.client_model.specs.declared.steps.News.{News}
+use Rattle.client_model.specs.IfaceSteps.{IfaceStep, news_of}
 use Rattle.client_model.specs.Clients as client
 use Rattle.client_model.specs.Clients.{sends_of}
-use Rattle.iface_core.specs.declared.sendings.Sending.{Sending}
-use Rattle.iface_core.specs.declared.sendings.Outs.{Outs}
+use Rattle.iface_core.specs.declared.outs.Sending.{Sending}
+use Rattle.iface_core.specs.declared.outs.Outs.{Outs}
 
 -- a frame without where it lies in memory
 abbrev pub sending_of : Sending → client.Sending
@@ -14,7 +15,26 @@ sending_of sending = record { iface = sending.iface; bytes = sending.bytes.items
 abbrev pub sends_in : Outs → List client.Sending
 sends_in outs = map sending_of outs.sends.items
 
--- The interface goes on as in this step, and the step's frames are offered after those before.
-pub record Goes (step : IfaceStep) (f : Iface) (before after : List client.Sending) : Type 0 where
-  pub goes_on : f ≡ step.iface
-  pub offers : after ≡ before ++ sends_of step
+-- the frames to offer, and what is new
+pub record Asked : Type 0 where
+  pub sends : List client.Sending
+  pub news : List News
+
+abbrev pub asked_in : Outs → Asked
+asked_in outs = record { sends = sends_in outs; news = outs.news.items }
+
+-- These frames are offered after those before.
+pub record Offers (sends : List client.Sending) (before after : Asked) : Type 0 where
+  pub offers : after.sends ≡ before.sends ++ sends
+  pub tells_no_more : after.news ≡ before.news
+
+-- This is new after what was new before.
+pub record Tells (news : List News) (before after : Asked) : Type 0 where
+  pub offers_no_more : after.sends ≡ before.sends
+  pub tells : after.news ≡ before.news ++ news
+
+-- The interface goes on as in this step, and the step's frames and news come after those before.
+pub record Goes (step : IfaceStep) (iface : Iface) (before after : Asked) : Type 0 where
+  pub goes_on : iface ≡ step.iface
+  pub offers : after.sends ≡ before.sends ++ sends_of step
+  pub tells : after.news ≡ before.news ++ news_of step

@@ -1,16 +1,16 @@
-//! One managed interface in a life: its carrier, its link-local machine, and what a turn makes of them.
+//! One managed interface in a life: its carrier, its machines, and what a turn makes of them.
 //!
 //! `iface_open` at the start of a life, then `iface_turn` in each turn. Moments are in milliseconds since 1970.
 #![tactic(auto)]
 
 mod inputs;
 mod interfaces;
-mod sendings;
+mod outs;
 mod turns;
 
 pub use inputs::{Turn, TurnInput};
-pub use interfaces::{contains, iface_due, iface_held, iface_open};
-pub use sendings::{Outs, Sending};
+pub use interfaces::{contains, iface_due, iface_held, iface_open, machine_due};
+pub use outs::{Outs, Sending};
 pub use turns::{iface_input, iface_tick, iface_turn, iface_unsent};
 
 #[cfg(test)]

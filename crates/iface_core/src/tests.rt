@@ -1,6 +1,6 @@
 use crate::{Outs, Turn, TurnInput, iface_due, iface_held, iface_open, iface_turn};
-use client_model::{IfConf, Managed};
 use net_types::{IfIndex, IfSpec, Mac, Name};
+use settings::{IfConf, Managed};
 use std::test::Fail;
 
 const MANAGED: Managed = Managed {
@@ -23,8 +23,8 @@ const MANAGED: Managed = Managed {
 
 #[test]
 fn a_failed_probe_is_sent_anew(rt: HostRuntime) -> Result<(), Fail> {
-    let mut f = iface_open(&MANAGED, 1, 0);
     let mut outs = Outs::new(rt.alloc());
+    let mut iface = iface_open(&MANAGED, 1, 0, &mut outs)?;
     let turn = Turn {
         at: 0,
         salt: 0,
@@ -37,12 +37,12 @@ fn a_failed_probe_is_sent_anew(rt: HostRuntime) -> Result<(), Fail> {
         unsent: 1,
         ..turn
     };
-    iface_turn(&mut f, &turn, &[MANAGED.spec.mac], &mut outs)?;
-    iface_turn(&mut f, &first, &[MANAGED.spec.mac], &mut outs)?;
-    assert_eq!(rt; iface_due(&f), Some(1002));
-    iface_turn(&mut f, &anew, &[MANAGED.spec.mac], &mut outs)?;
+    iface_turn(&mut iface, &turn, &[MANAGED.spec.mac], &mut outs)?;
+    iface_turn(&mut iface, &first, &[MANAGED.spec.mac], &mut outs)?;
+    assert_eq!(rt; iface_due(&iface), Some(1002));
+    iface_turn(&mut iface, &anew, &[MANAGED.spec.mac], &mut outs)?;
     assert_eq!(rt; outs.sends.len(), 1);
-    assert_eq!(rt; iface_due(&f), Some(1003));
-    assert_eq!(rt; iface_held(&f), None);
+    assert_eq!(rt; iface_due(&iface), Some(1003));
+    assert_eq!(rt; iface_held(&iface), None);
     Ok(())
 }

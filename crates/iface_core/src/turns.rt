@@ -1,13 +1,17 @@
-ghost use Rattle.std.specs.Prelude.{◌≡◌, ◌==◌, ◌<◌, ◌^◌, OnOk};
+ghost use Rattle.std.specs.Prelude.{◌≡◌, ◌==◌, ◌<◌, ◌^◌, OnOk, true};
+ghost use Rattle.machine.specs.Moment.{is_due};
 ghost use Rattle.world.specs.Rows.{IsInterface};
+ghost use Rattle.client_model.specs.IfaceSteps.{index_of};
+ghost use Rattle.client_model.specs.LocalSteps.{local_hears};
 ghost use Rattle.client_model.specs.Interfaces as run;
-ghost use Rattle.iface_core.specs.Inputs.{event_of, bytes_of, turn_of};
-ghost use Rattle.iface_core.specs.Outcomes.{Goes, sends_in};
+ghost use Rattle.client_model.specs.IfaceTurns.{arp_heard, hears, iface_turned};
+ghost use Rattle.iface_core.specs.Inputs.{input_of, turn_of};
+ghost use Rattle.iface_core.specs.Outcomes.{Goes, asked_in};
 
 use crate::inputs::{Turn, TurnInput};
-use crate::interfaces::{carry, contains, halt, iface_due, rebind, switch_off};
-use crate::sendings::Outs;
-use client_model::Iface;
+use crate::interfaces::{carry, contains, halt, machine_due, rebind, release};
+use crate::outs::Outs;
+use client_model::{Iface, TimedMachine};
 use frame_link::{ArpView, arp_of, eth_of};
 use ipv4ll::{ll_heard, ll_unsent};
 use machine::{Machine, has_come};
@@ -17,56 +21,79 @@ use net_types::{Mac, NoMemory};
 const ARP_KIND: u16 = 0x0806;
 
 /// A frame of the interface couldn't be sent in the turn before.
-pub fn iface_unsent(f: &mut Iface, at: u64, salt: u64)
+pub fn iface_unsent(iface: &mut Iface, at: u64, salt: u64)
     requires { at < 10 ^ 15 }
-    ensures { f.new ≡ run.restarted at salt f.old }
+    ensures { iface.new ≡ run.restarted at salt iface.old }
 {
-    ll_unsent(&mut f.local, at, salt);
+    ll_unsent(&mut iface.local, at, salt);
 }
 
-/// Ticks the machine of an interface.
-pub fn iface_tick(f: &mut Iface, at: u64, salt: u64, outs: &mut Outs) -> Result<(), NoMemory>
-    requires { at < 10 ^ 15 }
-    ensures { OnOk result (Goes (run.ticked at salt f.old) f.new (sends_in outs.old) (sends_in outs.new)) }
+/// Ticks a machine that is due.
+pub fn iface_tick(
+    iface: &mut Iface,
+    machine: TimedMachine,
+    at: u64,
+    salt: u64,
+    outs: &mut Outs,
+) -> Result<(), NoMemory>
+    requires at { at < 10 ^ 15 }
+    requires due { is_due (run.machine_due machine iface.old) at ≡ true }
+    ensures { OnOk result (Goes (run.machine_ticked machine at salt iface.old) iface.new (asked_in outs.old) (asked_in outs.new)) }
 {
-    let out = f.local.tick(at, salt);
-    outs.say(&f.managed.spec, out.arp)
+    match machine {
+        TimedMachine::LinkLocal => {
+            let out = iface.local.tick(at, salt);
+            outs.say_arp(&iface.managed.spec, out.arp)?;
+            outs.tell_local(out.news)
+        }
+    }
 }
 
-/// Handles an input, which may be another interface's. `own` holds the hardware addresses of all interfaces of the client.
+/// Ticks a machine where it is due; where it isn't, a tick would change nothing and say nothing.
+fn tick_if_due(
+    iface: &mut Iface,
+    machine: TimedMachine,
+    turn: &Turn<'_>,
+    outs: &mut Outs,
+) -> Result<(), NoMemory>
+    requires { turn.now.at < 10 ^ 15 }
+    ensures { OnOk result (Goes (run.machine_ticked machine turn.now.at turn.now.salt iface.old) iface.new (asked_in outs.old) (asked_in outs.new)) }
+{
+    if has_come(machine_due(iface, machine), turn.at) {
+        iface_tick(iface, machine, turn.at, turn.salt, outs)
+    } else {
+        Ok(())
+    }
+}
+
+/// Handles an input, which may be another interface's. `own` holds the hardware addresses of all interfaces of the host.
 /// After a stop every input counts as quiet.
 pub fn iface_input(
-    f: &mut Iface,
+    iface: &mut Iface,
     turn: &Turn<'_>,
     own: &[Mac],
     outs: &mut Outs,
 ) -> Result<(), NoMemory>
     requires { turn.now.at < 10 ^ 15 }
-    ensures { OnOk result (Goes (run.input_step own.now turn.now.at turn.now.salt (event_of turn.now.input) (bytes_of turn.now.input) f.old) f.new (sends_in outs.old) (sends_in outs.new)) }
+    ensures { OnOk result (Goes (input_of own.now turn.now iface.old) iface.new (asked_in outs.old) (asked_in outs.new)) }
 {
-    if f.stopped {
+    if iface.stopped {
         return Ok(());
     }
     match turn.input {
-        TurnInput::Frame { iface, bytes } if is_numbered(f, iface) => hear(
-            f, bytes, turn, own, outs,
-        ),
-        TurnInput::Carrier { iface, up } if is_numbered(f, iface) => {
-            carry(f, up, turn.at);
+        TurnInput::Frame {
+            iface: index,
+            bytes,
+        } if is_numbered(iface, index) => hear(iface, bytes, turn, own, outs),
+        TurnInput::Carrier { iface: index, up } if is_numbered(iface, index) => {
+            carry(iface, up, turn.at, outs)
+        }
+        TurnInput::Release { iface: index } if is_numbered(iface, index) => release(iface, outs),
+        TurnInput::Rebind { iface: index } if is_numbered(iface, index) => {
+            rebind(iface, turn.at);
             Ok(())
         }
-        TurnInput::Release { iface } if is_numbered(f, iface) => {
-            switch_off(f);
-            Ok(())
-        }
-        TurnInput::Rebind { iface } if is_numbered(f, iface) => {
-            rebind(f, turn.at);
-            Ok(())
-        }
-        TurnInput::Stop => {
-            halt(f);
-            Ok(())
-        }
+        TurnInput::Stop => halt(iface, outs),
         TurnInput::Frame { .. } => Ok(()),
         TurnInput::Carrier { .. } => Ok(()),
         TurnInput::Duplicate { .. } => Ok(()),
@@ -76,35 +103,36 @@ pub fn iface_input(
     }
 }
 
-fn is_numbered(f: &Iface, number: u32) -> bool
-    ensures { result ≡ (run.index_of f.now == number) }
+fn is_numbered(iface: &Iface, number: u32) -> bool
+    ensures { result ≡ (index_of iface.now == number) }
 {
-    f.managed.spec.index.number == number
+    iface.managed.spec.index.number == number
 }
 
 /// Hears a frame, of any destination.
 fn hear(
-    f: &mut Iface,
+    iface: &mut Iface,
     bytes: &[u8],
     turn: &Turn<'_>,
     own: &[Mac],
     outs: &mut Outs,
 ) -> Result<(), NoMemory>
     requires { turn.now.at < 10 ^ 15 }
-    ensures { OnOk result (Goes (run.hears own.now turn.now.at turn.now.salt f.old (run.arp_heard bytes.now)) f.new (sends_in outs.old) (sends_in outs.new)) }
+    ensures { OnOk result (Goes (hears own.now turn.now.at turn.now.salt bytes.now iface.old) iface.new (asked_in outs.old) (asked_in outs.new)) }
 {
     match arp_in_frame(bytes) {
         None => Ok(()),
         Some(arp) => {
-            let out = ll_heard(&mut f.local, &arp, turn.at, turn.salt, own);
-            outs.say(&f.managed.spec, out.arp)
+            let out = ll_heard(&mut iface.local, &arp, turn.at, turn.salt, own);
+            outs.say_arp(&iface.managed.spec, out.arp)?;
+            outs.tell_local(out.news)
         }
     }
 }
 
 /// The ARP packet that a frame carries.
 fn arp_in_frame(bytes: &[u8]) -> Option<ArpView>
-    ensures { result ≡ run.arp_heard bytes.now }
+    ensures { result ≡ arp_heard bytes.now }
 {
     match eth_of(bytes) {
         Some(frame) if frame.kind == ARP_KIND => arp_of(frame.body),
@@ -114,40 +142,28 @@ fn arp_in_frame(bytes: &[u8]) -> Option<ArpView>
 }
 
 /// A failed send of the turn before, where it was this interface's.
-fn restart(f: &mut Iface, turn: &Turn<'_>)
+fn restart(iface: &mut Iface, turn: &Turn<'_>)
     requires at { turn.now.at < 10 ^ 15 }
-    requires index { IsInterface (run.index_of f.old) }
-    ensures { f.new ≡ run.unsent_in turn.now.unsent turn.now.at turn.now.salt f.old }
+    requires index { IsInterface (index_of iface.old) }
+    ensures { iface.new ≡ run.unsent_in turn.now.unsent turn.now.at turn.now.salt iface.old }
 {
-    if contains(turn.unsent, f.managed.spec.index) {
-        iface_unsent(f, turn.at, turn.salt);
+    if contains(turn.unsent, iface.managed.spec.index) {
+        iface_unsent(iface, turn.at, turn.salt);
     }
 }
 
-/// Ticks the machine where it is due; where it isn't, a tick would change nothing and say nothing.
-fn tick_if_due(f: &mut Iface, turn: &Turn<'_>, outs: &mut Outs) -> Result<(), NoMemory>
-    requires { turn.now.at < 10 ^ 15 }
-    ensures { OnOk result (Goes (run.ticked turn.now.at turn.now.salt f.old) f.new (sends_in outs.old) (sends_in outs.new)) }
-{
-    if has_come(iface_due(f), turn.at) {
-        iface_tick(f, turn.at, turn.salt, outs)
-    } else {
-        Ok(())
-    }
-}
-
-/// A turn of an interface: a failed send of the turn before, the tick of its machine, then the input.
+/// A turn of an interface: a failed send of the turn before, the ticks of its machines, then the input.
 pub fn iface_turn(
-    f: &mut Iface,
+    iface: &mut Iface,
     turn: &Turn<'_>,
     own: &[Mac],
     outs: &mut Outs,
 ) -> Result<(), NoMemory>
     requires at { turn.now.at < 10 ^ 15 }
-    requires index { IsInterface (run.index_of f.old) }
-    ensures { OnOk result (Goes (run.iface_turned own.now (turn_of turn.now) f.old) f.new (sends_in outs.old) (sends_in outs.new)) }
+    requires index { IsInterface (index_of iface.old) }
+    ensures { OnOk result (Goes (iface_turned own.now (turn_of turn.now) iface.old) iface.new (asked_in outs.old) (asked_in outs.new)) }
 {
-    restart(f, turn);
-    tick_if_due(f, turn, outs)?;
-    iface_input(f, turn, own, outs)
+    restart(iface, turn);
+    tick_if_due(iface, TimedMachine::LinkLocal, turn, outs)?;
+    iface_input(iface, turn, own, outs)
 }

@@ -1,5 +1,5 @@
-use Rattle.std.proofs.Common.{ℕ, ◌+◌, ◌%◌, ◌≤◌, Bool, true, false, List, [], ◌∷◌, nat_lt, sym, subst, arith}
-use Rattle.std.specs.Prelude.{IfSome, if◌then◌else◌}
+use Rattle.std.proofs.Common.{ℕ, ◌+◌, ◌%◌, ◌≤◌, List, [], ◌∷◌, nat_lt, sym, subst, arith}
+use Rattle.std.specs.Prelude.{IfSome}
 use Rattle.machine.specs.Draw.{draw_of}
 use Rattle.machine.specs.Moment.{is_due}
 use Rattle.net_types.specs.declared.address.Mac.{Mac}
@@ -13,16 +13,12 @@ use Rattle.ipv4ll.specs.declared.link_local.LlNews.TheVariants.{Nothing}
 use Rattle.ipv4ll.specs.declared.link_local.State.{State}
 use Rattle.ipv4ll.specs.declared.link_local.State.TheVariants.{Off, Armed, Chosen, Waiting}
 use Rattle.ipv4ll.specs.Choice.{choice_of, IsChoice}
-use Rattle.ipv4ll.specs.Table.{moves, tells, choosing, after_conflict, one_more, said_row, tick_row, due_of}
+use Rattle.ipv4ll.specs.Table.{chooses, moves, tells, choosing, after_conflict, one_more, said_row, tick_row, due_of}
 use Rattle.ipv4ll.specs.History.{LlEvent, Arm, Tick, Heard, Unsent, Drop, ll_step, ll_after}
 use Rattle.ipv4ll.specs.Laws.{chosen_address, StepChooses, ChoosesInRange}
+use Rattle.net_types.proofs.CaseLaws.{gated}
 
 -- Every chosen address is in range.
-
--- what holds of both arms holds of the choice between them
-pub gated : {A : Type 0} (P : A → Type 0) (b : Bool) (x y : A) → P x → P y → P (if b then x else y)
-gated P true x y p q = p
-gated P false x y p q = q
 
 above : (x : ℕ) → 0xa9fe_0100 ≤ 0xa9fe_0100 + x % 65024
 above x = omega arith
@@ -55,8 +51,8 @@ said_in iface conflicts acd at salt GivenUp h = record { chosen = after_in iface
 
 row_in : (iface : IfIndex) (state : State) (at salt : ℕ) → InState state → StepChooses (tick_row iface state at salt)
 row_in iface Off at salt h = record { chosen = tt; said = tt }
-row_in iface (Armed due waits_lease probes) at salt h = record {
-  chosen = gated InState probes (choosing iface 0 at salt) Off (choice_in_range iface 0 salt) tt;
+row_in iface (Armed due waits fallback) at salt h = record {
+  chosen = gated InState (chooses fallback) (choosing iface 0 at salt) Off (choice_in_range iface 0 salt) tt;
   said = tt;
 }
 row_in iface (Chosen conflicts acd) at salt h =
@@ -66,21 +62,21 @@ row_in iface (Waiting conflicts due) at salt h = record { chosen = choice_in_ran
 
 pub step_in : (own : List Mac) (iface : IfIndex) (state : State) (event : LlEvent) → InState state
     → StepChooses (ll_step own (record { iface = iface; state = state }) event)
-step_in own iface Off (Arm at due waits_lease probes) h = record { chosen = tt; said = tt }
-step_in own iface (Armed due' waits probing) (Arm at due waits_lease probes) h = record { chosen = tt; said = tt }
-step_in own iface (Chosen conflicts acd) (Arm at due waits_lease probes) h = record { chosen = h; said = tt }
-step_in own iface (Waiting conflicts due') (Arm at due waits_lease probes) h = record { chosen = tt; said = tt }
+step_in own iface Off (Arm at due waits fallback) h = record { chosen = tt; said = tt }
+step_in own iface (Armed due' before other) (Arm at due waits fallback) h = record { chosen = tt; said = tt }
+step_in own iface (Chosen conflicts acd) (Arm at due waits fallback) h = record { chosen = h; said = tt }
+step_in own iface (Waiting conflicts due') (Arm at due waits fallback) h = record { chosen = tt; said = tt }
 step_in own iface state (Tick at salt) h =
     gated StepChooses (is_due (due_of state) at) (tick_row iface state at salt) (moves iface state (tells Nothing))
     (row_in iface state at salt h) (record { chosen = h; said = tt })
 step_in own iface Off (Heard arp at salt) h = record { chosen = tt; said = tt }
-step_in own iface (Armed due waits probing) (Heard arp at salt) h = record { chosen = tt; said = tt }
+step_in own iface (Armed due waits fallback) (Heard arp at salt) h = record { chosen = tt; said = tt }
 step_in own iface (Chosen conflicts acd) (Heard arp at salt) h =
     said_in iface conflicts (detection.acd_hears own acd arp at).acd at salt (detection.acd_hears own acd arp at).says
     (subst IsChoice (sym (addr-hears own acd arp at)) h)
 step_in own iface (Waiting conflicts due) (Heard arp at salt) h = record { chosen = tt; said = tt }
 step_in own iface Off (Unsent at salt) h = record { chosen = tt; said = tt }
-step_in own iface (Armed due waits probing) (Unsent at salt) h = record { chosen = tt; said = tt }
+step_in own iface (Armed due waits fallback) (Unsent at salt) h = record { chosen = tt; said = tt }
 step_in own iface (Chosen conflicts acd) (Unsent at salt) h = record { chosen = h; said = tt }
 step_in own iface (Waiting conflicts due) (Unsent at salt) h = record { chosen = tt; said = tt }
 step_in own iface state (Drop at) h = record { chosen = tt; said = tt }

@@ -12,15 +12,15 @@ use Rattle.arp_acd.specs.declared.detection.AcdSays.TheVariants.{Quiet, SayProbe
 use Rattle.arp_acd.specs.declared.detection.Phase.{Phase}
 use Rattle.arp_acd.specs.declared.detection.Phase.TheVariants.{Probing, Announcing, Held, Over}
 use Rattle.arp_acd.specs.Table as detection
-use Rattle.arp_acd.proofs.Standing.{split, mk}
+use Rattle.arp_acd.proofs.Standing.{mk}
+use Rattle.net_types.proofs.CaseLaws.{split, gated}
 use Rattle.ipv4ll.specs.declared.link_local.LinkLocal.{LinkLocal}
 use Rattle.ipv4ll.specs.declared.link_local.LlNews.TheVariants.{Nothing}
 use Rattle.ipv4ll.specs.declared.link_local.State.{State}
 use Rattle.ipv4ll.specs.declared.link_local.State.TheVariants.{Off, Armed, Chosen, Waiting}
-use Rattle.ipv4ll.specs.Table.{LlStep, moves, tells, choosing, after_conflict, one_more, said_row, tick_row}
+use Rattle.ipv4ll.specs.Table.{chooses, LlStep, moves, tells, choosing, after_conflict, one_more, said_row, tick_row}
 use Rattle.ipv4ll.specs.History.{LlEvent, Arm, Tick, Heard, Unsent, Drop, moment, ll_step, ll_after, is_conflict, conflict_at, arms_at, conflicts_met}
 use Rattle.ipv4ll.specs.Laws.{chosen_address, IsWithin, WaitsFromTenConflicts}
-use Rattle.ipv4ll.proofs.Chosen.{gated}
 
 -- The number of conflicts that is kept is the number of conflicts met, and from ten on it makes the machine wait.
 
@@ -30,7 +30,7 @@ kept n = min n (2 ^ 64 - 1)
 
 abbrev pub Counts : ℕ → State → Type 0
 Counts n Off = Unit {0}
-Counts n (Armed due waits_lease probes) = n ≡ 0
+Counts n (Armed due waits fallback) = n ≡ 0
 Counts n (Chosen conflicts acd) = conflicts ≡ kept n
 Counts n (Waiting conflicts due) = conflicts ≡ kept n
 
@@ -63,8 +63,8 @@ ticks_calm iface addr Over at salt = refl
 
 row_counts : (iface : IfIndex) (state : State) (at salt n : ℕ) → Counts n state → Counts n (tick_row iface state at salt).ll.state
 row_counts iface Off at salt n h = tt
-row_counts iface (Armed due waits_lease probes) at salt n h =
-    gated (Counts n) probes (choosing iface 0 at salt) Off (subst (λ k. 0 ≡ kept k) (sym h) refl) tt
+row_counts iface (Armed due waits fallback) at salt n h =
+    gated (Counts n) (chooses fallback) (choosing iface 0 at salt) Off (subst (λ k. 0 ≡ kept k) (sym h) refl) tt
 row_counts iface (Chosen conflicts acd) at salt n h =
     subst (λ b. Counts (if b then n + 1 else n) (tick_row iface (Chosen conflicts acd) at salt).ll.state)
     (ticks_calm acd.iface acd.addr acd.phase at salt)
@@ -80,14 +80,14 @@ at_state iface state = record { iface = iface; state = state }
 
 step_counts : (own : List Mac) (iface : IfIndex) (state : State) (event : LlEvent) (n : ℕ) → Counts n state
     → Counts (met own state event n) (ll_step own (at_state iface state) event).ll.state
-step_counts own iface Off (Arm at due waits_lease probes) n h = refl
-step_counts own iface (Armed due' waits probing) (Arm at due waits_lease probes) n h = h
-step_counts own iface (Chosen conflicts acd) (Arm at due waits_lease probes) n h = h
-step_counts own iface (Waiting conflicts due') (Arm at due waits_lease probes) n h = h
+step_counts own iface Off (Arm at due waits fallback) n h = refl
+step_counts own iface (Armed due' before other) (Arm at due waits fallback) n h = h
+step_counts own iface (Chosen conflicts acd) (Arm at due waits fallback) n h = h
+step_counts own iface (Waiting conflicts due') (Arm at due waits fallback) n h = h
 step_counts own iface Off (Tick at salt) n h = tt
-step_counts own iface (Armed due waits probing) (Tick at salt) n h =
-    gated (λ (s : LlStep). Counts n s.ll.state) (nat_le due at) (tick_row iface (Armed due waits probing) at salt)
-    (moves iface (Armed due waits probing) (tells Nothing)) (row_counts iface (Armed due waits probing) at salt n h) h
+step_counts own iface (Armed due waits fallback) (Tick at salt) n h =
+    gated (λ (s : LlStep). Counts n s.ll.state) (nat_le due at) (tick_row iface (Armed due waits fallback) at salt)
+    (moves iface (Armed due waits fallback) (tells Nothing)) (row_counts iface (Armed due waits fallback) at salt n h) h
 step_counts own iface (Chosen conflicts acd) (Tick at salt) n h =
     gated (λ (s : LlStep). Counts n s.ll.state) (is_due (detection.due_of acd.phase) at)
     (tick_row iface (Chosen conflicts acd) at salt) (moves iface (Chosen conflicts acd) (tells Nothing))
@@ -96,12 +96,12 @@ step_counts own iface (Waiting conflicts due) (Tick at salt) n h =
     gated (λ (s : LlStep). Counts n s.ll.state) (nat_le due at) (tick_row iface (Waiting conflicts due) at salt)
     (moves iface (Waiting conflicts due) (tells Nothing)) h h
 step_counts own iface Off (Heard arp at salt) n h = tt
-step_counts own iface (Armed due waits probing) (Heard arp at salt) n h = h
+step_counts own iface (Armed due waits fallback) (Heard arp at salt) n h = h
 step_counts own iface (Chosen conflicts acd) (Heard arp at salt) n h =
     said_counts iface conflicts (detection.acd_hears own acd arp at).acd at salt n (detection.acd_hears own acd arp at).says h
 step_counts own iface (Waiting conflicts due) (Heard arp at salt) n h = h
 step_counts own iface Off (Unsent at salt) n h = tt
-step_counts own iface (Armed due waits probing) (Unsent at salt) n h = h
+step_counts own iface (Armed due waits fallback) (Unsent at salt) n h = h
 step_counts own iface (Chosen conflicts acd) (Unsent at salt) n h = h
 step_counts own iface (Waiting conflicts due) (Unsent at salt) n h = h
 step_counts own iface state (Drop at) n h = tt
@@ -116,7 +116,7 @@ counts own iface (event ∷ past) =
 -- the machine waits until a moment
 abbrev WaitsUntil : ℕ → State → Type 0
 WaitsUntil end Off = ⊥
-WaitsUntil end (Armed due waits_lease probes) = ⊥
+WaitsUntil end (Armed due waits fallback) = ⊥
 WaitsUntil end (Chosen conflicts acd) = ⊥
 WaitsUntil end (Waiting conflicts due) = due ≡ end
 
@@ -140,12 +140,12 @@ conflict_waits : (own : List Mac) (iface : IfIndex) (state : State) (event : LlE
     → WaitsUntil (moment event + 60000) (ll_step own (at_state iface state) event).ll.state
 conflict_waits own iface (Chosen conflicts acd) (Heard arp at salt) n h here le =
     said_waits iface conflicts (detection.acd_hears own acd arp at).acd at salt n (detection.acd_hears own acd arp at).says h here le
-conflict_waits own iface (Chosen conflicts acd) (Arm at due waits_lease probes) n h here le = absurd (cc)
+conflict_waits own iface (Chosen conflicts acd) (Arm at due waits fallback) n h here le = absurd (cc)
 conflict_waits own iface (Chosen conflicts acd) (Tick at salt) n h here le = absurd (cc)
 conflict_waits own iface (Chosen conflicts acd) (Unsent at salt) n h here le = absurd (cc)
 conflict_waits own iface (Chosen conflicts acd) (Drop at) n h here le = absurd (cc)
 conflict_waits own iface Off event n h here le = absurd (cc)
-conflict_waits own iface (Armed due waits probing) event n h here le = absurd (cc)
+conflict_waits own iface (Armed due waits fallback) event n h here le = absurd (cc)
 conflict_waits own iface (Waiting conflicts due) event n h here le = absurd (cc)
 
 early : (due at end : ℕ) → due ≡ end → at < end → nat_le due at ≡ false
@@ -154,9 +154,9 @@ early due at end h lt = grind (arith, nat_tests)
 goes_on_waiting : (own : List Mac) (iface : IfIndex) (state : State) (event : LlEvent) (end : ℕ) → WaitsUntil end state
     → IsWithin end event → WaitsUntil end (ll_step own (at_state iface state) event).ll.state
 goes_on_waiting own iface Off event end h w = absurd h
-goes_on_waiting own iface (Armed due waits probing) event end h w = absurd h
+goes_on_waiting own iface (Armed due waits fallback) event end h w = absurd h
 goes_on_waiting own iface (Chosen conflicts acd) event end h w = absurd h
-goes_on_waiting own iface (Waiting conflicts due) (Arm at due' waits_lease probes) end h w = h
+goes_on_waiting own iface (Waiting conflicts due) (Arm at due' waits fallback) end h w = h
 goes_on_waiting own iface (Waiting conflicts due) (Tick at salt) end h w =
     let no : nat_le due at ≡ false = early due at end h w in rw no h
 goes_on_waiting own iface (Waiting conflicts due) (Heard arp at salt) end h w = h
@@ -174,7 +174,7 @@ still_waiting own iface (event ∷ later) earlier end h w =
 
 none_chosen : (end : ℕ) (state : State) → WaitsUntil end state → chosen_address state ≡ None
 none_chosen end Off h = refl
-none_chosen end (Armed due waits probing) h = refl
+none_chosen end (Armed due waits fallback) h = refl
 none_chosen end (Chosen conflicts acd) h = absurd h
 none_chosen end (Waiting conflicts due) h = refl
 

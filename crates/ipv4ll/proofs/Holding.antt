@@ -12,17 +12,20 @@ use Rattle.arp_acd.specs.declared.detection.Phase.{Phase}
 use Rattle.arp_acd.specs.declared.detection.Phase.TheVariants.{Probing, Announcing, Held, Over}
 use Rattle.arp_acd.specs.Conflict.{is_used, is_contested}
 use Rattle.arp_acd.specs.Table as detection
-use Rattle.arp_acd.proofs.Standing.{split, mk, wait_after, waits, one_second, test-le, test-lt}
+use Rattle.arp_acd.proofs.Standing.{mk, wait_after, waits, one_second, test-le, test-lt}
+use Rattle.net_types.proofs.CaseLaws.{split, gated}
 use Rattle.ipv4ll.specs.declared.link_local.LinkLocal.{LinkLocal}
-use Rattle.ipv4ll.specs.declared.link_local.LlNews.TheVariants.{Nothing, Timeout}
+use Rattle.ipv4ll.specs.declared.link_local.LlNews.TheVariants.{Nothing}
 use Rattle.ipv4ll.specs.declared.link_local.LlOut.{LlOut}
 use Rattle.ipv4ll.specs.declared.link_local.State.{State}
 use Rattle.ipv4ll.specs.declared.link_local.State.TheVariants.{Off, Armed, Chosen, Waiting}
 use Rattle.ipv4ll.specs.Choice.{IsChoice}
-use Rattle.ipv4ll.specs.Table.{LlStep, moves, tells, announces, choosing, after_conflict, one_more, said_row, tick_row, held_in}
+use Rattle.ipv4ll.specs.declared.link_local.Waits.{Waits}
+use Rattle.ipv4ll.specs.declared.link_local.Fallback.{Fallback}
+use Rattle.ipv4ll.specs.Table.{chooses, news_after, LlStep, moves, tells, announces, choosing, after_conflict, one_more, said_row, tick_row, held_in}
 use Rattle.ipv4ll.specs.History.{LlEvent, Arm, Tick, Heard, Unsent, Drop, LlEntry, moment, ll_step, ll_after, ll_history, IsCalm, Probes}
 use Rattle.ipv4ll.specs.Laws.{Gains, Stays, MayStay, last_contest, Rests, HoldsProbed}
-use Rattle.ipv4ll.proofs.Chosen.{gated, in_range, InState}
+use Rattle.ipv4ll.proofs.Chosen.{in_range, InState}
 
 -- What each state carries of the history, and that an address is held only where it was probed.
 
@@ -34,7 +37,7 @@ Carries own addr Over past = Unit {0}
 
 abbrev Bears : List Mac → State → List LlEntry → Type 0
 Bears own Off past = Unit {0}
-Bears own (Armed due waits_lease probes) past = Unit {0}
+Bears own (Armed due waits fallback) past = Unit {0}
 Bears own (Chosen conflicts acd) past = Carries own acd.addr acd.phase past
 Bears own (Waiting conflicts due) past = Unit {0}
 
@@ -202,28 +205,28 @@ unsent_bears own iface i conflicts addr (Held last) at salt past c = (c.0, inr (
 unsent_bears own iface i conflicts addr Over at salt past c = tt
 
 arm_bears : (own : List Mac) (iface i : IfIndex) (conflicts : ℕ) (addr : Ip4) (phase : Phase) (at due : ℕ)
-    (waits_lease probes : Bool) (past : List LlEntry) → Carries own addr phase past
-    → Carries own addr phase (entry (Arm at due waits_lease probes) (tells Nothing) ∷ past)
-arm_bears own iface i conflicts addr (Probing n due') at due waits_lease probes past c =
+    (waits : Waits) (fallback : Fallback) (past : List LlEntry) → Carries own addr phase past
+    → Carries own addr phase (entry (Arm at due waits fallback) (tells Nothing) ∷ past)
+arm_bears own iface i conflicts addr (Probing n due') at due waits fallback past c =
     (c.0, probes-on own addr n (wait_after n) due' _ past tt c.1)
-arm_bears own iface i conflicts addr (Announcing due' last) at due waits_lease probes past c =
+arm_bears own iface i conflicts addr (Announcing due' last) at due waits fallback past c =
     (c.0, inr (record { stays = tt; says = tt }, c.1))
-arm_bears own iface i conflicts addr (Held last) at due waits_lease probes past c =
+arm_bears own iface i conflicts addr (Held last) at due waits fallback past c =
     (c.0, inr (record { stays = tt; says = tt }, c.1))
-arm_bears own iface i conflicts addr Over at due waits_lease probes past c = tt
+arm_bears own iface i conflicts addr Over at due waits fallback past c = tt
 
 step_bears : (own : List Mac) (iface : IfIndex) (state : State) (event : LlEvent) (past : List LlEntry) → Bears own state past
     → BearsAfter own event past (ll_step own (at_state iface state) event)
-step_bears own iface Off (Arm at due waits_lease probes) past h = tt
-step_bears own iface (Armed due' waits probing) (Arm at due waits_lease probes) past h = tt
-step_bears own iface (Chosen conflicts acd) (Arm at due waits_lease probes) past h =
-    arm_bears own iface acd.iface conflicts acd.addr acd.phase at due waits_lease probes past h
-step_bears own iface (Waiting conflicts due') (Arm at due waits_lease probes) past h = tt
+step_bears own iface Off (Arm at due waits fallback) past h = tt
+step_bears own iface (Armed due' before other) (Arm at due waits fallback) past h = tt
+step_bears own iface (Chosen conflicts acd) (Arm at due waits fallback) past h =
+    arm_bears own iface acd.iface conflicts acd.addr acd.phase at due waits fallback past h
+step_bears own iface (Waiting conflicts due') (Arm at due waits fallback) past h = tt
 step_bears own iface Off (Tick at salt) past h = tt
-step_bears own iface (Armed due waits probing) (Tick at salt) past h =
-    gated (BearsAfter own (Tick at salt) past) (nat_le due at) (tick_row iface (Armed due waits probing) at salt)
-    (moves iface (Armed due waits probing) (tells Nothing))
-    (gated (λ s. Bears own s (entry (Tick at salt) (tells (if waits then Timeout else Nothing)) ∷ past)) probing
+step_bears own iface (Armed due waits fallback) (Tick at salt) past h =
+    gated (BearsAfter own (Tick at salt) past) (nat_le due at) (tick_row iface (Armed due waits fallback) at salt)
+    (moves iface (Armed due waits fallback) (tells Nothing))
+    (gated (λ s. Bears own s (entry (Tick at salt) (tells (news_after waits)) ∷ past)) (chooses fallback)
     (choosing iface 0 at salt) Off (chosen_anew own iface 0 at salt past) tt)
     tt
 step_bears own iface (Chosen conflicts acd) (Tick at salt) past h =
@@ -232,12 +235,12 @@ step_bears own iface (Waiting conflicts due) (Tick at salt) past h =
     gated (BearsAfter own (Tick at salt) past) (nat_le due at) (tick_row iface (Waiting conflicts due) at salt)
     (moves iface (Waiting conflicts due) (tells Nothing)) (chosen_anew own iface conflicts at salt past) tt
 step_bears own iface Off (Heard arp at salt) past h = tt
-step_bears own iface (Armed due waits probing) (Heard arp at salt) past h = tt
+step_bears own iface (Armed due waits fallback) (Heard arp at salt) past h = tt
 step_bears own iface (Chosen conflicts acd) (Heard arp at salt) past h =
     heard_bears own iface acd.iface conflicts acd.addr acd.phase arp at salt past h
 step_bears own iface (Waiting conflicts due) (Heard arp at salt) past h = tt
 step_bears own iface Off (Unsent at salt) past h = tt
-step_bears own iface (Armed due waits probing) (Unsent at salt) past h = tt
+step_bears own iface (Armed due waits fallback) (Unsent at salt) past h = tt
 step_bears own iface (Chosen conflicts acd) (Unsent at salt) past h =
     unsent_bears own iface acd.iface conflicts acd.addr acd.phase at salt past h
 step_bears own iface (Waiting conflicts due) (Unsent at salt) past h = tt
@@ -262,7 +265,7 @@ holding_phase own addr Over past r c = tt
 
 holding : (own : List Mac) (state : State) (past : List LlEntry) → InState state → Bears own state past → Holding own state past
 holding own Off past r h = tt
-holding own (Armed due waits_lease probes) past r h = tt
+holding own (Armed due waits fallback) past r h = tt
 holding own (Chosen conflicts acd) past r h = holding_phase own acd.addr acd.phase past r h
 holding own (Waiting conflicts due) past r h = tt
 

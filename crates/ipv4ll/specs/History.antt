@@ -8,24 +8,27 @@ use Rattle.arp_acd.specs.declared.detection.AcdSays.{AcdSays}
 use Rattle.arp_acd.specs.declared.detection.AcdSays.TheVariants.{Conflict, GivenUp}
 use Rattle.arp_acd.specs.declared.detection.ArpSay.TheVariants.{Probe}
 use Rattle.arp_acd.specs.Conflict.{is_contested}
+use Rattle.arp_acd.specs.declared.timing.TheConstants.{PROBE_MIN}
 use Rattle.arp_acd.specs.Table as detection
 use Rattle.ipv4ll.specs.declared.link_local.LinkLocal.{LinkLocal}
 use Rattle.ipv4ll.specs.declared.link_local.LlNews.TheVariants.{Nothing}
 use Rattle.ipv4ll.specs.declared.link_local.LlOut.{LlOut}
+use Rattle.ipv4ll.specs.declared.link_local.Waits.{Waits}
+use Rattle.ipv4ll.specs.declared.link_local.Fallback.{Fallback}
 use Rattle.ipv4ll.specs.declared.link_local.State.{State}
 use Rattle.ipv4ll.specs.declared.link_local.State.TheVariants.{Off, Chosen}
 use Rattle.ipv4ll.specs.Table.{LlStep, tells, ll_tick, ll_hears, ll_restarts, ll_armed, off}
 
 -- What may happen to a link-local machine, at which moment.
 pub data LlEvent : Type 0 where
-  Arm : (at due : ℕ) (waits_lease probes : Bool) → LlEvent
+  Arm : (at due : ℕ) (waits : Waits) (fallback : Fallback) → LlEvent
   Tick : (at salt : ℕ) → LlEvent
   Heard : (arp : ArpView) (at salt : ℕ) → LlEvent
   Unsent : (at salt : ℕ) → LlEvent
   Drop : (at : ℕ) → LlEvent
 
 abbrev pub moment : LlEvent → ℕ
-moment (Arm at due waits_lease probes) = at
+moment (Arm at due waits fallback) = at
 moment (Tick at salt) = at
 moment (Heard arp at salt) = at
 moment (Unsent at salt) = at
@@ -35,7 +38,7 @@ abbrev pub silent : LinkLocal → LlStep
 silent ll = record { ll = ll; out = tells Nothing }
 
 abbrev pub ll_step : List Mac → LinkLocal → LlEvent → LlStep
-ll_step own ll (Arm at due waits_lease probes) = silent (ll_armed ll due waits_lease probes)
+ll_step own ll (Arm at due waits fallback) = silent (ll_armed ll due waits fallback)
 ll_step own ll (Tick at salt) = ll_tick ll at salt
 ll_step own ll (Heard arp at salt) = ll_hears own ll arp at salt
 ll_step own ll (Unsent at salt) = silent (ll_restarts ll at salt)
@@ -68,7 +71,7 @@ conflict_at own _ _ = false
 
 -- Whether the event arms the machine.
 abbrev pub arms_at : State → LlEvent → Bool
-arms_at Off (Arm at due waits_lease probes) = true
+arms_at Off (Arm at due waits fallback) = true
 arms_at _ _ = false
 
 -- How many conflicts there were since the last arming.
@@ -83,18 +86,18 @@ conflicts_met own iface (event ∷ past) =
 
 -- No send failed, no packet contested the address, and the machine wasn't dropped.
 abbrev pub IsCalm : List Mac → Ip4 → LlEvent → Type 0
-IsCalm own addr (Arm at due waits_lease probes) = Unit {0}
+IsCalm own addr (Arm at due waits fallback) = Unit {0}
 IsCalm own addr (Tick at salt) = Unit {0}
 IsCalm own addr (Heard arp at salt) = is_contested own addr arp ≡ false
 IsCalm own addr (Unsent at salt) = ⊥
 IsCalm own addr (Drop at) = ⊥
 
--- So many probes for the address were said: the last one `wait` or more before the moment `before`, each other one a
--- second or more before the next. Since the first of them all was calm, so each of them was sent.
+-- So many probes for the address were said: the last one `wait` or more before the moment `before`, each other one
+-- PROBE_MIN or more before the next. Since the first of them all was calm, so each of them was sent.
 abbrev pub Probes : List Mac → Ip4 → (count wait before : ℕ) → List LlEntry → Type 0
 Probes own addr zero wait before past = Unit {0}
 Probes own addr (suc count) wait before past =
     Since (λ e earlier. IsCalm own addr e.event)
     (λ e earlier. IsCalm own addr e.event × (e.out.arp ≡ Some (Probe addr)) × (moment e.event + wait ≤ before)
-    × Probes own addr count 1000 (moment e.event) earlier)
+    × Probes own addr count PROBE_MIN (moment e.event) earlier)
     past

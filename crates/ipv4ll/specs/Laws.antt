@@ -5,6 +5,7 @@ use Rattle.net_types.specs.declared.address.Mac.{Mac}
 use Rattle.net_types.specs.declared.interface.IfIndex.{IfIndex}
 use Rattle.arp_acd.specs.declared.detection.ArpSay.{ArpSay}
 use Rattle.arp_acd.specs.declared.detection.ArpSay.TheVariants.{Probe, Announce}
+use Rattle.arp_acd.specs.declared.timing.TheConstants.{PROBE_NUM, ANNOUNCE_WAIT, MAX_CONFLICTS, RATE_LIMIT_INTERVAL, DEFEND_INTERVAL}
 use Rattle.arp_acd.specs.Conflict.{is_used}
 use Rattle.ipv4ll.specs.declared.link_local.LlNews.{LlNews}
 use Rattle.ipv4ll.specs.declared.link_local.LlNews.TheVariants.{Gained}
@@ -19,7 +20,7 @@ use Rattle.ipv4ll.specs.History.{LlEvent, Arm, Tick, Heard, Unsent, Drop, LlEntr
 -- The address that is probed or held.
 abbrev pub chosen_address : State → Option Ip4
 chosen_address Off = None
-chosen_address (Armed due waits_lease probes) = None
+chosen_address (Armed due waits fallback) = None
 chosen_address (Chosen conflicts acd) = Some acd.addr
 chosen_address (Waiting conflicts due) = None
 
@@ -39,7 +40,7 @@ ChoosesInRange = (own : List Mac) (iface : IfIndex) (past : List LlEvent) (event
 
 -- No tick comes as late as that, and the machine isn't dropped.
 abbrev pub IsWithin : (end : ℕ) → LlEvent → Type 0
-IsWithin end (Arm at due waits_lease probes) = Unit {0}
+IsWithin end (Arm at due waits fallback) = Unit {0}
 IsWithin end (Tick at salt) = at < end
 IsWithin end (Heard arp at salt) = Unit {0}
 IsWithin end (Unsent at salt) = Unit {0}
@@ -49,15 +50,15 @@ IsWithin end (Drop at) = ⊥
 abbrev pub WaitsFromTenConflicts : Type 0
 WaitsFromTenConflicts = (own : List Mac) (iface : IfIndex) (later earlier : List LlEvent) (event : LlEvent)
     → conflict_at own (ll_after own iface earlier).state event ≡ true
-    → 10 ≤ conflicts_met own iface (event ∷ earlier)
-    → All (IsWithin (moment event + 60000)) later
+    → MAX_CONFLICTS ≤ conflicts_met own iface (event ∷ earlier)
+    → All (IsWithin (moment event + RATE_LIMIT_INTERVAL)) later
     → chosen_address (ll_after own iface (later ++ event ∷ earlier)).state ≡ None
 
 -- The address was gained and announced after three probes that were sent, a second or more apart, and two seconds of
 -- quiet.
 pub record Gains (own : List Mac) (addr : Ip4) (e : LlEntry) (earlier : List LlEntry) : Type 0 where
   pub gained : e.out ≡ announces addr Gained
-  pub probed : Probes own addr 3 2000 (moment e.event) earlier
+  pub probed : Probes own addr PROBE_NUM ANNOUNCE_WAIT (moment e.event) earlier
 
 -- The moment of the last packet of another host that uses the address, since an address was gained.
 abbrev pub contest_at : List Mac → Ip4 → LlEvent → (before : Option ℕ) → Option ℕ
@@ -75,10 +76,10 @@ last_contest own addr (e ∷ past) = since_gain e.out.news (contest_at own addr 
 -- What may happen to an address that stays held: it isn't dropped, and where another host uses it, that is the first
 -- time or ten seconds or more after the last.
 abbrev pub MayStay : List Mac → Ip4 → LlEvent → (last : Option ℕ) → Type 0
-MayStay own addr (Arm at due waits_lease probes) last = Unit {0}
+MayStay own addr (Arm at due waits fallback) last = Unit {0}
 MayStay own addr (Tick at salt) last = Unit {0}
 MayStay own addr (Heard arp at salt) last =
-    is_used own addr arp ≡ true → MatchOption last (Unit {0}) (λ before. before + 10000 ≤ at)
+    is_used own addr arp ≡ true → MatchOption last (Unit {0}) (λ before. before + DEFEND_INTERVAL ≤ at)
 MayStay own addr (Unsent at salt) last = Unit {0}
 MayStay own addr (Drop at) last = ⊥
 

@@ -10,7 +10,8 @@ mod link_local;
 
 pub use laws::{chooses_in_range, holds_probed, waits_from_ten_conflicts};
 pub use link_local::{
-    LinkLocal, LlNews, LlOut, ll_arm, ll_drop, ll_heard, ll_held, ll_off, ll_unsent,
+    Fallback, LinkLocal, LlNews, LlOut, Waits, ll_arm, ll_drop, ll_heard, ll_held, ll_off,
+    ll_unsent,
 };
 
 #[cfg(test)]

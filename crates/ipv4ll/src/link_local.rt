@@ -2,8 +2,9 @@ ghost use Rattle.std.specs.Prelude.{◌≡◌};
 ghost use Rattle.machine.specs.Moment.{moment_of};
 ghost use Rattle.ipv4ll.specs.Choice.{choice_of};
 ghost use Rattle.ipv4ll.specs.Rests.{tick_rests};
-ghost use Rattle.ipv4ll.specs.Table.{IsQuiet, IsStep, after_conflict, choosing, due_of, held_in, ll_armed, ll_hears, ll_restarts, ll_tick, off, said_row};
+ghost use Rattle.ipv4ll.specs.Table.{IsQuiet, IsStep, after_conflict, choosing, due_of, held_in, ll_armed, ll_hears, ll_restarts, ll_tick, news_after, off, said_row};
 
+use arp_acd::timing::{MAX_CONFLICTS, RATE_LIMIT_INTERVAL};
 use arp_acd::{Acd, AcdSays, ArpSay, acd_addr, acd_begin, acd_heard, acd_held, acd_unsent};
 use frame_link::ArpView;
 use machine::{Machine, clamp_moment, draw, has_come};
@@ -13,22 +14,32 @@ use net_types::{IfIndex, Ip4, Mac};
 const FIRST_CHOICE: u32 = 0xa9fe_0100;
 /// How many such addresses there are, up to 169.254.254.255.
 const CHOICES: u32 = 254 * 256;
-/// From so many conflicts on the next choice waits (RFC 3927, section 9: MAX_CONFLICTS).
-const MAX_CONFLICTS: u64 = 10;
-/// For so many milliseconds (RATE_LIMIT_INTERVAL).
-const RATE_LIMIT_INTERVAL: u64 = 60_000;
+/// What an armed machine waits for until its moment.
+#[derive(Clone, Copy, Debug, PartialEq, Eq)]
+pub enum Waits {
+    /// A lease: at the moment it is told that none came.
+    ForLease,
+    ForNothing,
+}
+
+/// What an armed machine does at its moment.
+#[derive(Clone, Copy, Debug, PartialEq, Eq)]
+pub enum Fallback {
+    /// It chooses an address.
+    Choose,
+    GoOff,
+}
 
 /// Where the link-local address of an interface stands. Moments are in milliseconds, and conflicts are
 /// counted since arming.
 #[derive(Clone, Copy, Debug, PartialEq, Eq)]
 pub enum State {
     Off,
-    /// At `due` the wait for a lease is over, where one is waited for, and an address is chosen, where
-    /// `probes`.
+    /// At `due` the wait is over, and `fallback` follows.
     Armed {
         due: u64,
-        waits_lease: bool,
-        probes: bool,
+        waits: Waits,
+        fallback: Fallback,
     },
     /// An address is chosen; `acd` probes and defends it.
     Chosen {
@@ -91,17 +102,17 @@ pub fn ll_off(iface: IfIndex) -> LinkLocal
     }
 }
 
-/// Arms the machine where it is off. At `due` it tells that no lease came, where `waits_lease`, and
-/// chooses an address, where `probes`; else it goes off.
-pub fn ll_arm(ll: &mut LinkLocal, due: u64, waits_lease: bool, probes: bool)
-    ensures { ll.new ≡ ll_armed ll.old due waits_lease probes }
+/// Arms the machine where it is off. At `due`, in milliseconds, it tells that no lease came, where it waits for
+/// one, and chooses an address or goes off.
+pub fn ll_arm(ll: &mut LinkLocal, due: u64, waits: Waits, fallback: Fallback)
+    ensures { ll.new ≡ ll_armed ll.old due waits fallback }
 {
     match ll.state {
         State::Off => {
             ll.state = State::Armed {
                 due,
-                waits_lease,
-                probes,
+                waits,
+                fallback,
             };
         }
         State::Armed { .. } | State::Chosen { .. } | State::Waiting { .. } => {}
@@ -135,21 +146,15 @@ impl Machine for LinkLocal {
             State::Off => LlOut::QUIET,
             // the time for a lease is over
             State::Armed {
-                waits_lease,
-                probes,
+                waits,
+                fallback,
                 ..
             } => {
-                self.state = if probes {
-                    choose(self.iface, 0, at, salt)
-                } else {
-                    State::Off
+                self.state = match fallback {
+                    Fallback::Choose => choose(self.iface, 0, at, salt),
+                    Fallback::GoOff => State::Off,
                 };
-                let news = if waits_lease {
-                    LlNews::Timeout
-                } else {
-                    LlNews::Nothing
-                };
-                LlOut::new(None, news)
+                LlOut::new(None, news_after(waits))
             }
             State::Chosen { conflicts, mut acd } => {
                 let says = acd.tick(at, salt);
@@ -185,6 +190,16 @@ impl LinkLocal {
             AcdSays::Passed => LlOut::new(Some(ArpSay::Announce(addr)), LlNews::Gained),
             AcdSays::GivenUp => LlOut::new(None, LlNews::Lost(addr)),
         }
+    }
+}
+
+/// What is told when the moment of an armed machine has come.
+fn news_after(waits: Waits) -> LlNews
+    ensures { result ≡ news_after waits }
+{
+    match waits {
+        Waits::ForLease => LlNews::Timeout,
+        Waits::ForNothing => LlNews::Nothing,
     }
 }
 

@@ -1,4 +1,7 @@
-use crate::{LinkLocal, LlNews, LlOut, ll_arm, ll_drop, ll_heard, ll_held, ll_off, ll_unsent};
+use crate::{
+    Fallback, LinkLocal, LlNews, LlOut, Waits, ll_arm, ll_drop, ll_heard, ll_held, ll_off,
+    ll_unsent,
+};
 use arp_acd::ArpSay;
 use frame_link::ArpView;
 use machine::Machine;
@@ -45,7 +48,7 @@ fn reply_for(addr: u32) -> ArpView {
 /// Armed at 0 without a lease to wait for, with an address chosen in the turn at 0.
 fn chosen() -> LinkLocal {
     let mut ll = ll_off(FIRST);
-    ll_arm(&mut ll, 0, false, true);
+    ll_arm(&mut ll, 0, Waits::ForNothing, Fallback::Choose);
     let _ = ll.tick(0, 0);
     ll
 }
@@ -63,7 +66,7 @@ fn held() -> LinkLocal {
 fn an_address_is_gained_after_three_probes(rt: HostRuntime) {
     let mut ll = ll_off(FIRST);
     assert_eq!(rt; ll.due(), None);
-    ll_arm(&mut ll, 0, false, true);
+    ll_arm(&mut ll, 0, Waits::ForNothing, Fallback::Choose);
     assert_eq!(rt; ll.due(), Some(0));
     assert_eq!(rt; ll.tick(0, 0), QUIET);
     assert_eq!(rt; ll.due(), Some(1));
@@ -157,7 +160,7 @@ fn a_held_address_is_defended_once_in_ten_seconds(rt: HostRuntime) {
 #[test]
 fn without_a_lease_the_time_out_is_told(rt: HostRuntime) {
     let mut ll = ll_off(FIRST);
-    ll_arm(&mut ll, 30_000, true, false);
+    ll_arm(&mut ll, 30_000, Waits::ForLease, Fallback::GoOff);
     assert_eq!(rt; ll.tick(29_999, 0), QUIET);
     let timeout = LlOut {
         arp: None,

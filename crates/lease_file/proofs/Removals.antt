@@ -5,7 +5,9 @@ use Rattle.std.specs.Global.{Global}
 use Rattle.std.specs.String.{string_bytes}
 use Rattle.std.proofs.lemmas.List.{map-append}
 use Rattle.std.proofs.lemmas.List.Folds.{list_any-append}
-use Rattle.world.specs.StoreCalls.{StoreTold, StoreCall, StoreFile, RemovedFile, SettledFiles, asides}
+use Rattle.world.specs.StoreCalls.{StoreTold, StoreCall, RemovedFile, SettledFiles}
+use Rattle.world.specs.FileLists.{StoreFile, asides}
+use Rattle.world.specs.StoreFails.{StoreFails}
 use Rattle.lease_file.specs.declared.clearing.Cleared.{Cleared}
 use Rattle.lease_file.specs.ToldStore.{with_calls}
 use Rattle.lease_file.proofs.CallLists.{with_calls-append}
@@ -83,22 +85,22 @@ calls_all removed names done old listed cleared new is first second third =
     third ∙ ap (with_calls settling) (second ∙ ap (with_calls (removal_calls removed)) named ∙ with_calls-append listing (removal_calls removed) old)
     ∙ with_calls-append (listing ++ removal_calls removed) settling old
 
-taken_append : (failing : Option (List ℕ)) (removed : List Cleared) (one : Cleared) (old mid new : Option (List StoreFile))
+taken_append : (failing : Option StoreFails) (removed : List Cleared) (one : Cleared) (old mid new : Option (List StoreFile))
     → TakesFiles failing removed old mid → TakesFile failing one.ok (string_bytes one.name) mid new → TakesFiles failing (removed ++ one ∷ []) old new
 taken_append failing [] one old mid new before here = (new, subst (λ (o : Option (List StoreFile)). TakesFile failing one.ok (string_bytes one.name) o new) before here, refl)
 taken_append failing (c ∷ removed) one old mid new before here = (before.0, before.1, taken_append failing removed one before.0 mid new before.2 here)
 
-pub taken_more : (failing now : Option (List ℕ)) (removed all : List Cleared) (one : Cleared) (name : List ℕ) (old mid new : Option (List StoreFile))
+pub taken_more : (failing now : Option StoreFails) (removed all : List Cleared) (one : Cleared) (name : List ℕ) (old mid new : Option (List StoreFile))
     → now ≡ failing → name ≡ string_bytes one.name → all ≡ removed ++ one ∷ []
     → TakesFiles failing removed old mid → TakesFile now one.ok name mid new → TakesFiles failing all old new
 taken_more failing now removed all one name old mid new same called is before here =
-    let here_then = subst (λ (f : Option (List ℕ)). TakesFile f one.ok name mid new) same here in
+    let here_then = subst (λ (f : Option StoreFails). TakesFile f one.ok name mid new) same here in
     let named = subst (λ (n : List ℕ). TakesFile failing one.ok n mid new) called here_then in
     subst (λ (r : List Cleared). TakesFiles failing r old new) (sym is) (taken_append failing removed one old mid new before named)
 
-pub taken_all : (failing now : Option (List ℕ)) (removed : List Cleared) (old listed cleared new : Option (List StoreFile))
+pub taken_all : (failing now : Option StoreFails) (removed : List Cleared) (old listed cleared new : Option (List StoreFile))
     → now ≡ failing → listed ≡ old → new ≡ cleared → TakesFiles now removed listed cleared → TakesFiles failing removed old new
 taken_all failing now removed old listed cleared new same first last here =
-    let here_then = subst (λ (f : Option (List ℕ)). TakesFiles f removed listed cleared) same here in
+    let here_then = subst (λ (f : Option StoreFails). TakesFiles f removed listed cleared) same here in
     let from_old = subst (λ (o : Option (List StoreFile)). TakesFiles failing removed o cleared) first here_then in
     subst (λ (n : Option (List StoreFile)). TakesFiles failing removed old n) (sym last) from_old

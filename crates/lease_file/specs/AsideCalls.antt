@@ -2,7 +2,7 @@
 use Rattle.std.specs.Prelude.{ℕ, Bool, true, false, not, ◌||◌, ◌≡◌, ◌<◌, List, [], ◌∷◌, ◌++◌, map, Option, Some, None, Result, Ok, Err}
 use Rattle.std.specs.List.{list_any}
 use Rattle.std.specs.String.{string_bytes}
-use Rattle.world.specs.Causes.{has_number}
+use Rattle.world.specs.StoreFails.{StoreFails, fails_at}
 use Rattle.world.specs.StoreCalls.{StoreTold, StoreCall, ListedAsides, RemovedFile, SettledFiles}
 use Rattle.lease_file.specs.ToldStore.{told_files, told_calls, with_calls}
 use Rattle.lease_file.specs.declared.clearing.Cleared.{Cleared}
@@ -30,10 +30,10 @@ HasClearingCause old new (Ok clearing) = (any_left clearing.removed.items || is_
 HasClearingCause old new (Err fault) = HasListingCause {T = Clearing} old new (Err fault)
 
 -- Where it is told which calls fail, the listing refuses exactly where its number is told.
-abbrev pub IsListingForetold : {T : Type 0} → Option (List ℕ) → ℕ → Result T SaveFault → Type 0
+abbrev pub IsListingForetold : {T : Type 0} → Option StoreFails → ℕ → Result T SaveFault → Type 0
 IsListingForetold None number result = Unit {0}
-IsListingForetold (Some failing) number (Ok x) = has_number failing number ≡ false
-IsListingForetold (Some failing) number (Err (Failed call)) = has_number failing number ≡ true
+IsListingForetold (Some failing) number (Ok x) = fails_at failing number ≡ false
+IsListingForetold (Some failing) number (Err (Failed call)) = fails_at failing number ≡ true
 IsListingForetold (Some failing) number (Err NoMemory) = Unit {0}
 
 -- no call of the store refused

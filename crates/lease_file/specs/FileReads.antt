@@ -2,8 +2,9 @@
 use Rattle.std.specs.Prelude.{ℕ, ◌≡◌, ◌<◌, Bool, true, false, List, [], ◌∷◌, Option, Some, None, Result, Ok, Err}
 use Rattle.std.specs.List.{list_any}
 use Rattle.net_types.specs.declared.fault.NoMemory.{NoMemory}
-use Rattle.world.specs.Causes.{has_number}
-use Rattle.world.specs.StoreCalls.{StoreTold, Reading, Found, Missing, Unread, StoreCall, ReadFile, file_at, store_answered}
+use Rattle.world.specs.StoreFails.{StoreFails, fails_at}
+use Rattle.world.specs.StoreCalls.{StoreTold, Reading, Found, Missing, Unread, StoreCall, ReadFile, store_answered}
+use Rattle.world.specs.FileLists.{file_at}
 use Rattle.lease_file.specs.declared.reading.Got.{Got}
 use Rattle.lease_file.specs.declared.reading.Got.TheVariants as got
 
@@ -21,11 +22,11 @@ HasReadCause old new (Ok got.Unread) = old < new
 HasReadCause old new (Err e) = Unit {0}
 
 -- Where it is told which calls fail, a file is unread exactly where the number of its reading is told.
-abbrev pub IsReadForetold : Option (List ℕ) → ℕ → Result Got NoMemory → Type 0
+abbrev pub IsReadForetold : Option StoreFails → ℕ → Result Got NoMemory → Type 0
 IsReadForetold None number result = Unit {0}
-IsReadForetold (Some failing) number (Ok (got.Text bytes)) = has_number failing number ≡ false
-IsReadForetold (Some failing) number (Ok got.Missing) = has_number failing number ≡ false
-IsReadForetold (Some failing) number (Ok got.Unread) = has_number failing number ≡ true
+IsReadForetold (Some failing) number (Ok (got.Text bytes)) = fails_at failing number ≡ false
+IsReadForetold (Some failing) number (Ok got.Missing) = fails_at failing number ≡ false
+IsReadForetold (Some failing) number (Ok got.Unread) = fails_at failing number ≡ true
 IsReadForetold (Some failing) number (Err e) = Unit {0}
 
 -- what was read is the file as it stands

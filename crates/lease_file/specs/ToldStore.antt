@@ -1,6 +1,7 @@
 -- What a store tells, in its parts.
 use Rattle.std.specs.Prelude.{List, ◌++◌, Option, option_map}
-use Rattle.world.specs.StoreCalls.{StoreTold, StoreFile, StoreCall}
+use Rattle.world.specs.FileLists.{StoreFile}
+use Rattle.world.specs.StoreCalls.{StoreTold, StoreCall}
 
 abbrev pub told_files : Option StoreTold → Option (List StoreFile)
 told_files told = option_map (λ t. t.files) told

@@ -2,7 +2,8 @@ ghost use Rattle.std.specs.Prelude.{◌≡◌, ◌≤◌, ◌<◌, [], ◌∷◌
 ghost use Rattle.std.specs.List.{AllByRecursion};
 ghost use Rattle.std.specs.String.{string_bytes};
 ghost use Rattle.world.specs.FileNames.{IsFileName};
-ghost use Rattle.world.specs.StoreCalls.{asides, store_number, RemovedFile, SettledFiles};
+ghost use Rattle.world.specs.StoreCalls.{store_number, RemovedFile, SettledFiles};
+ghost use Rattle.world.specs.FileLists.{asides};
 ghost use Rattle.lease_file.specs.Quiet.{IsQuiet};
 ghost use Rattle.lease_file.specs.ToldStore.{told_files, told_calls, with_calls};
 ghost use Rattle.lease_file.specs.AsideCalls.{HasListingCause, HasClearingCause, IsListingForetold, TellsRefusal, SettlesIfAny, FailsNothing, any_left, removal_calls, cleared_calls, listing_calls};

@@ -4,7 +4,8 @@ use Rattle.std.proofs.Common.{drop, inl, inr}
 use Rattle.std.specs.Prelude.{◌==◌}
 use Rattle.std.proofs.lemmas.Bool.{cases_lt}
 use Rattle.std.proofs.lemmas.List.{take-append-drop, length-append, length-take, get_or-drop, get_or-take, get_or_past}
-use Rattle.net_types.specs.Sum.{checksum, ones_add, ones_sum, ones_fold, plain_sum, AreBytes, IsSumOf}
+use Rattle.net_types.specs.Sum.{checksum, ones_add, ones_sum, ones_fold, plain_sum, IsSumOf}
+use Rattle.net_types.specs.Marks.{AreBytes}
 use Rattle.net_types.specs.declared.sum.Sum.{Sum}
 
 pub rest_bytes : (x : ℕ) (xs : List ℕ) → AreBytes (x ∷ xs) → AreBytes xs

@@ -22,7 +22,7 @@ only_drop test zero xs only = only
 only_drop test (suc n) [] only = refl
 only_drop test (suc n) (x ∷ xs) only = only_drop test n xs (and_parts (test x) _ only).1
 
-abbrev AreGroups : List ℕ → Type 0
+abbrev pub AreGroups : List ℕ → Type 0
 AreGroups groups = AllByRecursion (λ s. s < 65536) groups
 
 groups_take : (n : ℕ) (ss : List ℕ) → AreGroups ss → AreGroups (take n ss)

@@ -1,7 +1,14 @@
 pub mod AddressLaws
+pub mod AllLaws
+pub mod NetworkLaws
+pub mod CaseLaws
 pub mod ChoiceLaws
+pub mod FirstBadLaws
+pub mod GroupLaws
 pub mod HexLaws
+pub mod Ip6Laws
 pub mod Ip6Marks
+pub mod LineSteps
 pub mod ListLaws
 pub mod MarkLaws
 pub mod NameLaws

@@ -226,6 +226,14 @@ map_reads {text_y = text_y} {read_y = read_y} {FitsX = FitsX} make from law back
   whole = λ x fits. ap (λ o. option_map make o) (law.whole (from x) (fits_from x fits)) ∙ ap (λ y. Some y) (there x fits);
 }
 
+pub guard_passed : {X : Type 0} (test : X → Bool) (o : Option X) (x : X) → guarded test o ≡ Some x → (o ≡ Some x) × (test x ≡ true)
+guard_passed test None x e = cc
+guard_passed test (Some y) x e =
+    elim (test y) as (λ b. test y ≡ b → cond b (Some y) None ≡ Some x → (Some y ≡ Some x) × (test x ≡ true)) [
+      | true ↦ λ t q. (q, subst (λ z. test z ≡ true) (some_same q) t)
+      | false ↦ λ t q. let never : ⊥ = cc in absurd never
+    ] refl e
+
 pub guard_reads : {X : Type 0} {text_of : X → List ℕ} {Fits : X → Type 0} {found : List ℕ → Option X} (test : X → Bool) → Reads text_of Fits found → Reads text_of (λ x. Fits x × IsTrue (test x)) (λ text. guarded test (found text))
 guard_reads {X} {text_of} {Fits} {found} test law = record {
   sound = λ text x e.
@@ -234,11 +242,3 @@ guard_reads {X} {text_of} {Fits} {found} test law = record {
       (s.0, (s.1, g.1));
   whole = λ x fits. ap (λ o. guarded test o) (law.whole x fits.0) ∙ ap (λ b. cond b (Some x) None) fits.1;
 }
-  where
-    guard_passed : (test : X → Bool) (o : Option X) (x : X) → guarded test o ≡ Some x → (o ≡ Some x) × (test x ≡ true)
-    guard_passed test None x e = cc
-    guard_passed test (Some y) x e =
-        elim (test y) as (λ b. test y ≡ b → cond b (Some y) None ≡ Some x → (Some y ≡ Some x) × (test x ≡ true)) [
-          | true ↦ λ t q. (q, subst (λ z. test z ≡ true) (some_same q) t)
-          | false ↦ λ t q. let never : ⊥ = cc in absurd never
-        ] refl e

@@ -6,3 +6,10 @@ pub mod HexText
 pub mod AddressText
 pub mod NameText
 pub mod Sum
+pub mod Networks
+pub mod Fields
+pub mod TextLines
+pub mod FirstBadLine
+pub mod LineReading
+pub mod LineFormats
+pub mod Ip6Text

@@ -1,7 +1,8 @@
 -- The Internet checksum (RFC 1071): the complement of the one's complement sum of 16-bit words in network order.
 -- Where the number of bytes is odd, 0 stands for the low byte of the last word.
-use Rattle.std.specs.Prelude.{◌≡◌, ℕ, ◌+◌, ◌-◌, ◌*◌, ◌%◌, ◌<◌, List, [], ◌∷◌, length, nat_lt, ◌==◌, slice_index, if◌then◌else◌}
+use Rattle.std.specs.Prelude.{◌≡◌, ℕ, ◌+◌, ◌-◌, ◌*◌, ◌%◌, List, [], ◌∷◌, length, nat_lt, ◌==◌, if◌then◌else◌}
 use Rattle.net_types.specs.declared.sum.Sum.{Sum}
+use Rattle.net_types.specs.Marks.{AreBytes}
 
 -- the carry comes back in at the right
 abbrev pub ones_add : ℕ → ℕ → ℕ
@@ -23,9 +24,6 @@ abbrev pub plain_sum : List ℕ → ℕ
 plain_sum [] = 0
 plain_sum (high ∷ []) = 256 * high
 plain_sum (high ∷ low ∷ rest) = 256 * high + low + plain_sum rest
-
-abbrev pub AreBytes : List ℕ → Type 0
-AreBytes bytes = (i : ℕ) → slice_index bytes i < 256
 
 -- what a sum has added so far
 pub record IsSumOf (sum : Sum) (bytes : List ℕ) : Type 0 where

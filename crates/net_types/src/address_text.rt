@@ -20,9 +20,7 @@ const PREFIX4_LIMIT: u64 = 33;
 fn ip4_from(a: u8, b: u8, c: u8, d: u8) -> Ip4
     ensures { result.number ≡ a * 2 ^ 24 + b * 2 ^ 16 + c * 2 ^ 8 + d }
 {
-    Ip4 {
-        number: u32::from_be_bytes([a, b, c, d]),
-    }
+    Ip4::from_octets([a, b, c, d])
 }
 
 /// The number before the first dot, and the text after it.

@@ -3,9 +3,7 @@ use std::process::Abort;
 use std::test::Fail;
 
 fn ip4(a: u8, b: u8, c: u8, d: u8) -> Ip4 {
-    Ip4 {
-        number: u32::from_be_bytes([a, b, c, d]),
-    }
+    Ip4::from_octets([a, b, c, d])
 }
 
 #[test]
@@ -125,6 +123,59 @@ fn prints_ip6(rt: HostRuntime) -> Result<(), Fail> {
         Net::V6(Net6 { ip, len: 32 }),
         "2001:db8::/32",
     )
+}
+
+// The spellings of RFC 4291, section 2.2, and texts that are none.
+#[test]
+fn reads_ip6(rt: HostRuntime) -> Result<(), Fail> {
+    for (text, number) in [
+        (
+            "ABCD:EF01:2345:6789:abcd:ef01:2345:6789",
+            0xabcd_ef01_2345_6789_abcd_ef01_2345_6789,
+        ),
+        (
+            "2001:DB8:0:0:8:800:200C:417A",
+            0x2001_0db8_0000_0000_0008_0800_200c_417a,
+        ),
+        (
+            "2001:db8::8:800:200c:417a",
+            0x2001_0db8_0000_0000_0008_0800_200c_417a,
+        ),
+        ("1:2:3:4:5:6:7::", 0x0001_0002_0003_0004_0005_0006_0007_0000),
+        ("::1", 1),
+        ("::", 0),
+    ] {
+        assert_eq!(rt; read_ip6(text), Ok(Ip6 { number }));
+    }
+    for bad in [
+        "::ffff:1.2.3.4",
+        "1:2:3:4:5:6:7:8::",
+        "1::2::3",
+        "1:2:3:4:5:6:7",
+        "12345::",
+        ":1:2:3:4:5:6:7",
+        "fe80::1%1",
+        "",
+    ] {
+        assert_eq!(rt; read_ip6(bad), Err(BadText));
+    }
+    let ip = read_ip6("2001:DB8::")?;
+    assert_eq!(rt; read_net6("2001:db8::/48"), Ok(Net6 { ip, len: 48 }));
+    assert_eq!(rt; read_net6("2001:db8::/129"), Err(BadText));
+    assert_eq!(rt; printed_net6_of(rt.alloc(), b"2001:DB8::/48"), Ok(None));
+    Ok(())
+}
+
+#[test]
+fn networks(rt: HostRuntime) -> Result<(), Fail> {
+    let net = read_net4("192.0.2.77/26")?;
+    assert_eq!(rt; net.network(), read_net4("192.0.2.64/26")?);
+    assert_eq!(rt; net.mask(), ip4(255, 255, 255, 192));
+    assert_eq!(rt; net.mask().mask_len(), 26);
+    assert!(rt; net.contains(ip4(192, 0, 2, 127)));
+    assert!(rt; !net.contains(ip4(192, 0, 2, 128)));
+    assert!(rt; read_net4("10.0.0.1/0")?.contains(Ip4::BROADCAST));
+    Ok(())
 }
 
 #[test]

@@ -12,7 +12,7 @@ use Rattle.net_types.proofs.ReadsLaws.{passed, some_same, split_whole, split_sou
 use Rattle.net_types.proofs.ListLaws.{split_smaller}
 use Rattle.net_types.proofs.ChoiceLaws.{words_apart}
 use Rattle.net_types.specs.Reads.{Reads}
-use Rattle.client_model.specs.Scripts.{ended}
+use Rattle.script_model.specs.ScriptTexts.{ended}
 use Rattle.replay_text.specs.Blocks.{parts_of, line_after, words_at, Block, block_with, block_at, line_at, are_done}
 use Rattle.replay_text.specs.ScriptReading.{conf_at}
 

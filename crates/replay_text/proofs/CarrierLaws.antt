@@ -15,9 +15,9 @@ use Rattle.net_types.proofs.ReadsLaws.{some_same, passed, mapped, steps_assoc, s
 use Rattle.net_types.proofs.ListLaws.{list_reads}
 use Rattle.net_types.proofs.MarkLaws.{decimal_lacks, lacks-append}
 use Rattle.world.specs.declared.wakes.Begin.{Begin}
-use Rattle.client_model.specs.Interfaces.{is_up}
-use Rattle.client_model.specs.Lines as lines
-use Rattle.client_model.specs.Lines.{numbers_from, up_list, up_text, start_text}
+use Rattle.script_model.specs.IfaceSets.{is_up}
+use Rattle.script_model.specs.Lines as lines
+use Rattle.script_model.specs.Lines.{numbers_from, up_list, up_text, start_text}
 use Rattle.replay_text.specs.declared.carriers.Listed.{Listed}
 use Rattle.replay_text.specs.RowReading.{iface_at}
 use Rattle.replay_text.specs.LineReading.{moment_at, salt_at}

@@ -1,5 +1,5 @@
 -- The lines `if`, `fail` and `turn`: what is read is spelled so, and what is spelled so is read.
-use Rattle.std.proofs.Common.{◌≡◌, ℕ, ◌^◌, ◌<◌, Bool, true, false, cond, List, [], ◌∷◌, ◌++◌, Some, None, refl, sym, ap, ◌∙◌, subst, arith, codes, bytes_eq, leb, length, IsTrue}
+use Rattle.std.proofs.Common.{◌≡◌, ℕ, ◌^◌, ◌<◌, Bool, true, false, cond, List, [], ◌∷◌, ◌++◌, Some, None, Option, option_map, refl, sym, ap, ◌∙◌, subst, arith, codes, bytes_eq, leb, length, IsTrue}
 use Rattle.std.specs.Fmt.{decimal}
 use Rattle.std.proofs.lemmas.Bool.{leb-true, le-leb}
 use Rattle.std.proofs.lemmas.List.{append_assoc}
@@ -24,11 +24,13 @@ use Rattle.net_types.proofs.MarkLaws.{decimal_lacks, hex_lacks, lacks-append, ma
 use Rattle.world.specs.declared.wakes.Event.{Event}
 use Rattle.world.specs.declared.wakes.Event.TheVariants.{Frame, Carrier, Duplicate, Release, Rebind, Stop, Quiet, End}
 use Rattle.world.specs.LinkCalls.{Given}
-use Rattle.client_model.specs.declared.failing.FailDevice.{FailDevice}
-use Rattle.client_model.specs.declared.failing.FailDevice.TheVariants.{Link}
-use Rattle.client_model.specs.declared.failing.FailLine.{FailLine}
-use Rattle.client_model.specs.Lines.{carrier_text, event_text, interface_text}
-use Rattle.client_model.specs.Scripts.{device_text, fail_text, given_text, FitsEvent, frame_room, FitsFrame, FitsBytes, FitsGiven, FitsFail}
+use Rattle.script_model.specs.declared.failing.FailDevice.{FailDevice}
+use Rattle.script_model.specs.declared.failing.FailDevice.TheVariants.{Link, Store, Host, Hooks}
+use Rattle.script_model.specs.declared.failing.FailLine.{FailLine}
+use Rattle.script_model.specs.Lines.{carrier_text, event_text, interface_text}
+use Rattle.script_model.specs.FailingCalls.{device_text, fail_text, FitsFail}
+use Rattle.script_model.specs.ScriptTexts.{given_text}
+use Rattle.script_model.specs.Scripts.{FitsEvent, frame_room, FitsFrame, FitsBytes, FitsGiven}
 use Rattle.replay_text.specs.RowReading.{iface_at}
 use Rattle.replay_text.specs.LineReading.{spec_at, call_at, fail_at, moment_at, salt_at, switch_at, Came, carrier_at, frame_bytes_at, frame_at, came_at, turn_at}
 use Rattle.replay_text.proofs.RowLaws.{by_cases, FitsIface, iface_text, iface_reads, iface_lacks, decimal_line, iface_line, joined_line}
@@ -79,28 +81,34 @@ fail_words fail = device_text fail.device ++ 32 ∷ decimal fail.number
 abbrev failing : FailDevice → ℕ → FailLine
 failing device n = record { device = device; number = n }
 
-of_link : (device : FailDevice) (n : ℕ) → failing Link n ≡ failing device n
-of_link Link n = refl
-
-device_words : (device : FailDevice) (n : ℕ) → device_text device ++ 32 ∷ decimal n ≡ codes "link " ++ decimal n
-device_words Link n = refl
-
 pub fail_reads : Reads fail_words FitsFail fail_at
 unfolding fail_at
-fail_reads =
-    same_texts fail_words (λ fail. device_words fail.device fail.number)
-    (map_reads (λ n. failing Link n) (λ fail. fail.number)
-    (word_reads (codes "link ") call_reads)
-    (λ n fits. refl)
-    (λ fail fits. of_link fail.device fail.number)
-    (λ n fits. record { first = leb-true _ _ fits.1; bits = fits.0 })
-    (λ fail fits. (fits.bits, le-leb _ _ fits.first)))
+fail_reads = record { sound = sound; whole = whole }
+  where
+    link_reads : Reads (λ n. codes "link " ++ decimal n) IsCall (after_word (codes "link ") call_at)
+    link_reads = word_reads (codes "link ") call_reads
+
+    sound : (text : List ℕ) (fail : FailLine) → option_map (failing Link) (after_word (codes "link ") call_at text) ≡ Some fail → (text ≡ fail_words fail) × FitsFail fail
+    sound text fail e =
+        let m = mapped (failing Link) (after_word (codes "link ") call_at text) fail e in
+        let s = link_reads.sound text m.value m.was in
+        let fits : FitsFail (failing Link m.value) = record { built = refl; first = leb-true _ _ s.1.1; bits = s.1.0 } in
+        (s.0 ∙ ap fail_words m.gives, subst FitsFail m.gives fits)
+
+    whole : (fail : FailLine) → FitsFail fail → option_map (failing Link) (after_word (codes "link ") call_at (fail_words fail)) ≡ Some fail
+    whole fail fits =
+        let same : failing Link fail.number ≡ fail = ap (λ device. failing device fail.number) (sym fits.built) in
+        subst (λ f. option_map (failing Link) (after_word (codes "link ") call_at (fail_words f)) ≡ Some f) same
+        (ap (option_map (failing Link)) (link_reads.whole fail.number (fits.bits, le-leb _ _ fits.first)))
 
 pub fail_spelled : (fail : FailLine) → fail_text fail ≡ codes "fail " ++ fail_words fail
 fail_spelled fail = simp append_assoc
 
 device_line : (device : FailDevice) → Lacks 10 (device_text device)
 device_line Link = refl
+device_line Store = refl
+device_line Host = refl
+device_line Hooks = refl
 
 pub fail_line : (fail : FailLine) → FitsFail fail → Lacks 10 (fail_words fail)
 fail_line fail fits = joined_line (device_text fail.device) (decimal fail.number) (device_line fail.device) (decimal_line fail.number fits.bits)

@@ -1,5 +1,5 @@
 -- Scripts: what is read is spelled so, and what is spelled so is read.
-use Rattle.std.proofs.Common.{◌≡◌, ℕ, ◌≤◌, true, ◌&&◌, List, [], ◌∷◌, ◌++◌, map, flat_map, length, Some, refl, sym, ap, ◌∙◌, subst, codes}
+use Rattle.std.proofs.Common.{◌≡◌, ℕ, ◌≤◌, true, ◌&&◌, List, [], ◌∷◌, ◌++◌, map, flat_map, length, Some, option_map, refl, sym, ap, ◌∙◌, subst, codes, arith}
 use Rattle.std.specs.List.{AllByRecursion, join_with_byte}
 use Rattle.std.proofs.lemmas.Bool.{and_parts, eqb-true, eq-eqb}
 use Rattle.std.proofs.lemmas.List.{append_assoc, append-nil}
@@ -14,16 +14,18 @@ use Rattle.net_types.proofs.MarkLaws.{lacks-append}
 use Rattle.world.specs.declared.rows.HostRow.{HostRow}
 use Rattle.world.specs.LinkCalls.{Given}
 use Rattle.world.specs.RowText.{row_text, IsBuiltRow}
-use Rattle.client_model.specs.Lines.{interface_text, start_text}
-use Rattle.client_model.specs.declared.failing.FailLine.{FailLine}
-use Rattle.client_model.specs.Scripts.{ScriptLines, LifeScript, ended, fail_text, given_text, life_text, script_text, FitsGiven, FitsFail, FitsScript}
+use Rattle.script_model.specs.Lines.{interface_text, start_text}
+use Rattle.script_model.specs.declared.failing.FailLine.{FailLine}
+use Rattle.script_model.specs.FailingCalls.{fail_text, FitsFail}
+use Rattle.script_model.specs.ScriptTexts.{ScriptLines, LifeScript, ended, given_text, life_text, script_text}
+use Rattle.script_model.specs.Scripts.{FitsGiven, FitsLife, FitsScript}
 use Rattle.replay_text.specs.RowReading.{row_at}
 use Rattle.replay_text.specs.LineReading.{spec_at, fail_at, turn_at}
 use Rattle.replay_text.specs.Carriers.{begin_at}
 use Rattle.replay_text.specs.Blocks.{parts_of, Block, block_at, line_at, are_done}
 use Rattle.replay_text.specs.ScriptContent.{unless_last, lines_within, conf_lines, HoldsLines}
 use Rattle.replay_text.specs.KindTests.{interfaces_fit, are_once, turns_fit}
-use Rattle.replay_text.specs.ScriptReading.{conf_at, ifaces_at, rows_at, life_at, body_at, head, script_at}
+use Rattle.replay_text.specs.ScriptReading.{conf_at, ifaces_at, rows_at, life_at, lives_at, body_at, head, script_at}
 use Rattle.replay_text.proofs.RowLaws.{row_reads, row_line}
 use Rattle.replay_text.proofs.LineLaws.{spec_text, FitsSpec, spec_reads, spec_spelled, spec_line, fail_words, fail_reads, fail_spelled, fail_line, turn_words, turn_reads, turn_spelled, turn_line}
 use Rattle.replay_text.proofs.CarrierLaws.{begin_words, FitsBegin, begin_reads, begin_spelled, begin_line}
@@ -171,10 +173,33 @@ life_read count life few is =
     let rest = map (λ g. codes "turn " ++ turn_words g) life.turns ++ [] ∷ [] in
     rw (line_whole (codes "start ") life.begin rest (begin_reads count few) is.begin (turns_some life.turns), block_whole (codes "turn ") life.turns ([] ∷ []) turn_reads is.turns.each refl, is.turns.test) refl
 
+-- ---- the lives
+
+abbrev lives_parts : List LifeScript → List (List ℕ)
+lives_parts [] = [] ∷ []
+lives_parts (life ∷ lives) = (codes "start " ++ begin_words life.begin) ∷ (map (λ g. codes "turn " ++ turn_words g) life.turns ++ lives_parts lives)
+
+abbrev AreLives : ℕ → List LifeScript → Type 0
+AreLives count [] = ⊥
+AreLives count (life ∷ []) = IsLife count life
+AreLives count (life ∷ next ∷ lives) = ⊥
+
+lives_sound : (count : ℕ) (parts : List (List ℕ)) (lives : List LifeScript) → count ≤ 64 → lives_at count parts ≡ Some lives → (parts ≡ lives_parts lives) × AreLives count lives
+unfolding lives_at
+lives_sound count parts lives few e =
+    let m = mapped (λ (life : LifeScript). life ∷ []) (life_at count parts) lives e in
+    subst (λ (ls : List LifeScript). (parts ≡ lives_parts ls) × AreLives count ls) m.gives (life_sound count parts m.value few m.was)
+
+lives_read : (count : ℕ) (lives : List LifeScript) → count ≤ 64 → AreLives count lives → lives_at count (lives_parts lives) ≡ Some lives
+unfolding lives_at
+lives_read count [] few are = absurd are
+lives_read count (life ∷ []) few are = ap (option_map (λ (l : LifeScript). l ∷ [])) (life_read count life few are)
+lives_read count (life ∷ next ∷ lives) few are = absurd are
+
 -- ---- the body
 
 abbrev fail_parts : ScriptLines → List (List ℕ)
-fail_parts s = map (λ f. codes "fail " ++ fail_words f) s.fails ++ life_parts s.life
+fail_parts s = map (λ f. codes "fail " ++ fail_words f) s.fails ++ lives_parts s.lives
 
 abbrev row_parts : ScriptLines → List (List ℕ)
 row_parts s = map (λ r. codes "row " ++ row_text r) s.rows ++ fail_parts s
@@ -190,7 +215,7 @@ record FitsLines (s : ScriptLines) : Type 0 where
   ifaces : AreInterfaces s.ifaces
   rows : AreRows s.rows
   fails : AllByRecursion FitsFail s.fails
-  life : IsLife (length s.ifaces) s.life
+  lives : AreLives (length s.ifaces) s.lives
 
 body_sound : (parts : List (List ℕ)) (s : ScriptLines) → AllByRecursion (Lacks 10) parts → body_at parts ≡ Some s → (parts ≡ script_parts s) × FitsLines s
 unfolding body_at
@@ -199,40 +224,41 @@ body_sound parts s free e =
     let ifaces = passed (ifaces_at conf.value.1) _ s conf.gives in
     let rows = passed (rows_at ifaces.value.1) _ s ifaces.gives in
     let fails = passed (block_at (codes "fail ") fail_at rows.value.1) _ s rows.gives in
-    let life = passed (life_at (length ifaces.value.0) fails.value.1) _ s fails.gives in
+    let lives = passed (lives_at (length ifaces.value.0) fails.value.1) _ s fails.gives in
     let c = conf_sound parts conf.value free conf.was in
     let i = ifaces_sound conf.value.1 ifaces.value ifaces.was in
     let r = rows_sound ifaces.value.1 rows.value rows.was in
     let f = block_sound (codes "fail ") rows.value.1 fails.value fail_reads fails.was in
-    let l = life_sound (length ifaces.value.0) fails.value.1 life.value (interfaces_few ifaces.value.0 i.1.test) life.was in
-    let made : ScriptLines = record { conf = conf_lines conf.value.0; ifaces = ifaces.value.0; rows = rows.value.0; fails = fails.value.0; life = life.value } in
-    let whole : made ≡ s = some_same life.gives in
+    let l = lives_sound (length ifaces.value.0) fails.value.1 lives.value (interfaces_few ifaces.value.0 i.1.test) lives.was in
+    let made : ScriptLines = record { conf = conf_lines conf.value.0; ifaces = ifaces.value.0; rows = rows.value.0; fails = fails.value.0; lives = lives.value } in
+    let whole : made ≡ s = some_same lives.gives in
     let fail_is : rows.value.1 ≡ fail_parts made = f.0 ∙ ap (λ ps. map (λ f. codes "fail " ++ fail_words f) fails.value.0 ++ ps) l.0 in
     let row_is : ifaces.value.1 ≡ row_parts made = r.0 ∙ ap (λ ps. map (λ r. codes "row " ++ row_text r) rows.value.0 ++ ps) fail_is in
     let iface_is : conf.value.1 ≡ iface_parts made = i.0 ∙ ap (λ ps. map (λ i. codes "if " ++ spec_text i) ifaces.value.0 ++ ps) row_is in
     let spelled : parts ≡ script_parts made = c.0 ∙ ap (λ ps. map (λ t. codes "c:" ++ t) (conf_lines conf.value.0) ++ ps) iface_is in
-    let fits : FitsLines made = record { conf = c.1; ifaces = i.1; rows = r.1; fails = f.1; life = l.1 } in
+    let fits : FitsLines made = record { conf = c.1; ifaces = i.1; rows = r.1; fails = f.1; lives = l.1 } in
     subst (λ (x : ScriptLines). (parts ≡ script_parts x) × FitsLines x) whole (spelled, fits)
 
 -- no line of a kind is taken for one of an earlier kind
-stops_life : (word : List ℕ) (life : LifeScript) → WordsApart word (codes "start ") → Stops word (life_parts life)
-stops_life word life apart = stops_line word (codes "start ") (begin_words life.begin) (map (λ g. codes "turn " ++ turn_words g) life.turns ++ [] ∷ []) apart
+stops_lives : (word : List ℕ) (count : ℕ) (lives : List LifeScript) → AreLives count lives → WordsApart word (codes "start ") → Stops word (lives_parts lives)
+stops_lives word count [] are apart = absurd are
+stops_lives word count (life ∷ lives) are apart = stops_line word (codes "start ") (begin_words life.begin) (map (λ g. codes "turn " ++ turn_words g) life.turns ++ lives_parts lives) apart
 
-stops_fails : (word : List ℕ) (s : ScriptLines) → WordsApart word (codes "fail ") → WordsApart word (codes "start ") → Stops word (fail_parts s)
-stops_fails word s fail start = stops_block word (codes "fail ") fail_words s.fails (life_parts s.life) fail (stops_life word s.life start)
+stops_fails : (word : List ℕ) (s : ScriptLines) → FitsLines s → WordsApart word (codes "fail ") → WordsApart word (codes "start ") → Stops word (fail_parts s)
+stops_fails word s fits fail start = stops_block word (codes "fail ") fail_words s.fails (lives_parts s.lives) fail (stops_lives word (length s.ifaces) s.lives fits.lives start)
 
-stops_rows : (word : List ℕ) (s : ScriptLines) → WordsApart word (codes "row ") → WordsApart word (codes "fail ") → WordsApart word (codes "start ") → Stops word (row_parts s)
-stops_rows word s row fail start = stops_block word (codes "row ") row_text s.rows (fail_parts s) row (stops_fails word s fail start)
+stops_rows : (word : List ℕ) (s : ScriptLines) → FitsLines s → WordsApart word (codes "row ") → WordsApart word (codes "fail ") → WordsApart word (codes "start ") → Stops word (row_parts s)
+stops_rows word s fits row fail start = stops_block word (codes "row ") row_text s.rows (fail_parts s) row (stops_fails word s fits fail start)
 
 body_whole : (s : ScriptLines) → FitsLines s → body_at (script_parts s) ≡ Some s
 unfolding body_at
 body_whole s fits =
     rw (
-      conf_whole s.conf (iface_parts s) (stops_block (codes "c:") (codes "if ") spec_text s.ifaces (row_parts s) refl (stops_rows (codes "c:") s refl refl refl)),
-      ifaces_read s.ifaces (row_parts s) fits.ifaces (stops_rows (codes "if ") s refl refl refl),
-      rows_read s.rows (fail_parts s) fits.rows (stops_fails (codes "row ") s refl refl),
-      block_whole (codes "fail ") s.fails (life_parts s.life) fail_reads fits.fails (stops_life (codes "fail ") s.life refl),
-      life_read (length s.ifaces) s.life (interfaces_few s.ifaces fits.ifaces.test) fits.life,
+      conf_whole s.conf (iface_parts s) (stops_block (codes "c:") (codes "if ") spec_text s.ifaces (row_parts s) refl (stops_rows (codes "c:") s fits refl refl refl)),
+      ifaces_read s.ifaces (row_parts s) fits.ifaces (stops_rows (codes "if ") s fits refl refl refl),
+      rows_read s.rows (fail_parts s) fits.rows (stops_fails (codes "row ") s fits refl refl),
+      block_whole (codes "fail ") s.fails (lives_parts s.lives) fail_reads fits.fails (stops_lives (codes "fail ") (length s.ifaces) s.lives fits.lives refl),
+      lives_read (length s.ifaces) s.lives (interfaces_few s.ifaces fits.ifaces.test) fits.lives,
       conf_lines_of s.conf fits.conf,
     ) refl
 
@@ -260,7 +286,7 @@ turns_spelled (given ∷ turns) fits =
     ((turn_spelled given, lacks-append 10 (codes "turn ") (turn_words given) refl (turn_line given fits.0)), turns_spelled turns fits.1)
 
 abbrev fail_body : ScriptLines → List ℕ
-fail_body s = flat_map (λ fail. ended (fail_text fail)) s.fails ++ life_text s.life
+fail_body s = flat_map (λ fail. ended (fail_text fail)) s.fails ++ flat_map life_text s.lives
 
 abbrev row_body : ScriptLines → List ℕ
 row_body s = flat_map (λ row. ended (codes "row " ++ row_text row)) s.rows ++ fail_body s
@@ -280,12 +306,17 @@ life_cut count life few is =
     ap parts_of (sym (append-nil turns)) ∙ parts_block given_text (λ g. codes "turn " ++ turn_words g) life.turns [] (turns_spelled life.turns is.turns.each) in
     ap parts_of first ∙ parts_line (codes "start " ++ begin_words life.begin) turns free ∙ ap (λ ps. (codes "start " ++ begin_words life.begin) ∷ ps) others
 
+lives_cut : (count : ℕ) (lives : List LifeScript) → count ≤ 64 → AreLives count lives → parts_of (flat_map life_text lives) ≡ lives_parts lives
+lives_cut count [] few are = absurd are
+lives_cut count (life ∷ []) few are = ap parts_of (append-nil (life_text life)) ∙ life_cut count life few are
+lives_cut count (life ∷ next ∷ lives) few are = absurd are
+
 body_cut : (s : ScriptLines) → FitsLines s → parts_of (body_text s) ≡ script_parts s
 body_cut s fits =
-    let life = life_cut (length s.ifaces) s.life (interfaces_few s.ifaces fits.ifaces.test) fits.life in
+    let lives = lives_cut (length s.ifaces) s.lives (interfaces_few s.ifaces fits.ifaces.test) fits.lives in
     let fails : parts_of (fail_body s) ≡ fail_parts s =
-    parts_block fail_text (λ f. codes "fail " ++ fail_words f) s.fails (life_text s.life) (fails_spelled s.fails fits.fails)
-    ∙ ap (λ ps. map (λ f. codes "fail " ++ fail_words f) s.fails ++ ps) life in
+    parts_block fail_text (λ f. codes "fail " ++ fail_words f) s.fails (flat_map life_text s.lives) (fails_spelled s.fails fits.fails)
+    ∙ ap (λ ps. map (λ f. codes "fail " ++ fail_words f) s.fails ++ ps) lives in
     let rows : parts_of (row_body s) ≡ row_parts s =
     parts_block (λ row. codes "row " ++ row_text row) (λ row. codes "row " ++ row_text row) s.rows (fail_body s) (rows_spelled s.rows fits.rows.each)
     ∙ ap (λ ps. map (λ r. codes "row " ++ row_text r) s.rows ++ ps) fails in
@@ -297,39 +328,57 @@ body_cut s fits =
 
 -- ---- the same bounds in the words of the model
 
+lives_to : (count : ℕ) (lives : List LifeScript) → count ≤ 64 → length lives ≡ 1 → AllByRecursion (FitsLife count) lives → AreLives count lives
+lives_to count [] few one fits = absurd (omega (arith, one))
+lives_to count (life ∷ []) few one fits =
+    let life_fits = fits.0 in
+    record {
+      begin = record { at = life_fits.at; salt = life_fits.salt; up = life_fits.up };
+      turns = turns_whole count life.turns few (by_recursion (FitsGiven count) life.turns life_fits.turns);
+    }
+lives_to count (life ∷ next ∷ lives) few one fits = absurd (omega (arith, one))
+
+abbrev FitLives : ℕ → List LifeScript → Type 0
+FitLives count lives = (length lives ≡ 1) × AllByRecursion (FitsLife count) lives
+
+lives_from : (count : ℕ) (lives : List LifeScript) → AreLives count lives → FitLives count lives
+lives_from count [] are = absurd are
+lives_from count (life ∷ []) are =
+    let begin = are.begin in
+    let fits : FitsLife count life = record {
+      at = begin.at;
+      salt = begin.salt;
+      up = begin.up;
+      turns = All-from_recursion (FitsGiven count) life.turns (turns_sound count life.turns are.turns);
+    } in
+    (refl, (fits, tt))
+lives_from count (life ∷ next ∷ lives) are = absurd are
+
 lines_to : (s : ScriptLines) → FitsScript s → FitsLines s
 unfolding are_once
 lines_to s fits =
     let ifaces = interfaces_whole s.ifaces fits.ifaces in
     let few = interfaces_few s.ifaces ifaces.test in
-    let life = fits.life in
     record {
       conf = by_recursion (Lacks 10) s.conf fits.conf;
       ifaces = ifaces;
       rows = record { each = by_recursion IsBuiltRow s.rows fits.rows; test = eq-eqb _ _ fits.once };
       fails = by_recursion FitsFail s.fails fits.fails;
-      life = record {
-        begin = record { at = life.at; salt = life.salt; up = life.up };
-        turns = turns_whole (length s.ifaces) s.life.turns few (by_recursion (FitsGiven (length s.ifaces)) s.life.turns life.turns);
-      };
+      lives = lives_to (length s.ifaces) s.lives few fits.one (by_recursion (FitsLife (length s.ifaces)) s.lives fits.lives);
     }
 
 lines_from : (s : ScriptLines) → FitsLines s → FitsScript s
 unfolding are_once
 lines_from s fits =
-    let begin = fits.life.begin in
+    let lives = lives_from (length s.ifaces) s.lives fits.lives in
     record {
       conf = All-from_recursion (Lacks 10) s.conf fits.conf;
       ifaces = interfaces_sound s.ifaces fits.ifaces;
       rows = All-from_recursion IsBuiltRow s.rows fits.rows.each;
       once = eqb-true _ _ fits.rows.test;
       fails = All-from_recursion FitsFail s.fails fits.fails;
-      life = record {
-        at = begin.at;
-        salt = begin.salt;
-        up = begin.up;
-        turns = All-from_recursion (FitsGiven (length s.ifaces)) s.life.turns (turns_sound (length s.ifaces) s.life.turns fits.life.turns);
-      };
+      one = lives.0;
+      lives = All-from_recursion (FitsLife (length s.ifaces)) s.lives lives.1;
     }
 
 -- ---- scripts

@@ -16,7 +16,7 @@ use Rattle.world.specs.declared.wakes.Event.{Event}
 use Rattle.world.specs.declared.wakes.Event.TheVariants.{Frame, Carrier, Duplicate, Release, Rebind, Stop, Quiet, End}
 use Rattle.world.specs.LinkCalls.{Given}
 use Rattle.world.specs.RowOrder.{put_in_order, with_row}
-use Rattle.client_model.specs.Scripts.{CountsFrom, Unlike, FitInterfaces, FitsEvent, FitsGiven}
+use Rattle.script_model.specs.Scripts.{CountsFrom, Unlike, FitInterfaces, FitsEvent, FitsGiven}
 use Rattle.replay_text.specs.KindTests.{counts_from, is_unlike, all_unlike, interfaces_fit, is_listed, turns_fit}
 use Rattle.replay_text.proofs.LineLaws.{FitsSpec}
 

@@ -9,9 +9,9 @@ use Rattle.net_types.specs.Numbers.{number_at}
 use Rattle.world.specs.declared.wakes.Event.{Event}
 use Rattle.world.specs.declared.wakes.Event.TheVariants.{Frame, Carrier, Quiet}
 use Rattle.world.specs.LinkCalls.{Given}
-use Rattle.client_model.specs.declared.failing.FailDevice.TheVariants.{Link}
-use Rattle.client_model.specs.declared.failing.FailLine.{FailLine}
-use Rattle.client_model.specs.Scripts.{frame_room}
+use Rattle.script_model.specs.declared.failing.FailDevice.TheVariants.{Link}
+use Rattle.script_model.specs.declared.failing.FailLine.{FailLine}
+use Rattle.script_model.specs.Scripts.{frame_room}
 use Rattle.replay_text.specs.RowReading.{iface_at}
 
 -- an interface: its number, name and hardware address

@@ -1,7 +1,7 @@
 -- What a script is seen as.
 use Rattle.std.specs.Prelude.{◌≡◌, ℕ, flat_map, List, [], ◌∷◌, map}
 use Rattle.world.specs.LinkCalls.{Given}
-use Rattle.client_model.specs.Scripts.{ScriptLines, LifeScript, ended}
+use Rattle.script_model.specs.ScriptTexts.{ScriptLines, LifeScript, ended}
 use Rattle.replay_text.specs.declared.script.Script.{Script}
 use Rattle.replay_text.specs.declared.script.LifeLines.{LifeLines}
 use Rattle.replay_text.specs.declared.script.TurnLine.{TurnLine}
@@ -30,4 +30,4 @@ abbrev pub life_of : LifeLines → LifeScript
 life_of life = record { begin = life.begin; turns = map given_of life.turns.items }
 
 abbrev pub script_of : Script → ScriptLines
-script_of script = record { conf = conf_lines script.conf.items; ifaces = script.ifaces.items; rows = script.rows.items; fails = script.fails.items; life = life_of script.life }
+script_of script = record { conf = conf_lines script.conf.items; ifaces = script.ifaces.items; rows = script.rows.items; fails = script.fails.items; lives = map life_of script.lives.items }

@@ -1,9 +1,9 @@
 -- How a script is read: its head, and then the lines of each kind in their order.
-use Rattle.std.specs.Prelude.{ℕ, Bool, ◌&&◌, List, flat_map, length, Option, Some, None, codes, option_map, if◌then◌else◌}
+use Rattle.std.specs.Prelude.{ℕ, Bool, ◌&&◌, List, [], ◌∷◌, flat_map, length, Option, Some, None, codes, option_map, if◌then◌else◌}
 use Rattle.net_types.specs.declared.interface.IfSpec.{IfSpec}
 use Rattle.net_types.specs.Cutting.{◌>>=◌, after_word}
 use Rattle.world.specs.declared.rows.HostRow.{HostRow}
-use Rattle.client_model.specs.Scripts.{ScriptLines, LifeScript, ended}
+use Rattle.script_model.specs.ScriptTexts.{ScriptLines, LifeScript, ended}
 use Rattle.replay_text.specs.RowReading.{row_at}
 use Rattle.replay_text.specs.LineReading.{spec_at, fail_at, turn_at}
 use Rattle.replay_text.specs.Carriers.{begin_at}
@@ -34,14 +34,18 @@ life_at count parts = do
   turns ← block_at (codes "turn ") turn_at start.1
   only_if (are_done turns.1 && turns_fit count turns.0) (record { begin = start.0; turns = turns.0 })
 
+-- one life: a further `start` line isn't read
+unfoldable pub lives_at : ℕ → List (List ℕ) → Option (List LifeScript)
+lives_at count parts = option_map (λ life. life ∷ []) (life_at count parts)
+
 unfoldable pub body_at : List (List ℕ) → Option ScriptLines
 body_at parts = do
   conf ← conf_at parts
   ifaces ← ifaces_at conf.1
   rows ← rows_at ifaces.1
   fails ← block_at (codes "fail ") fail_at rows.1
-  life ← life_at (length ifaces.0) fails.1
-  Some (record { conf = conf_lines conf.0; ifaces = ifaces.0; rows = rows.0; fails = fails.0; life = life })
+  lives ← lives_at (length ifaces.0) fails.1
+  Some (record { conf = conf_lines conf.0; ifaces = ifaces.0; rows = rows.0; fails = fails.0; lives = lives })
 
 abbrev pub head : List ℕ
 head = ended (codes "dhcpcd-script 1")

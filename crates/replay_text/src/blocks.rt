@@ -1,7 +1,7 @@
 //! Lines of one kind after one another.
 ghost use Rattle.std.specs.Prelude.{◌≡◌, ℕ, List, Option, map, option_map, IfOk};
 ghost use Rattle.net_types.specs.declared.interface.IfSpec.{IfSpec};
-ghost use Rattle.client_model.specs.declared.failing.FailLine.{FailLine};
+ghost use Rattle.script_model.specs.declared.failing.FailLine.{FailLine};
 ghost use Rattle.world.specs.declared.rows.HostRow.{HostRow};
 ghost use Rattle.world.specs.LinkCalls.{Given};
 ghost use Rattle.replay_text.specs.RowReading.{row_at};
@@ -15,8 +15,8 @@ use crate::lines::{fail_of, spec_of, turn_of};
 use crate::refusal::Refusal;
 use crate::rows::row_of;
 use crate::script::TurnLine;
-use client_model::FailLine;
 use net_types::{IfSpec, NoMemory, split_at_byte, strip_word};
+use script_model::FailLine;
 use std::alloc::Global;
 use world::HostRow;
 

@@ -3,12 +3,14 @@
 
 mod blocks;
 mod carriers;
+mod line_numbers;
 mod lines;
 mod reading;
 mod refusal;
 mod rows;
 mod script;
 
+pub use line_numbers::line_feeds;
 pub use reading::read_script;
 pub use rows::{print_row, read_row, row_of};
 pub use script::{LifeLines, Script, ScriptAnswer, ScriptCause, ScriptFault, TurnLine};

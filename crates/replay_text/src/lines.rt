@@ -7,10 +7,10 @@ ghost use Rattle.replay_text.specs.ScriptContent.{given_of};
 
 use crate::rows::iface_field_of;
 use crate::script::TurnLine;
-use client_model::{FailDevice, FailLine};
 use net_types::{
     IfSpec, Name, NoMemory, hex_of, mac_of, name_of, number_of, split_at_byte, strip_word, u64_of,
 };
+use script_model::{FailDevice, FailLine};
 use std::alloc::Global;
 use world::{Event, Wake};
 

@@ -1,20 +1,22 @@
 //! Scripts, read.
 ghost use Rattle.std.specs.Prelude.{◌≡◌, ◌≢◌, ◌+◌, ◌<◌, ◌≤◌, length, map, codes, IsTrue, IfOk, IfErr, ◌==◌};
 ghost use Rattle.std.specs.List.{list_all};
-ghost use Rattle.client_model.specs.Scripts.{ScriptLines, script_text, FitsScript};
+ghost use Rattle.script_model.specs.ScriptTexts.{ScriptLines, script_text};
+ghost use Rattle.script_model.specs.Scripts.{FitsScript};
 ghost use Rattle.replay_text.specs.Blocks.{parts_of, line_at, block_at, are_done};
 ghost use Rattle.replay_text.specs.Carriers.{begin_at};
 ghost use Rattle.replay_text.specs.ScriptContent.{script_of, life_of, given_of, HoldsLines};
 ghost use Rattle.replay_text.specs.KindTests.{counts_from, is_unlike, all_unlike, interfaces_fit, are_once, is_listed, turns_fit};
-ghost use Rattle.replay_text.specs.ScriptReading.{ifaces_at, rows_at, life_at, body_at, script_at};
-ghost use Rattle.replay_text.specs.Answers.{Gives, IsBad};
+ghost use Rattle.replay_text.specs.ScriptReading.{ifaces_at, rows_at, life_at, lives_at, body_at, script_at};
+ghost use Rattle.replay_text.specs.Answers.{Gives, IsBad, NamesFault};
 
 use crate::blocks::{block_of, conf_of, line_after};
 use crate::carriers::begin_of;
+use crate::line_numbers::line_number;
 use crate::refusal::Refusal;
 use crate::script::{LifeLines, Script, ScriptAnswer, ScriptCause, ScriptFault, TurnLine};
-use client_model::FailLine;
 use net_types::{IfSpec, NoMemory, strip_word};
+use script_model::FailLine;
 use std::alloc::Global;
 use std::collections::BTreeSet;
 use world::{Begin, Event, HostRow};
@@ -184,6 +186,18 @@ fn life_of(alloc: Global, count: u32, text: &[u8]) -> Result<LifeLines, Refusal>
     }
 }
 
+/// The lives: one, so far.
+#[tactic(auto, unfolding(crate::specs::ScriptReading::lives_at))]
+fn lives_of(alloc: Global, count: u32, text: &[u8]) -> Result<Vec<LifeLines>, Refusal>
+    requires { count ≤ 64 }
+    ensures { Gives (λ lives. map life_of lives.items) result (lives_at count (parts_of text.now)) }
+{
+    let life = life_of(alloc, count, text)?;
+    let mut lives = Vec::new(alloc);
+    lives.push(life)?;
+    Ok(lives)
+}
+
 #[tactic(auto, unfolding(crate::specs::ScriptReading::body_at))]
 fn body_of(alloc: Global, text: &[u8]) -> Result<Script, Refusal>
     ensures value { Gives script_of result (body_at (parts_of text.now)) }
@@ -193,13 +207,13 @@ fn body_of(alloc: Global, text: &[u8]) -> Result<Script, Refusal>
     let (ifaces, rest) = ifaces_of(alloc, rest)?;
     let (rows, rest) = rows_of(alloc, rest)?;
     let (fails, rest): (Vec<FailLine>, &[u8]) = block_of(alloc, rest, b"fail ")?;
-    let life = life_of(alloc, ifaces.len() as u32, rest)?;
+    let lives = lives_of(alloc, ifaces.len() as u32, rest)?;
     Ok(Script {
         conf,
         ifaces,
         rows,
         fails,
-        life,
+        lives,
     })
 }
 
@@ -214,25 +228,15 @@ fn script_of(alloc: Global, text: &[u8]) -> Result<Script, Refusal>
     }
 }
 
-/// The number, from 1, of the line that begins so many bytes before the end.
-fn line_number(text: &[u8], left: usize) -> u64 {
-    let before = text.len().saturating_sub(left);
-    let ended = text
-        .iter()
-        .take(before)
-        .filter(|byte| **byte == b'\n')
-        .count();
-    (ended as u64).saturating_add(1)
-}
-
 /// Reads a script of one life. Each script that is built has one text.
-/// The cause of a bad line is `NotBuilt` throughout.
 pub fn read_script(alloc: Global, text: &[u8]) -> Result<Script, ScriptAnswer>
     ensures found { IfOk result (λ script. (text.now ≡ script_text (script_of script)) × FitsScript (script_of script)) }
     // Each line of the configuration is there with its line feed.
     ensures conf { IfOk result (λ script. HoldsLines script.conf.items) }
     // Only want of memory may refuse a script.
     ensures bad { IfErr result (λ answer. IsBad answer → (script : ScriptLines) → FitsScript script → text.now ≢ script_text script) }
+    // A fault names a line of the text. It isn't claimed to be the first bad one.
+    ensures fault { IfErr result (λ answer. NamesFault text.now answer) }
 {
     match script_of(alloc, text) {
         Ok(script) => Ok(script),

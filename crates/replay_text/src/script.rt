@@ -1,6 +1,6 @@
 //! A script, and why a text is none.
-use client_model::FailLine;
 use net_types::IfSpec;
+use script_model::FailLine;
 use world::{Begin, HostRow, Wake};
 
 /// A wake with the bytes of its frame.
@@ -28,7 +28,8 @@ pub struct Script {
     pub rows: Vec<HostRow>,
     /// The calls of devices that fail.
     pub fails: Vec<FailLine>,
-    pub life: LifeLines,
+    /// The lives, one after another over the same host.
+    pub lives: Vec<LifeLines>,
 }
 
 /// What is wrong with a line.

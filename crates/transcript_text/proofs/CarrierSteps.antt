@@ -3,8 +3,8 @@ use Rattle.std.proofs.Common.{◌≡◌, ℕ, suc, ◌+◌, ◌-◌, ◌<◌, �
 use Rattle.std.specs.Prelude.{codes}
 use Rattle.std.proofs.lemmas.List.{append-nil, length-take, take-append-le}
 use Rattle.std.proofs.Math.Seq.{take-length}
-use Rattle.client_model.specs.Interfaces.{is_up}
-use Rattle.client_model.specs.Lines.{numbers_from, list_text, up_text}
+use Rattle.script_model.specs.IfaceSets.{is_up}
+use Rattle.script_model.specs.Lines.{numbers_from, list_text, up_text}
 use Rattle.transcript_text.specs.Carriers.{next_text}
 
 -- those from a number on

@@ -22,8 +22,8 @@ use Rattle.world.specs.declared.rows.HostRow.{HostRow}
 use Rattle.world.specs.FileNames.{IsFileName}
 use Rattle.world.specs.StoreCalls.{Reading, Found, Missing, Unread}
 use Rattle.world.specs.RowText.{row_text, IsBuiltRow}
-use Rattle.client_model.specs.Lines as Model
-use Rattle.client_model.specs.Lines.{Line, line_words, outcome_text, event_text, up_text, reading_text, moment_text}
+use Rattle.script_model.specs.Lines as Model
+use Rattle.script_model.specs.Lines.{Line, line_words, outcome_text, event_text, up_text, reading_text, moment_text}
 use Rattle.transcript_text.specs.Fits.{FitsLine, FitsEvent, FitsReading, FitsMoment, LinesApart}
 use Rattle.transcript_text.proofs.Fields.{after, cut, number_in, hex_in, net4_in, mac_in, name_in, cut_number, cut_name, cut_file, cut_hex, file_lacks, number_found, number_whole, hex_whole, net4_whole, mac_whole, name_whole}
 use Rattle.transcript_text.proofs.UpLaws.{bits_of, numbers_in, up_whole}

@@ -2,7 +2,7 @@
 use Rattle.std.proofs.Common.{◌≡◌, List, [], ◌∷◌, ◌++◌, ◌∙◌, ap}
 use Rattle.std.proofs.lemmas.Grind.{flat_map-append}
 use Rattle.std.proofs.lemmas.List.{append-nil}
-use Rattle.client_model.specs.Lines.{Line, line_text, lines_text}
+use Rattle.script_model.specs.Lines.{Line, line_text, lines_text}
 
 pub lines_text-append : (lines more : List Line) → lines_text (lines ++ more) ≡ lines_text lines ++ lines_text more
 lines_text-append lines more = flat_map-append line_text lines more

@@ -11,8 +11,8 @@ use Rattle.net_types.specs.Cutting.{list_at, FitsList}
 use Rattle.net_types.proofs.ListLaws.{list_reads}
 use Rattle.net_types.proofs.NumberLaws.{number_reads}
 use Rattle.net_types.proofs.MarkLaws.{decimal_lacks}
-use Rattle.client_model.specs.Interfaces.{is_up}
-use Rattle.client_model.specs.Lines.{numbers_from, list_text, up_text}
+use Rattle.script_model.specs.IfaceSets.{is_up}
+use Rattle.script_model.specs.Lines.{numbers_from, list_text, up_text}
 
 -- the numbers of a list
 unfoldable pub numbers_in : List ℕ → List ℕ

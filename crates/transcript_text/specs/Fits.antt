@@ -11,8 +11,8 @@ use Rattle.world.specs.declared.wakes.Event.TheVariants.{Frame, Carrier, Duplica
 use Rattle.world.specs.FileNames.{IsFileName}
 use Rattle.world.specs.StoreCalls.{Reading, Found, Missing, Unread}
 use Rattle.world.specs.RowText.{IsBuiltRow}
-use Rattle.client_model.specs.Lines.{Line}
-use Rattle.client_model.specs.Lines as Model
+use Rattle.script_model.specs.Lines.{Line}
+use Rattle.script_model.specs.Lines as Model
 
 abbrev pub IsWord : ℕ → Type 0
 IsWord number = number < 2 ^ 64

@@ -6,7 +6,7 @@ use Rattle.net_types.specs.AddressText.{ip6_text, net_text, mac_text}
 use Rattle.net_types.specs.NameText.{name_text}
 use Rattle.net_types.specs.HexText.{hex_text}
 use Rattle.world.specs.RowText.{row_text}
-use Rattle.client_model.specs.Lines.{up_text}
+use Rattle.script_model.specs.Lines.{up_text}
 use Rattle.transcript_text.specs.declared.pieces.Piece.{Piece}
 use Rattle.transcript_text.specs.declared.pieces.Piece.TheVariants.{Word, Number, Hex, Names, Carriers, Name, Mac, Address, Net, Row}
 

@@ -1,7 +1,7 @@
 //! The interfaces with carrier.
 ghost use Rattle.std.specs.Prelude.{◌≡◌, ◌++◌, ◌≤◌, OnOk, OnErr};
-ghost use Rattle.client_model.specs.Interfaces.{is_up};
-ghost use Rattle.client_model.specs.Lines.{up_text};
+ghost use Rattle.script_model.specs.IfaceSets.{is_up};
+ghost use Rattle.script_model.specs.Lines.{up_text};
 ghost use Rattle.transcript_text.specs.Carriers.{next_text};
 
 use crate::appending::{append_both, append_bytes};

@@ -9,7 +9,7 @@ mod pieces;
 mod printing;
 
 pub use laws::lines_apart;
-pub use lines::{ReadLine, TranscriptLine};
+pub use lines::{Reading, TranscriptLine};
 pub use printing::print_line;
 
 #[cfg(test)]

@@ -4,37 +4,39 @@ use world::{Begin, Event, HostRow};
 
 /// What reading a file of the store gave.
 #[derive(Clone, Copy, Debug)]
-pub enum ReadLine<'a> {
-    Bytes(&'a [u8]),
+pub enum Reading<'a> {
+    /// Its bytes.
+    Found(&'a [u8]),
     /// There is no such file.
     Missing,
-    Failed,
+    /// It couldn't be read.
+    Unread,
 }
 
-/// One line of a transcript. `ok` tells whether what the line names was done.
+/// One line of a transcript. `done` tells whether what the line names was done.
 #[derive(Clone, Copy, Debug)]
 pub enum TranscriptLine<'a> {
     /// The first line.
     Head,
     /// A line of the configuration, without its line feed.
-    ConfLine(&'a [u8]),
-    IfLine(IfSpec),
+    Conf(&'a [u8]),
+    Interface(IfSpec),
     /// A life begins, counted from 1.
     Life(u64),
     Start(Begin),
     /// The names of asides that the store listed.
-    Listed(&'a [String]),
-    ListFailed,
-    FileRemove {
+    Asides(&'a [String]),
+    AsidesFailed,
+    Removed {
         name: &'a str,
-        ok: bool,
+        done: bool,
     },
     Settled {
-        ok: bool,
+        done: bool,
     },
-    FileRead {
+    Read {
         name: &'a str,
-        got: ReadLine<'a>,
+        reading: Reading<'a>,
     },
     /// A wake at its raised moment, in milliseconds since 1970; the bytes are those of a frame.
     Turn {
@@ -47,7 +49,7 @@ pub enum TranscriptLine<'a> {
     Send {
         iface: IfIndex,
         bytes: &'a [u8],
-        ok: bool,
+        taken: bool,
     },
     /// How many rows the host listed.
     HostListed {
@@ -57,11 +59,11 @@ pub enum TranscriptLine<'a> {
     HostListFailed,
     HostDel {
         row: &'a HostRow,
-        ok: bool,
+        done: bool,
     },
     HostAdd {
         row: &'a HostRow,
-        ok: bool,
+        done: bool,
     },
     /// Until when the next wait may last, in milliseconds since 1970.
     Until(Option<u64>),
@@ -71,5 +73,5 @@ pub enum TranscriptLine<'a> {
         net: Net,
     },
     /// The last line of a life.
-    End,
+    EndOfLife,
 }

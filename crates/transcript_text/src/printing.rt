@@ -2,13 +2,13 @@
 ghost use Rattle.std.specs.Prelude.{◌≡◌, ◌∷◌, [], ◌++◌, codes, decimal, flat_map, map, OnOk, OnErr};
 ghost use Rattle.std.specs.String.{string_bytes};
 ghost use Rattle.world.specs.RowText.{row_text};
-ghost use Rattle.client_model.specs.Lines as Lines;
-ghost use Rattle.client_model.specs.Lines.{line_text, carrier_text, event_text, outcome_text};
+ghost use Rattle.script_model.specs.Lines as Lines;
+ghost use Rattle.script_model.specs.Lines.{line_text, carrier_text, event_text, outcome_text};
 ghost use Rattle.transcript_text.specs.Pieces.{piece_text};
 ghost use Rattle.transcript_text.specs.Printed.{line_of, reading_of};
 
 use crate::appending::append_bytes;
-use crate::lines::{ReadLine, TranscriptLine};
+use crate::lines::{Reading, TranscriptLine};
 use crate::pieces::{Piece, append_pieces};
 use net_types::{IfIndex, IfSpec, NoMemory};
 use world::{Begin, Event, HostRow};
@@ -18,17 +18,17 @@ const BLANK: Piece<'static> = Piece::Word(b" ");
 const LINE_END: Piece<'static> = Piece::Word(b"\n");
 
 /// The end of a line that tells whether a call was done.
-fn outcome(ok: bool) -> Piece<'static>
-    ensures { piece_text result ≡ codes " " ++ outcome_text ok ++ codes "\n" }
+fn outcome(done: bool) -> Piece<'static>
+    ensures { piece_text result ≡ codes " " ++ outcome_text done ++ codes "\n" }
 {
-    if ok {
+    if done {
         Piece::Word(b" ok\n")
     } else {
         Piece::Word(b" failed\n")
     }
 }
 
-#[tactic(auto, unfolding(client_model::specs::Lines::line_words), using(std::proofs::Common::append_assoc))]
+#[tactic(auto, unfolding(script_model::specs::Lines::line_words), using(std::proofs::Common::append_assoc))]
 fn print_interface(spec: IfSpec, into: &mut Vec<u8>) -> Result<(), NoMemory>
     ensures ok { OnOk result (into.new.items ≡ into.old.items ++ line_text (Lines.Interface spec)) }
     ensures err { OnErr result (into.new.items ≡ into.old.items) }
@@ -47,7 +47,7 @@ fn print_interface(spec: IfSpec, into: &mut Vec<u8>) -> Result<(), NoMemory>
     )
 }
 
-#[tactic(auto, unfolding(client_model::specs::Lines::line_words), using(std::proofs::Common::append_assoc))]
+#[tactic(auto, unfolding(script_model::specs::Lines::line_words), using(std::proofs::Common::append_assoc))]
 fn print_start(begin: Begin, into: &mut Vec<u8>) -> Result<(), NoMemory>
     ensures ok { OnOk result (into.new.items ≡ into.old.items ++ line_text (Lines.Start begin)) }
     ensures err { OnErr result (into.new.items ≡ into.old.items) }
@@ -66,15 +66,15 @@ fn print_start(begin: Begin, into: &mut Vec<u8>) -> Result<(), NoMemory>
     )
 }
 
-#[tactic(auto, unfolding(client_model::specs::Lines::line_words), using(std::proofs::Common::append_assoc))]
-fn print_read<'a>(name: &'a str, got: ReadLine<'a>, into: &mut Vec<u8>) -> Result<(), NoMemory>
-    ensures ok { OnOk result (into.new.items ≡ into.old.items ++ line_text (Lines.Read name.now (reading_of got.entry))) }
+#[tactic(auto, unfolding(script_model::specs::Lines::line_words), using(std::proofs::Common::append_assoc))]
+fn print_read<'a>(name: &'a str, reading: Reading<'a>, into: &mut Vec<u8>) -> Result<(), NoMemory>
+    ensures ok { OnOk result (into.new.items ≡ into.old.items ++ line_text (Lines.Read name.now (reading_of reading.entry))) }
     ensures err { OnErr result (into.new.items ≡ into.old.items) }
 {
-    let bytes = match got {
-        ReadLine::Bytes(bytes) => Piece::Hex(bytes),
-        ReadLine::Missing => Piece::Word(b"none"),
-        ReadLine::Failed => Piece::Word(b"failed"),
+    let bytes = match reading {
+        Reading::Found(bytes) => Piece::Hex(bytes),
+        Reading::Missing => Piece::Word(b"none"),
+        Reading::Unread => Piece::Word(b"failed"),
     };
     append_pieces(
         &[
@@ -139,7 +139,7 @@ fn print_event(event: Event, bytes: &[u8], into: &mut Vec<u8>) -> Result<(), NoM
     }
 }
 
-#[tactic(auto, unfolding(client_model::specs::Lines::line_words), using(std::proofs::Common::append_assoc))]
+#[tactic(auto, unfolding(script_model::specs::Lines::line_words), using(std::proofs::Common::append_assoc))]
 fn print_turn(
     at: u64,
     salt: u64,
@@ -168,9 +168,9 @@ fn print_turn(
     Ok(())
 }
 
-#[tactic(auto, unfolding(client_model::specs::Lines::line_words), using(std::proofs::Common::append_assoc))]
-fn print_send(iface: IfIndex, bytes: &[u8], ok: bool, into: &mut Vec<u8>) -> Result<(), NoMemory>
-    ensures ok { OnOk result (into.new.items ≡ into.old.items ++ line_text (Lines.Send iface bytes.now ok)) }
+#[tactic(auto, unfolding(script_model::specs::Lines::line_words), using(std::proofs::Common::append_assoc))]
+fn print_send(iface: IfIndex, bytes: &[u8], taken: bool, into: &mut Vec<u8>) -> Result<(), NoMemory>
+    ensures ok { OnOk result (into.new.items ≡ into.old.items ++ line_text (Lines.Send iface bytes.now taken)) }
     ensures err { OnErr result (into.new.items ≡ into.old.items) }
 {
     append_pieces(
@@ -179,7 +179,7 @@ fn print_send(iface: IfIndex, bytes: &[u8], ok: bool, into: &mut Vec<u8>) -> Res
             Piece::Number(u64::from(iface.number)),
             BLANK,
             Piece::Hex(bytes),
-            outcome(ok),
+            outcome(taken),
         ],
         into,
     )
@@ -199,13 +199,13 @@ fn print_number(word: &[u8], number: u64, into: &mut Vec<u8>) -> Result<(), NoMe
 fn print_done<'a>(
     word: &'a [u8],
     about: Piece<'a>,
-    ok: bool,
+    done: bool,
     into: &mut Vec<u8>,
 ) -> Result<(), NoMemory>
-    ensures ok { OnOk result (into.new.items ≡ into.old.items ++ ((word.now ++ piece_text about.entry ++ codes " " ++ outcome_text ok) ++ 10 ∷ [])) }
+    ensures ok { OnOk result (into.new.items ≡ into.old.items ++ ((word.now ++ piece_text about.entry ++ codes " " ++ outcome_text done) ++ 10 ∷ [])) }
     ensures err { OnErr result (into.new.items ≡ into.old.items) }
 {
-    append_pieces(&[Piece::Word(word), about, outcome(ok)], into)
+    append_pieces(&[Piece::Word(word), about, outcome(done)], into)
 }
 
 fn print_listed(names: &[String], into: &mut Vec<u8>) -> Result<(), NoMemory>
@@ -219,7 +219,7 @@ fn print_listed(names: &[String], into: &mut Vec<u8>) -> Result<(), NoMemory>
 }
 
 /// Appends the text of a line; where memory runs out the bytes are as before.
-#[tactic(auto, unfolding(client_model::specs::Lines::line_words), using(std::proofs::Common::append_assoc))]
+#[tactic(auto, unfolding(script_model::specs::Lines::line_words), using(std::proofs::Common::append_assoc))]
 pub fn print_line(line: &TranscriptLine<'_>, into: &mut Vec<u8>) -> Result<(), NoMemory>
     ensures ok { OnOk result (into.new.items ≡ into.old.items ++ line_text (line_of line.now)) }
     ensures err { OnErr result (into.new.items ≡ into.old.items) }
@@ -228,35 +228,39 @@ pub fn print_line(line: &TranscriptLine<'_>, into: &mut Vec<u8>) -> Result<(), N
     use TranscriptLine as Line;
     match *line {
         Line::Head => append_bytes(b"dhcpcd-transcript 1\n", into),
-        Line::ConfLine(text) => append_pieces(&[Word(b"c:"), Word(text), LINE_END], into),
-        Line::IfLine(spec) => print_interface(spec, into),
+        Line::Conf(text) => append_pieces(&[Word(b"c:"), Word(text), LINE_END], into),
+        Line::Interface(spec) => print_interface(spec, into),
         Line::Life(number) => print_number(b"life ", number, into),
         Line::Start(begin) => print_start(begin, into),
-        Line::Listed(names) => print_listed(names, into),
-        Line::ListFailed => append_bytes(b"store list failed\n", into),
-        Line::FileRemove { name, ok } => print_done(
+        Line::Asides(names) => print_listed(names, into),
+        Line::AsidesFailed => append_bytes(b"store list failed\n", into),
+        Line::Removed { name, done } => print_done(
             b"store remove ",
             Word(name.as_bytes()),
-            ok,
+            done,
             into,
         ),
-        Line::Settled { ok } => append_pieces(&[Word(b"store settle"), outcome(ok)], into),
-        Line::FileRead { name, got } => print_read(name, got, into),
+        Line::Settled { done } => append_pieces(&[Word(b"store settle"), outcome(done)], into),
+        Line::Read { name, reading } => print_read(name, reading, into),
         Line::Turn {
             at,
             salt,
             event,
             bytes,
         } => print_turn(at, salt, event, bytes, into),
-        Line::Send { iface, bytes, ok } => print_send(iface, bytes, ok, into),
+        Line::Send {
+            iface,
+            bytes,
+            taken,
+        } => print_send(iface, bytes, taken, into),
         Line::HostListed { count } => print_number(b"host list ok ", count, into),
         Line::Row(row) => append_pieces(&[Word(b"row "), Row(row), LINE_END], into),
         Line::HostListFailed => append_bytes(b"host list failed\n", into),
-        Line::HostDel { row, ok } => print_done(b"host del ", Row(row), ok, into),
-        Line::HostAdd { row, ok } => print_done(b"host add ", Row(row), ok, into),
+        Line::HostDel { row, done } => print_done(b"host del ", Row(row), done, into),
+        Line::HostAdd { row, done } => print_done(b"host add ", Row(row), done, into),
         Line::Until(Some(moment)) => print_number(b"until ", moment, into),
         Line::Until(None) => append_bytes(b"until none\n", into),
         Line::Hold { iface, net } => print_on(b"hold addr ", iface.number, Piece::Net(net), into),
-        Line::End => append_bytes(b"end\n", into),
+        Line::EndOfLife => append_bytes(b"end\n", into),
     }
 }

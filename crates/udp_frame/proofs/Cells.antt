@@ -1,6 +1,6 @@
 -- Bytes one by one.
 use Rattle.std.proofs.Common.{ℕ, zero, suc, ◌<◌, List, [], ◌∷◌, arith}
-use Rattle.net_types.specs.Sum.{AreBytes}
+use Rattle.net_types.specs.Marks.{AreBytes}
 use Rattle.net_types.specs.declared.address.Ip4.{Ip4}
 use Rattle.frame_link.specs.Fields.{word_text, ip4_text}
 

@@ -1,71 +1,34 @@
 -- What is spelled is heard as what was said.
 use Rattle.std.specs.Prelude.{◌==◌, ◌||◌}
-use Rattle.std.proofs.Common.{◌≡◌, ℕ, zero, suc, ◌+◌, ◌<◌, ◌≤◌, ◌^◌, ◌%◌, ◌/◌, Bool, true, false, nat_le, List, [], ◌∷◌, ◌++◌, length, take, drop, Some, refl, sym, ap, ◌∙◌, arith}
+use Rattle.std.proofs.Common.{◌≡◌, ℕ, ◌+◌, ◌<◌, ◌^◌, ◌%◌, ◌/◌, Bool, true, false, nat_le, List, [], ◌∷◌, ◌++◌, length, take, drop, Some, refl, sym, ap, ◌∙◌, arith}
 use Rattle.std.proofs.lemmas.Bool.{le-leb}
 use Rattle.std.proofs.lemmas.List.{take_at, append-nil, length-append}
 use Rattle.std.proofs.lemmas.Nat.{from_be_bytes-to_be_bytes_2, from_be_bytes-to_be_bytes_4}
 use Rattle.net_types.specs.declared.address.Ip4.{Ip4}
-use Rattle.net_types.specs.Sum.{AreBytes, ones_sum, checksum}
-use Rattle.net_types.proofs.Checksum.{checks, checks_ones, append_bytes}
+use Rattle.net_types.specs.Sum.{ones_sum, checksum}
+use Rattle.net_types.specs.Marks.{AreBytes}
+use Rattle.net_types.proofs.Checksum.{checks, append_bytes}
 use Rattle.frame_link.specs.Fields.{word_in, ip4_in, word_text, ip4_text}
 use Rattle.frame_link.specs.Frames.{frame_in}
 use Rattle.frame_link.proofs.Laws.{frame_heard}
 use Rattle.udp_frame.specs.declared.udp4.Ends4.{Ends4}
 use Rattle.udp_frame.specs.Packets.{Packet, udp_protocol, head_len, is_packet, packet_in, head_text, whole_head, packet_text}
-use Rattle.udp_frame.specs.Datagrams.{datagram_in, is_checked4, pseudo4, ports_text, sent_sum, datagram_sum, datagram_text}
+use Rattle.udp_frame.specs.Datagrams.{datagram_in, is_checked4, pseudo4, datagram_text}
 use Rattle.udp_frame.specs.Udp4Frames.{Udp4, checked4_in, udp4_in, said4, udp4_packet, udp4_text, udp4_frame, udp4_frame_text}
 use Rattle.udp_frame.proofs.Cells.{all_bytes, word_bytes, ip4_bytes}
+use Rattle.udp_frame.proofs.Summed.{datagram_heard, sum_heard}
 
 abbrev pub fits : Ip4 → Type 0
 fits ip = ip.number < 2 ^ 32
 
 -- ---- the datagram
 
-cut_at : (d rest : List ℕ) → word_in (d ++ rest) 4 ≡ length d → 8 ≤ length d → datagram_in (d ++ rest) ≡ Some d
-unfolding datagram_in
-cut_at d rest len long =
-    let more = length-append d rest in
-    let room : nat_le 8 (length (d ++ rest)) ≡ true = le-leb _ _ (omega arith) in
-    let header : nat_le 8 (length d) ≡ true = le-leb _ _ (omega arith) in
-    let within : nat_le (length d) (length (d ++ rest)) ≡ true = le-leb _ _ (omega arith) in
-    rw (len, room, header, within, take_at d rest (length d) refl) refl
-
-datagram_heard : (pseudo : List ℕ) (from_port to_port : ℕ) (payload rest : List ℕ) → 8 + length payload < 2 ^ 16
-    → datagram_in (datagram_text pseudo from_port to_port payload ++ rest) ≡ Some (datagram_text pseudo from_port to_port payload)
-datagram_heard pseudo from_port to_port payload rest small =
-    let d = datagram_text pseudo from_port to_port payload in
-    let whole : 8 + length payload ≡ length d = omega arith in
-    let len : word_in (d ++ rest) 4 ≡ length d = from_be_bytes-to_be_bytes_2 (8 + length payload) small ∙ whole in
-    cut_at d rest len (omega arith)
-
--- the bytes before a datagram's checksum
-before : Ip4 → Ip4 → ℕ → ℕ → ℕ → List ℕ
-before from to from_port to_port len = pseudo4 from to len ++ (word_text from_port ++ word_text to_port ++ word_text len)
-
-before_bytes : (from to : Ip4) (from_port to_port len : ℕ) → AreBytes (before from to from_port to_port len)
-unfolding before
-before_bytes from to from_port to_port len =
+pseudo_bytes : (from to : Ip4) (len : ℕ) → AreBytes (pseudo4 from to len)
+pseudo_bytes from to len =
     let ends = append_bytes (ip4_text from) (ip4_text to) (ip4_bytes from) (ip4_bytes to) in
     let protocol : AreBytes (0 ∷ udp_protocol ∷ []) = all_bytes (0 ∷ udp_protocol ∷ []) (omega arith, (omega arith, tt)) in
     let front = append_bytes (ip4_text from ++ ip4_text to) (0 ∷ udp_protocol ∷ []) ends protocol in
-    let pseudo = append_bytes (ip4_text from ++ ip4_text to ++ (0 ∷ udp_protocol ∷ [])) (word_text len) front (word_bytes len) in
-    let ports = append_bytes (word_text from_port) (word_text to_port) (word_bytes from_port) (word_bytes to_port) in
-    append_bytes (pseudo4 from to len) (word_text from_port ++ word_text to_port ++ word_text len) pseudo
-    (append_bytes (word_text from_port ++ word_text to_port) (word_text len) ports (word_bytes len))
-
-sent_right : (xs ys : List ℕ) (sum : ℕ) → length xs % 2 ≡ 0 → AreBytes xs → AreBytes ys → sum ≡ checksum (xs ++ 0 ∷ 0 ∷ ys)
-    → ones_sum (xs ++ sent_sum sum / 256 % 256 ∷ sent_sum sum % 256 ∷ ys) ≡ 65535
-sent_right xs ys zero even hx hy e = checks_ones xs ys even hx hy (sym e)
-sent_right xs ys (suc n) even hx hy e =
-    let same : sent_sum (suc n) ≡ suc n = grind (arith) in
-    rw same (checks xs ys (suc n) even hx hy e)
-
-sum_heard : (from to : Ip4) (from_port to_port len : ℕ) (payload : List ℕ) → AreBytes payload
-    → ones_sum (pseudo4 from to len ++ ports_text from_port to_port len (datagram_sum (pseudo4 from to len) from_port to_port len payload) ++ payload) ≡ 65535
-unfolding before
-sum_heard from to from_port to_port len payload range =
-    sent_right (before from to from_port to_port len) payload (checksum (pseudo4 from to len ++ ports_text from_port to_port len 0 ++ payload)) refl
-    (before_bytes from to from_port to_port len) range refl
+    append_bytes (ip4_text from ++ ip4_text to ++ (0 ∷ udp_protocol ∷ [])) (word_text len) front (word_bytes len)
 
 -- ---- the packet
 
@@ -109,7 +72,7 @@ checked_heard from to from_port to_port payload range =
     let d = datagram_text (pseudo4 from to (8 + length payload)) from_port to_port payload in
     let len : length d ≡ 8 + length payload = omega arith in
     let right : ones_sum (pseudo4 from to (length d) ++ d) ≡ 65535 =
-    ap (λ n. ones_sum (pseudo4 from to n ++ d)) len ∙ sum_heard from to from_port to_port (8 + length payload) payload range in
+    ap (λ n. ones_sum (pseudo4 from to n ++ d)) len ∙ sum_heard (pseudo4 from to (8 + length payload)) from_port to_port (8 + length payload) payload refl (pseudo_bytes from to (8 + length payload)) range in
     or_true (word_in d 6 == 0) (ones_sum (pseudo4 from to (length d) ++ d) == 65535) (rw right refl)
 
 datagram_said : (from to : Ip4) (d : List ℕ) (from_port to_port : ℕ) (payload : List ℕ) → is_checked4 from to d ≡ true → word_in d 0 ≡ from_port → word_in d 2 ≡ to_port

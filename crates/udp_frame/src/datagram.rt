@@ -1,11 +1,15 @@
 //! UDP datagrams, whatever carries them.
 
-ghost use Rattle.std.specs.Prelude.{◌≡◌, ◌≤◌, ◌<◌, ◌^◌, length, IfSome};
+ghost use Rattle.std.specs.Prelude.{◌≡◌, ◌≤◌, ◌<◌, ◌^◌, ◌++◌, ◌==◌, length, IfSome};
 ghost use Rattle.std.specs.Option.{option_map};
+ghost use Rattle.net_types.specs.Sum.{ones_sum};
 ghost use Rattle.udp_frame.specs.Datagrams as texts;
 
 use frame_link::word_at;
-use net_types::{sum_add, sum_new, sum_value};
+use net_types::{sum_add, sum_is_right, sum_new, sum_value};
+
+/// The number of UDP among the protocols of IPv4 and the headers of IPv6 (RFC 768).
+pub const UDP: u8 = 17;
 
 /// The bytes of a UDP header.
 ///
@@ -61,4 +65,14 @@ fn sent(sum: u16) -> u16
     ensures { result ≡ texts.sent_sum sum }
 {
     if sum == 0 { 0xffff } else { sum }
+}
+
+/// Whether a datagram's checksum is right, where `pseudo` stands before it.
+pub fn is_right_after(pseudo: &[u8], datagram: &[u8]) -> bool
+    ensures { result ≡ (ones_sum (pseudo.now ++ datagram.now) == 65535) }
+{
+    let mut sum = sum_new();
+    sum_add(&mut sum, pseudo);
+    sum_add(&mut sum, datagram);
+    sum_is_right(&sum)
 }

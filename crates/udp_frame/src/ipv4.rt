@@ -6,6 +6,7 @@ ghost use Rattle.net_types.specs.Sum.{ones_sum};
 ghost use Rattle.udp_frame.specs.Packets as texts;
 ghost use Rattle.udp_frame.specs.Datagrams.{pseudo4};
 
+use crate::datagram::UDP;
 use frame_link::{ip4_at, word_at};
 use net_types::{Ip4, sum_add, sum_is_right, sum_new, sum_value};
 
@@ -25,9 +26,6 @@ const WORD_LEN: usize = 4;
 
 /// The flag of a packet that may not be cut. The bits below it are those of a fragment.
 const DONT_FRAGMENT: u16 = 0x4000;
-
-/// The protocol number of UDP.
-const UDP: u8 = 17;
 
 /// A packet with a whole datagram.
 #[derive(Clone, Copy)]

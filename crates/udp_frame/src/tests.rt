@@ -2,7 +2,7 @@ ghost use Rattle.std.specs.Prelude.{◌<◌};
 
 use super::*;
 use frame_link::eth_of;
-use net_types::{Ip4, Mac, sum_add, sum_new, sum_value};
+use net_types::{Ip4, Ip6, Mac, sum_add, sum_new, sum_value};
 use std::test::*;
 
 const OWN: Mac = Mac {
@@ -136,4 +136,64 @@ fn one_wrong_field(rt: HostRuntime) {
     assert!(rt; udp4_of(&changed(25, 0x07)).is_none()); // UDP length below its header's
     assert!(rt; udp4_of(&changed(25, 0x0b)).is_none()); // UDP length above the packet's
     assert!(rt; udp4_of(&changed(27, 0x01)).is_none()); // UDP checksum
+}
+
+const OWN_LINK_LOCAL: Ip6 = Ip6 {
+    number: 0xfe80_0000_0000_0000_0000_00ff_fe00_0001,
+};
+
+/// The frame of a DHCPv6 SOLICIT of 50 bytes.
+const SOLICIT: [u8; 112] = [
+    0x33, 0x33, 0x00, 0x01, 0x00, 0x02, // destination
+    0x02, 0x00, 0x00, 0x00, 0x00, 0x01, // source
+    0x86, 0xdd, // kind
+    0x60, 0x00, 0x00, 0x00, // version, traffic class, flow label
+    0x00, 0x3a, 0x11, 0x40, // payload length, next header, hop limit
+    0xfe, 0x80, 0x00, 0x00, 0x00, 0x00, 0x00, 0x00, // source
+    0x00, 0x00, 0x00, 0xff, 0xfe, 0x00, 0x00, 0x01, // and its identifier
+    0xff, 0x02, 0x00, 0x00, 0x00, 0x00, 0x00, 0x00, // destination
+    0x00, 0x00, 0x00, 0x00, 0x00, 0x01, 0x00, 0x02, // and its group
+    0x02, 0x22, 0x02, 0x23, // ports
+    0x00, 0x3a, 0xfa, 0xf5, // length, checksum
+    0x01, 0x00, 0x00, 0x01, // type, transaction
+    0x00, 0x01, 0x00, 0x0a, 0x00, 0x03, 0x00, 0x01, 0x02, 0x00, 0x00, 0x00, 0x00, 0x01, // client
+    0x00, 0x08, 0x00, 0x02, 0x00, 0x00, // elapsed time
+    0x00, 0x03, 0x00, 0x0c, 0x00, 0x00, 0x00, 0x01, // addresses
+    0x00, 0x00, 0x00, 0x00, 0x00, 0x00, 0x00, 0x00, // and their times
+    0x00, 0x06, 0x00, 0x06, 0x00, 0x17, 0x00, 0x18, 0x00, 0x52, // options asked for
+];
+
+#[test]
+fn solicit_is_spelled(rt: HostRuntime) -> Result<(), Fail> {
+    assert_eq!(rt; link_local_of(OWN), OWN_LINK_LOCAL);
+    let ends = Ends6 {
+        from_mac: OWN,
+        to_mac: dhcp6::ALL_RELAY_AGENTS_AND_SERVERS_MAC,
+        from: OWN_LINK_LOCAL,
+        to: dhcp6::ALL_RELAY_AGENTS_AND_SERVERS,
+    };
+    let (client, server) = (dhcp6::CLIENT_PORT, dhcp6::SERVER_PORT);
+    let frame = build_udp6(rt.alloc(), &ends, client, server, &SOLICIT[62..])
+        .ok()
+        .ok_or("memory")?;
+    assert_eq!(rt; frame.as_slice(), SOLICIT.as_slice());
+    Ok(())
+}
+
+#[test]
+fn solicit_is_heard(rt: HostRuntime) -> Result<(), Fail> {
+    let heard = udp6_of(&SOLICIT[14..]).ok_or("a datagram")?;
+    assert_eq!(rt; heard.from, OWN_LINK_LOCAL);
+    assert_eq!(rt; heard.to, dhcp6::ALL_RELAY_AGENTS_AND_SERVERS);
+    assert_eq!(rt; heard.from_port, dhcp6::CLIENT_PORT);
+    assert_eq!(rt; heard.to_port, dhcp6::SERVER_PORT);
+    assert_eq!(rt; heard.payload, &SOLICIT[62..]);
+    for len in 14..SOLICIT.len() {
+        assert!(rt; udp6_of(&SOLICIT[14..len]).is_none());
+    }
+    let mut unsummed = SOLICIT;
+    unsummed[60] = 0;
+    unsummed[61] = 0;
+    assert!(rt; udp6_of(&unsummed[14..]).is_none());
+    Ok(())
 }

@@ -1,19 +1,19 @@
 //! UDP over IPv4.
 
-ghost use Rattle.std.specs.Prelude.{◌≡◌, ◌≤◌, ◌<◌, ◌+◌, ◌^◌, ◌++◌, length, vec_len, IfOk};
+ghost use Rattle.std.specs.Prelude.{◌≡◌, ◌≤◌, ◌<◌, ◌+◌, ◌^◌, length, vec_len, IfOk};
 ghost use Rattle.std.specs.Option.{option_map};
-ghost use Rattle.frame_link.specs.Fields.{word_text};
 ghost use Rattle.udp_frame.specs.Datagrams.{is_checked4};
-ghost use Rattle.udp_frame.specs.Udp4Frames.{ip4_kind, udp4_in, checked4_in, shown4, udp4_frame_text};
+ghost use Rattle.udp_frame.specs.Udp4Frames.{udp4_in, checked4_in, shown4, udp4_frame_text};
 
-use crate::datagram::{UDP_HEADER_LEN, checksum, datagram_of};
+use crate::datagram::{UDP_HEADER_LEN, checksum, datagram_of, is_right_after};
+use crate::framing::{eth_header, joined};
 use crate::{datagram, ipv4};
 use frame_link::word_at;
-use net_types::{Ip4, Mac, NoMemory, sum_add, sum_is_right, sum_new};
-use std::alloc::{AllocError, Global};
+use net_types::{Ip4, Mac, NoMemory};
+use std::alloc::Global;
 
 /// The kind of a frame that carries IPv4.
-const KIND_IPV4: u16 = 0x0800;
+pub const KIND_IPV4: u16 = 0x0800;
 
 /// A heard datagram: between whom, and its data.
 #[derive(Clone, Copy)]
@@ -74,10 +74,7 @@ fn is_checked(from: Ip4, to: Ip4, datagram: &[u8]) -> bool
         return true;
     }
     let pseudo = ipv4::pseudo_header(from, to, datagram.len() as u16);
-    let mut sum = sum_new();
-    sum_add(&mut sum, &pseudo);
-    sum_add(&mut sum, datagram);
-    sum_is_right(&sum)
+    is_right_after(&pseudo, datagram)
 }
 
 /// The frame that carries `payload` from one end to the other: 42 bytes of headers and the data.
@@ -97,46 +94,11 @@ pub fn build_udp4(
     let total = ipv4::HEADER_LEN as u16 + len;
     let pseudo = ipv4::pseudo_header(ends.from, ends.to, len);
     let sum = checksum(&pseudo, from_port, to_port, len, payload);
-    let eth = eth_header(ends.to_mac, ends.from_mac);
+    let eth = eth_header(ends.to_mac, ends.from_mac, KIND_IPV4);
     let head = ipv4::header(ends.from, ends.to, total);
     let ports = datagram::header(from_port, to_port, len, sum);
     match joined(alloc, &eth, &head, &ports, payload) {
         Ok(frame) => Ok(frame),
         Err(_) => Err(NoMemory),
     }
-}
-
-/// The header of a frame that carries IPv4.
-fn eth_header(to: Mac, from: Mac) -> [u8; 14]
-    ensures { result ≡ to.bytes ++ from.bytes ++ word_text ip4_kind }
-{
-    let to = to.bytes;
-    let from = from.bytes;
-    let kind = KIND_IPV4.to_be_bytes();
-    [
-        to[0], to[1], to[2], to[3], to[4], to[5], // destination
-        from[0], from[1], from[2], from[3], from[4], from[5], // source
-        kind[0], kind[1],
-    ]
-}
-
-/// The headers and the data in a vector of just their length.
-fn joined(
-    alloc: Global,
-    eth: &[u8; 14],
-    head: &[u8; 20],
-    ports: &[u8; 8],
-    payload: &[u8],
-) -> Result<Vec<u8>, AllocError>
-    requires { length payload.now ≤ 1472 }
-    ensures exact { IfOk result (λ v. v.items ≡ eth.now ++ head.now ++ ports.now ++ payload.now) }
-    ensures len { IfOk result (λ v. vec_len v ≡ 42 + length payload.now) }
-{
-    let len = eth.len() + head.len() + ports.len() + payload.len();
-    let mut frame = Vec::with_capacity(alloc, len)?;
-    frame.extend_from_slice(eth)?;
-    frame.extend_from_slice(head)?;
-    frame.extend_from_slice(ports)?;
-    frame.extend_from_slice(payload)?;
-    Ok(frame)
 }

@@ -1,2 +1,4 @@
 pub mod Places
 pub mod SaidOptions
+pub mod Lengths
+pub mod ReadMessages

@@ -6,8 +6,10 @@ use Rattle.std.proofs.lemmas.Bool.{le-ltb}
 use Rattle.v4_options.specs.declared.area.Front.{Front}
 use Rattle.v4_options.specs.declared.area.Front.TheVariants.{Pad, End, Cut, Whole}
 use Rattle.v4_options.specs.OptionArea.{front_of, more_bytes, place_by, malformed_after, malformed_in}
+use Rattle.v4_options.specs.declared.overload.Overload.{Overload}
 use Rattle.v4_options.specs.Overload.{or_else, Begins, malformed_over, reads_file, reads_sname}
-use Rattle.v4_message.specs.Message.{areas_begin, field, file_area, sname_area}
+use Rattle.net_types.specs.Fields.{field}
+use Rattle.v4_message.specs.Message.{areas_begin, file_area, sname_area}
 use Rattle.std.proofs.lemmas.List.{length-take-le, length-drop}
 use Rattle.v4_message.specs.Replies.{place_in_message}
 
@@ -111,24 +113,24 @@ same_place options place None None (Some p) ha hb hc e =
     (omega arith, ap some_place (rw (← here) (sym (in_sname options p hc))))
 same_place options place None None None ha hb hc e = absurd cc
 
-over_is : (begins : Begins) (v : ℕ) (options file sname : List ℕ) → malformed_over begins v options file sname
-    ≡ first_of begins (malformed_in 0 options) (if reads_file v then malformed_in 0 file else None) (if reads_sname v then malformed_in 0 sname else None)
-over_is begins v options file sname =
-    rw (moved begins.options options, moved_where (reads_file v) begins.file file, moved_where (reads_sname v) begins.sname sname) refl
+over_is : (begins : Begins) (overload : Overload) (options file sname : List ℕ) → malformed_over begins overload options file sname
+    ≡ first_of begins (malformed_in 0 options) (if reads_file overload then malformed_in 0 file else None) (if reads_sname overload then malformed_in 0 sname else None)
+over_is begins overload options file sname =
+    rw (moved begins.options options, moved_where (reads_file overload) begins.file file, moved_where (reads_sname overload) begins.sname sname) refl
 
-module _ (v : ℕ) (options file sname : List ℕ) where
-  pub whole_message : malformed_over (laid (length options) (length file)) v options file sname ≡ None → malformed_over areas_begin v options file sname ≡ None
+module _ (overload : Overload) (options file sname : List ℕ) where
+  pub whole_message : malformed_over (laid (length options) (length file)) overload options file sname ≡ None → malformed_over areas_begin overload options file sname ≡ None
   whole_message e =
-      over_is areas_begin v options file sname
-      ∙ same_none (laid (length options) (length file)) areas_begin _ _ _ (sym (over_is (laid (length options) (length file)) v options file sname) ∙ e)
+      over_is areas_begin overload options file sname
+      ∙ same_none (laid (length options) (length file)) areas_begin _ _ _ (sym (over_is (laid (length options) (length file)) overload options file sname) ∙ e)
 
-  pub malformed_message : (place : ℕ) → length file ≡ 128 → length sname ≡ 64 → malformed_over (laid (length options) (length file)) v options file sname ≡ Some place
-      → (place < length options + 192) × (malformed_over areas_begin v options file sname ≡ Some (place_in_message (length options) place))
+  pub malformed_message : (place : ℕ) → length file ≡ 128 → length sname ≡ 64 → malformed_over (laid (length options) (length file)) overload options file sname ≡ Some place
+      → (place < length options + 192) × (malformed_over areas_begin overload options file sname ≡ Some (place_in_message (length options) place))
   malformed_message place file_len sname_len e =
-      let first = rw file_len at (sym (over_is (laid (length options) (length file)) v options file sname) ∙ e) in
-      let same = same_place (length options) place (malformed_in 0 options) (if reads_file v then malformed_in 0 file else None) (if reads_sname v then malformed_in 0 sname else None)
-      (below options) (rw file_len at (below_where (reads_file v) file)) (rw sname_len at (below_where (reads_sname v) sname)) first in
-      (same.0, over_is areas_begin v options file sname ∙ same.1)
+      let first = rw file_len at (sym (over_is (laid (length options) (length file)) overload options file sname) ∙ e) in
+      let same = same_place (length options) place (malformed_in 0 options) (if reads_file overload then malformed_in 0 file else None) (if reads_sname overload then malformed_in 0 sname else None)
+      (below options) (rw file_len at (below_where (reads_file overload) file)) (rw sname_len at (below_where (reads_sname overload) sname)) first in
+      (same.0, over_is areas_begin overload options file sname ∙ same.1)
 
 field_len : (at len : ℕ) (message : List ℕ) → at + len ≤ length message → length (field at len message) ≡ len
 field_len at len message h = length-take-le len (drop at message) (omega (arith, length-drop at message))

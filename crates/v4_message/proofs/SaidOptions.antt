@@ -6,6 +6,7 @@ use Rattle.std.proofs.lemmas.List.{append-nil, drop_at, length-append}
 use Rattle.net_types.specs.declared.address.Ip4.{Ip4}
 use Rattle.v4_options.specs.OptionArea.{Instance, instances_in}
 use Rattle.v4_options.specs.OptionValue.{pieces}
+use Rattle.v4_options.specs.declared.overload.Overload.TheVariants.{Neither}
 use Rattle.v4_options.specs.Overload.{overload_in}
 use Rattle.v4_options.specs.AreaGrammar.{option, FitsPart, part_instances, IsArea}
 use Rattle.v4_options.proofs.AreaLaws.{area_instances, area_whole}
@@ -107,7 +108,7 @@ area_holds said ask fits fixed =
     area_instances (options_area (padded (message_text said ask))) (map option_part (said_options said ask)) (is_area said ask fits fixed)
     ∙ parts_instances (said_options said ask)
 
-not_overloaded : (said : Said4) (ask : AskContent) → AskFits ask → length (fixed_fields said) ≡ 240 → overload_in (options_area (padded (message_text said ask))) ≡ 0
+not_overloaded : (said : Said4) (ask : AskContent) → AskFits ask → length (fixed_fields said) ≡ 240 → overload_in (options_area (padded (message_text said ask))) ≡ Neither
 unfolding overload_in
 not_overloaded said ask fits fixed = rw (area_holds said ask fits fixed, no_overload (said_options said ask) (plain_said said ask fits)) refl
 

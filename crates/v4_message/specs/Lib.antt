@@ -1,3 +1,5 @@
+pub mod Kinds
 pub mod Message
 pub mod Replies
 pub mod Requests
+pub mod Messages

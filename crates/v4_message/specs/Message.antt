@@ -1,17 +1,12 @@
 -- The fields of a message (RFC 2131, section 2), and the options in it.
-use Rattle.std.specs.Prelude.{ℕ, Bool, List, take, drop, slice_index, Option, Some, None, nat_le, ◌==◌, ◌&&◌, if◌then◌else◌}
+use Rattle.std.specs.Prelude.{ℕ, Bool, List, drop, slice_index, Option, ◌==◌, ◌&&◌}
 use Rattle.std.specs.Option.{option_and_then}
-use Rattle.std.specs.Int.{w32, from_be_bytes}
+use Rattle.net_types.specs.Fields.{field}
 use Rattle.v4_options.specs.OptionArea.{Instance}
 use Rattle.v4_options.specs.OptionValue.{byte_of}
+use Rattle.v4_message.specs.declared.kind.MessageKind.{MessageKind}
+use Rattle.v4_message.specs.Kinds.{kind_with}
 use Rattle.v4_options.specs.Overload.{Begins, overload_in, instances_over, malformed_over}
-
--- so many bytes from a place on
-abbrev pub field : ℕ → ℕ → List ℕ → List ℕ
-field at len message = take len (drop at message)
-
-abbrev pub number_in : ℕ → List ℕ → ℕ
-number_in at message = from_be_bytes w32 (field at 4 message)
 
 -- a reply (2) to a client with an Ethernet address (1) of 6 bytes
 abbrev pub is_reply : List ℕ → Bool
@@ -45,9 +40,6 @@ unfoldable pub malformed_place : List ℕ → Option ℕ
 malformed_place message =
     malformed_over areas_begin (overload_in (options_area message)) (options_area message) (file_area message) (sname_area message)
 
-abbrev pub kind_number : ℕ → Option ℕ
-kind_number byte = if nat_le 1 byte && nat_le byte 8 then Some byte else None
-
--- the type of a message: the value of option 53, where that is one byte of 1 to 8
-abbrev pub kind_among : List Instance → Option ℕ
-kind_among instances = option_and_then kind_number (byte_of 53 instances)
+-- the type of a message: the value of option 53, where that is one byte, the number of a type
+abbrev pub kind_among : List Instance → Option MessageKind
+kind_among instances = option_and_then kind_with (byte_of 53 instances)

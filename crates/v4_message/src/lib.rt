@@ -6,6 +6,7 @@ pub mod kind;
 mod reading;
 mod writing;
 
+pub use kind::MessageKind;
 pub use reading::{Bad4, Msg4, read4};
 pub use writing::{Ask4, Kind4, Said4, write4};
 

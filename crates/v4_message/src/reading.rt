@@ -3,15 +3,16 @@
 ghost use Rattle.std.specs.Prelude.{◌≡◌, ◌≤◌, ◌<◌, ◌+◌, ◌^◌, length, Some, None, IfOk, IfErr};
 ghost use Rattle.v4_options.specs.Overload.{overload_in};
 ghost use Rattle.v4_options.specs.OptionViews.{area_bytes, view_instances};
-ghost use Rattle.v4_message.specs.Message.{is_reply, has_cookie, field, number_in, options_area, file_area, sname_area, message_instances, malformed_place, kind_among};
+ghost use Rattle.v4_message.specs.Message.{is_reply, has_cookie, options_area, file_area, sname_area, message_instances, malformed_place, kind_among};
 ghost use Rattle.v4_message.specs.Replies.{refusal_of, place_in_message, IsReadAs};
+ghost use Rattle.v4_message.specs.Messages.{message_in, message_of};
 
 use crate::field::{
     BOOT_REPLY, CHADDR, COOKIE, ETHERNET, FILE, FILE_LEN, MAC_LEN, MAGIC_COOKIE, OPTIONS, SNAME,
     SNAME_LEN, XID, YIADDR,
 };
-use crate::kind;
-use net_types::{Ip4, Mac};
+use crate::kind::{MessageKind, kind_with};
+use net_types::{Ip4, Mac, field, ip4_field, mac_field, u32_field};
 use v4_options::{Areas, Malformed, OptionView, byte_at, code, options_of};
 
 /// Why bytes aren't a server's message: the first of these that holds.
@@ -25,15 +26,14 @@ pub enum Bad4 {
     NoCookie,
     /// The first option whose length byte is missing or whose value runs past its area stands at this byte.
     Malformed { place: usize },
-    /// The message type isn't one byte of 1 to 8 (RFC 2132, section 9.6).
+    /// The message type isn't one byte, the number of a type (RFC 2132, section 9.6).
     NoType,
 }
 
 /// A server's message.
 #[derive(Clone, Copy, Debug)]
 pub struct Msg4<'a> {
-    /// The type, 1 to 8: see `kind`.
-    pub kind: u8,
+    pub kind: MessageKind,
     pub xid: u32,
     pub yiaddr: Ip4,
     pub chaddr: Mac,
@@ -57,36 +57,6 @@ fn has_cookie(payload: &[u8]) -> bool
         && payload[COOKIE + 3] == MAGIC_COOKIE[3]
 }
 
-/// So many bytes from a place on.
-fn field_at(payload: &[u8], at: usize, len: usize) -> &[u8]
-    requires { at + len ≤ length payload.now }
-    ensures { result.now ≡ field at len payload.now }
-{
-    let (_, after) = payload.split_at(at);
-    let (field, _) = after.split_at(len);
-    field
-}
-
-fn number_at(payload: &[u8], at: usize) -> u32
-    requires { at + 4 ≤ length payload.now }
-    ensures { result ≡ number_in at payload.now }
-{
-    let octets = field_at(payload, at, 4);
-    u32::from_be_bytes([octets[0], octets[1], octets[2], octets[3]])
-}
-
-fn mac_at(payload: &[u8], at: usize) -> Mac
-    requires { at + 6 ≤ length payload.now }
-    ensures { result.bytes ≡ field at 6 payload.now }
-{
-    let octets = field_at(payload, at, 6);
-    Mac {
-        bytes: [
-            octets[0], octets[1], octets[2], octets[3], octets[4], octets[5],
-        ],
-    }
-}
-
 fn areas_of(payload: &[u8]) -> Areas<'_>
     requires { 240 ≤ length payload.now }
     ensures options { result.options.now ≡ options_area payload.now }
@@ -96,23 +66,16 @@ fn areas_of(payload: &[u8]) -> Areas<'_>
     let (_, options) = payload.split_at(OPTIONS);
     Areas {
         options,
-        file: field_at(payload, FILE, FILE_LEN),
-        sname: field_at(payload, SNAME, SNAME_LEN),
+        file: field(payload, FILE, FILE_LEN),
+        sname: field(payload, SNAME, SNAME_LEN),
     }
 }
 
 /// The message type that the options tell.
-fn kind_of(options: &OptionView) -> Option<u8>
+fn kind_of(options: &OptionView) -> Option<MessageKind>
     ensures { result ≡ kind_among (view_instances options.now) }
 {
-    let kind = byte_at(options, code::MESSAGE_TYPE)?;
-    if kind < kind::DISCOVER {
-        return None;
-    }
-    if kind > kind::INFORM {
-        return None;
-    }
-    Some(kind)
+    kind_with(byte_at(options, code::MESSAGE_TYPE)?)
 }
 
 /// The place in the message of a place in its three areas laid end to end, of which the first has `options` bytes.
@@ -155,6 +118,17 @@ pub fn read4<'a>(payload: &'a [u8]) -> Result<Msg4<'a>, Bad4>
     ensures refused { IfErr result (λ bad. refusal_of payload.now ≡ Some bad) }
     ensures accepted { IfOk result (λ _. refusal_of payload.now ≡ None) }
     ensures read { IfOk result (λ message. IsReadAs payload.now message) }
+    ensures message { IfOk result (λ message. message_in payload.now ≡ Some (message_of message)) }
+    ensures no_message { IfErr result (λ _. message_in payload.now ≡ None) }
+{
+    checked(payload)
+}
+
+/// The message, field by field.
+fn checked<'a>(payload: &'a [u8]) -> Result<Msg4<'a>, Bad4>
+    ensures refused { IfErr result (λ bad. refusal_of payload.now ≡ Some bad) }
+    ensures accepted { IfOk result (λ _. refusal_of payload.now ≡ None) }
+    ensures read { IfOk result (λ message. IsReadAs payload.now message) }
 {
     if payload.len() < OPTIONS {
         return Err(Bad4::Short);
@@ -176,11 +150,9 @@ pub fn read4<'a>(payload: &'a [u8]) -> Result<Msg4<'a>, Bad4>
     };
     Ok(Msg4 {
         kind,
-        xid: number_at(payload, XID),
-        yiaddr: Ip4 {
-            number: number_at(payload, YIADDR),
-        },
-        chaddr: mac_at(payload, CHADDR),
+        xid: u32_field(payload, XID),
+        yiaddr: ip4_field(payload, YIADDR),
+        chaddr: mac_field(payload, CHADDR),
         options,
     })
 }

@@ -1,6 +1,6 @@
 //! A client's message, written.
 
-ghost use Rattle.std.specs.Prelude.{◌≡◌, ◌<◌, ◌++◌, ◌∷◌, [], length, None, IfOk, OnOk};
+ghost use Rattle.std.specs.Prelude.{◌≡◌, ◌<◌, ◌≤◌, ◌++◌, ◌∷◌, [], length, None, IfOk, OnOk};
 ghost use Rattle.v4_message.specs.Message.{message_instances, malformed_place};
 ghost use Rattle.v4_message.specs.Requests.{options_text, address_option, text_option, number_of_kind, asked_for, said_options, exchange_fields, client_fields, fixed_fields, message_text, padded, ask_content, AskFits};
 
@@ -197,6 +197,8 @@ pub fn write4(alloc: Global, said: &Said4, ask: &Ask4) -> Result<Vec<u8>, NoMemo
     // Read again, they hold exactly those options.
     ensures whole { IfOk result (λ bytes. malformed_place bytes.items ≡ None) }
     ensures options { IfOk result (λ bytes. message_instances bytes.items ≡ said_options said.now (ask_content ask.now)) }
+    // They fit the largest datagram.
+    ensures most { IfOk result (λ bytes. length bytes.items ≤ 1472) }
 {
     match message(alloc, said, ask) {
         Ok(bytes) => Ok(bytes),

@@ -5,7 +5,8 @@ use Rattle.std.proofs.lemmas.Bool.{cases_eq, cases_lt, le-ltb}
 use Rattle.std.proofs.lemmas.List.{append-nil, length-drop, take_at, drop_at, take-append-drop, length-append, length-take, get_or-drop}
 use Rattle.v4_options.specs.declared.area.Front.TheVariants.{Pad, End, Cut, Whole}
 use Rattle.v4_options.specs.OptionArea.{Instance, front_of, instances_in, malformed_in}
-use Rattle.v4_options.specs.AreaGrammar.{Part, padding, option, part_text, FitsPart, area_text, part_instances, IsEnd, IsCut, IsArea, IsMalformedAt, AreBytes}
+use Rattle.v4_options.specs.AreaGrammar.{Part, padding, option, part_text, FitsPart, area_text, part_instances, IsEnd, IsCut, IsArea, IsMalformedAt}
+use Rattle.net_types.specs.Marks.{AreBytes}
 use Rattle.v4_options.proofs.Fronts.{instances_by, malformed_by}
 
 not_eq : (a b : ℕ) → a ≢ b → eqb a b ≡ false

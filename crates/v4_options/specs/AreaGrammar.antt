@@ -1,5 +1,5 @@
 -- The grammar of an area of options (RFC 2132, section 2): padding and options, then the end option or the area's end.
-use Rattle.std.specs.Prelude.{ℕ, ◌≡◌, ◌≢◌, ◌<◌, List, [], ◌∷◌, ◌++◌, length, slice_index}
+use Rattle.std.specs.Prelude.{ℕ, ◌≡◌, ◌≢◌, ◌<◌, List, [], ◌∷◌, ◌++◌, length}
 use Rattle.std.specs.List.{flat_map, AllByRecursion}
 use Rattle.v4_options.specs.OptionArea.{Instance}
 
@@ -49,6 +49,3 @@ pub record IsMalformedAt (area : List ℕ) (place : ℕ) : Type 0 where
   pub fit : AllByRecursion FitsPart parts
   pub after : place ≡ length (area_text parts)
   pub cut : IsCut rest
-
-abbrev pub AreBytes : List ℕ → Type 0
-AreBytes bytes = (i : ℕ) → slice_index bytes i < 256

@@ -2,6 +2,7 @@
 use Rattle.std.specs.Prelude.{ℕ, ◌≡◌, ◌+◌, ◌≤◌, List, [], ◌∷◌, length, take, drop, slice_index, Some, None, ◌==◌, if◌then◌else◌}
 use Rattle.v4_options.specs.declared.area.Front.{Front}
 use Rattle.v4_options.specs.declared.area.Front.TheVariants.{Pad, End, Cut, Whole}
+use Rattle.v4_options.specs.declared.overload.Overload.TheVariants.{Neither}
 use Rattle.v4_options.specs.OptionArea.{instances_in, malformed_in}
 use Rattle.v4_options.specs.Overload.{overload_by, overload_in}
 
@@ -26,8 +27,8 @@ MalformedBy at area (Whole n) = malformed_in at area ≡ malformed_in (at + (2 +
 
 abbrev pub OverloadBy : List ℕ → Front → Type 0
 OverloadBy area Pad = overload_in area ≡ overload_in (drop 1 area)
-OverloadBy area End = overload_in area ≡ 0
-OverloadBy area Cut = overload_in area ≡ 0
+OverloadBy area End = overload_in area ≡ Neither
+OverloadBy area Cut = overload_in area ≡ Neither
 OverloadBy area (Whole n) =
     overload_in area
     ≡ (if slice_index area 0 == 52 then overload_by (take n (drop 2 area)) else overload_in (drop n (drop 2 area)))

@@ -1,8 +1,8 @@
 -- Classless routes (RFC 3442).
-use Rattle.std.specs.Prelude.{ℕ, zero, suc, ◌+◌, ◌-◌, ◌/◌, ◌%◌, ◌^◌, List, [], ◌∷◌, ◌++◌, length, take, drop, replicate, Option, Some, None, nat_le, Bool, nat_lt, ◌&&◌, if◌then◌else◌}
+use Rattle.std.specs.Prelude.{ℕ, zero, suc, ◌+◌, ◌-◌, ◌/◌, List, [], ◌∷◌, ◌++◌, length, take, drop, replicate, Option, Some, None, nat_le, Bool, nat_lt, ◌&&◌, if◌then◌else◌}
 use Rattle.std.specs.Option.{option_map}
-use Rattle.std.specs.Int.{w32, from_be_bytes}
 use Rattle.net_types.specs.declared.address.Net4.{Net4}
+use Rattle.net_types.specs.Networks.{network_of}
 use Rattle.v4_options.specs.declared.routes.ClasslessRoute.{ClasslessRoute}
 use Rattle.v4_options.specs.Numbers.{address}
 
@@ -10,16 +10,9 @@ use Rattle.v4_options.specs.Numbers.{address}
 abbrev pub sent_bytes : ℕ → ℕ
 sent_bytes width = (width + 7) / 8
 
--- the bits past the width are cleared
-abbrev pub cleared : ℕ → ℕ → ℕ
-cleared width number = number - number % 2 ^ (32 - width)
-
--- the network of the bytes that were sent; those that weren't are 0
+-- the network of the bytes that were sent; those that weren't are 0, and the bits past the width are cleared
 abbrev pub network : ℕ → List ℕ → Net4
-network width sent = record {
-  ip = record { number = cleared width (from_be_bytes w32 (sent ++ replicate (4 - length sent) 0)) };
-  len = width;
-}
+network width sent = network_of (record { ip = address (sent ++ replicate (4 - length sent) 0); len = width })
 
 -- a width, the bytes of its destination, and the gateway
 abbrev pub route_of : ℕ → List ℕ → ClasslessRoute

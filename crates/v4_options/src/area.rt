@@ -7,16 +7,8 @@ ghost use Rattle.v4_options.specs.Overload.{overload_by, overload_in};
 ghost use Rattle.v4_options.specs.AreaSteps.{HasRoom, InstancesBy, MalformedBy, OverloadBy};
 
 use crate::code;
+use crate::overload::{BOTH, FILE, Overload, SNAME};
 use crate::view::Malformed;
-
-/// No area but the options holds options.
-pub(crate) const NEITHER: u8 = 0;
-/// The field file holds options too.
-pub(crate) const FILE: u8 = 1;
-/// The field sname holds options too.
-pub(crate) const SNAME: u8 = 2;
-/// Both fields hold options too.
-pub(crate) const BOTH: u8 = 3;
 
 /// What stands at the front of an area (RFC 2132, section 2).
 #[derive(Clone, Copy)]
@@ -97,19 +89,21 @@ pub(crate) fn find_option(area: &[u8], code: u8) -> Option<(&[u8], &[u8])>
     None
 }
 
-/// What the value of an option 52 says of the other areas (RFC 2132, section 9.3).
-fn overload_of(value: &[u8]) -> u8
+/// What the value of an option 52 says of the other areas.
+fn overload_of(value: &[u8]) -> Overload
     ensures { result ≡ overload_by value.now }
 {
     match value {
-        [overload] if *overload <= BOTH => *overload,
-        _ => NEITHER,
+        [FILE] => Overload::File,
+        [SNAME] => Overload::Sname,
+        [BOTH] => Overload::Both,
+        _ => Overload::Neither,
     }
 }
 
 /// The overload that an area tells by its first option 52. The area begins at `begins`, which counts in
 /// the place of a malformed option.
-pub(crate) fn check_area(area: &[u8], begins: usize) -> Result<u8, Malformed>
+pub(crate) fn check_area(area: &[u8], begins: usize) -> Result<Overload, Malformed>
     requires { begins + length area.now < 2 ^ 64 }
     ensures whole { IfOk result (λ overload. (malformed_in begins area.now ≡ None) × (overload ≡ overload_in area.now)) }
     ensures malformed { IfErr result (λ m. malformed_in begins area.now ≡ Some m.place) }
@@ -123,7 +117,7 @@ pub(crate) fn check_area(area: &[u8], begins: usize) -> Result<u8, Malformed>
                 rest = &rest[1..];
                 at += 1;
             }
-            Front::End => return Ok(overload.unwrap_or(NEITHER)),
+            Front::End => return Ok(overload.unwrap_or(Overload::Neither)),
             Front::Cut => return Err(Malformed { place: at }),
             Front::Whole(len) => {
                 let (value, others) = rest[2..].split_at(len);

@@ -8,7 +8,7 @@ ghost use Rattle.v4_options.specs.OptionValue.{pieces, joined, value_of, byte_of
 ghost use Rattle.v4_options.specs.OptionViews.{view_instances, pieces_left};
 
 use crate::area::find_option;
-use crate::view::{OptionView, reads_file, reads_sname};
+use crate::view::OptionView;
 use net_types::NoMemory;
 use std::alloc::{AllocError, Global};
 
@@ -37,8 +37,8 @@ pub fn pieces_of<'a>(view: &OptionView<'a>, code: u8) -> Pieces<'a>
     Pieces {
         code,
         options: view.areas.options,
-        file: area_where(reads_file(view.overload), view.areas.file),
-        sname: area_where(reads_sname(view.overload), view.areas.sname),
+        file: area_where(view.overload.reads_file(), view.areas.file),
+        sname: area_where(view.overload.reads_sname(), view.areas.sname),
     }
 }
 

@@ -3,7 +3,8 @@
 ghost use Rattle.std.specs.Prelude.{◌≡◌, ◌+◌, ◌⊎◌, ℕ, List, None, Some};
 ghost use Rattle.std.specs.List.{flat_map};
 ghost use Rattle.v4_options.specs.OptionArea.{instances_in, malformed_in};
-ghost use Rattle.v4_options.specs.AreaGrammar.{Part, IsArea, IsMalformedAt, AreBytes, part_instances};
+ghost use Rattle.v4_options.specs.AreaGrammar.{Part, IsArea, IsMalformedAt, part_instances};
+ghost use Rattle.net_types.specs.Marks.{AreBytes};
 
 /// Each area is parts of the grammar to its end or has a first malformed option. In the first case its instances are
 /// those of the parts and nothing is malformed; in the second the place is that of the grammar.

@@ -7,6 +7,7 @@ pub mod code;
 mod instances;
 mod laws;
 mod numbers;
+mod overload;
 mod routes;
 mod view;
 
@@ -14,6 +15,7 @@ pub use domain_names::{search_of, text_of};
 pub use instances::{Pieces, byte_at, pieces_of, value};
 pub use laws::area_law;
 pub use numbers::{addr_of, addrs_of, u16_of, u32_of};
+pub use overload::Overload;
 pub use routes::{ClasslessRoute, routes_of};
 pub use view::{Areas, Malformed, OptionView, options_of};
 

@@ -71,7 +71,5 @@ pub(crate) fn address_at(octets: &[u8]) -> Ip4
     requires { length octets.now ≡ 4 }
     ensures { result ≡ address octets.now }
 {
-    Ip4 {
-        number: u32::from_be_bytes([octets[0], octets[1], octets[2], octets[3]]),
-    }
+    Ip4::from_octets([octets[0], octets[1], octets[2], octets[3]])
 }

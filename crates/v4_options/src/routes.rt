@@ -8,8 +8,6 @@ use crate::numbers::address_at;
 use net_types::{Ip4, Net4, NoMemory};
 use std::alloc::{AllocError, Global};
 
-/// The bits of an address.
-const WIDTH_MAX: u8 = 32;
 /// The bytes of an address.
 const ADDRESS_LEN: usize = 4;
 
@@ -28,14 +26,11 @@ fn network(width: u8, sent: &[u8]) -> Net4
 {
     let mut octets = [0; 4];
     octets[..sent.len()].copy_from_slice(sent);
-    let number = u32::from_be_bytes(octets);
-    let past = number as u64 % (1u64 << (WIDTH_MAX - width));
-    Net4 {
-        ip: Ip4 {
-            number: number - past as u32,
-        },
+    let destination = Net4 {
+        ip: Ip4::from_octets(octets),
         len: width,
-    }
+    };
+    destination.network()
 }
 
 /// The route at the front of a value, and the value after it.
@@ -47,7 +42,7 @@ fn split_route(value: &[u8]) -> Option<(ClasslessRoute, &[u8])>
 {
     let (front, rest) = value.split_at(1);
     let width = front[0];
-    if width > WIDTH_MAX {
+    if width > Net4::WIDTH {
         return None;
     }
     let sent = (width as usize + 7) / 8;

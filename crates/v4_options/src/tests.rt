@@ -62,18 +62,18 @@ fn split_number(rt: HostRuntime) -> Result<(), Fail> {
     Ok(())
 }
 
-const OVERLOADS: [(&[u8], u8); 8] = [
-    (&[], 0),
-    (&[52, 1, 1], 1),
-    (&[52, 1, 3], 3),
+const OVERLOADS: [(&[u8], Overload); 8] = [
+    (&[], Overload::Neither),
+    (&[52, 1, 1], Overload::File),
+    (&[52, 1, 3], Overload::Both),
     // A value or a length that counts as none.
-    (&[52, 1, 4], 0),
-    (&[52, 2, 1, 1], 0),
+    (&[52, 1, 4], Overload::Neither),
+    (&[52, 2, 1, 1], Overload::Neither),
     // The first one counts, also where it says none.
-    (&[52, 1, 1, 52, 1, 2], 1),
-    (&[52, 0, 52, 1, 2], 0),
+    (&[52, 1, 1, 52, 1, 2], Overload::File),
+    (&[52, 0, 52, 1, 2], Overload::Neither),
     // What stands behind the end.
-    (&[0, 255, 52, 1, 2], 0),
+    (&[0, 255, 52, 1, 2], Overload::Neither),
 ];
 
 #[test]

@@ -1,10 +1,11 @@
 //! The areas of a message, and the view of their options once each is known to be well formed.
 
 ghost use Rattle.std.specs.Prelude.{◌≡◌, ◌+◌, ◌^◌, ◌<◌, ◌↔◌, length, Some, None, IfOk, IfErr, IsTrue};
-ghost use Rattle.v4_options.specs.Overload.{overload_in, reads_file, reads_sname};
+ghost use Rattle.v4_options.specs.Overload.{overload_in};
 ghost use Rattle.v4_options.specs.OptionViews.{area_bytes, malformed_of};
 
-use crate::area::{BOTH, FILE, SNAME, check_area};
+use crate::area::check_area;
+use crate::overload::Overload;
 
 /// The three fields of a message that can hold options (RFC 2131, section 2).
 #[derive(Clone, Copy, Debug)]
@@ -20,24 +21,11 @@ pub struct Malformed {
     pub place: usize,
 }
 
-/// The options of a message. `overload` tells which areas hold options beside the first: 0 neither, 1 file, 2 sname,
-/// 3 both (RFC 2132, section 9.3).
+/// The options of a message. `overload` tells which areas hold options beside the first (RFC 2132, section 9.3).
 #[derive(Clone, Copy, Debug)]
 pub struct OptionView<'a> {
     pub areas: Areas<'a>,
-    pub overload: u8,
-}
-
-pub(crate) fn reads_file(overload: u8) -> bool
-    ensures { result ≡ reads_file overload }
-{
-    matches!(overload, FILE | BOTH)
-}
-
-pub(crate) fn reads_sname(overload: u8) -> bool
-    ensures { result ≡ reads_sname overload }
-{
-    matches!(overload, SNAME | BOTH)
+    pub overload: Overload,
 }
 
 /// The view of the areas' options. It is refused at the first malformed option of the areas that are read, in the order
@@ -51,10 +39,10 @@ pub fn options_of<'a>(areas: Areas<'a>) -> Result<OptionView<'a>, Malformed>
 {
     let overload = check_area(areas.options, 0)?;
     let file = areas.options.len();
-    if reads_file(overload) {
+    if overload.reads_file() {
         check_area(areas.file, file)?;
     }
-    if reads_sname(overload) {
+    if overload.reads_sname() {
         check_area(areas.sname, file + areas.file.len())?;
     }
     Ok(OptionView { areas, overload })

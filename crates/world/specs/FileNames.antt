@@ -1,5 +1,8 @@
 -- The names of a store's files.
 use Rattle.std.specs.Prelude.{ℕ, Bool, ◌||◌, ◌&&◌, ◌==◌, nat_le, List, ◌++◌, codes, IsTrue}
+use Rattle.std.specs.declared.cmp.Ordering.{Ordering}
+use Rattle.std.specs.Ordering.{nat_cmp, is_eq}
+use Rattle.std.specs.Cmp.Lexicographic.{slice_cmp}
 use Rattle.std.specs.List.{list_all}
 
 -- a letter, a digit, `.`, `_` or `-`
@@ -12,3 +15,10 @@ IsFileName name = IsTrue (list_all is_file_byte name)
 -- what a file is written as before it takes its place
 abbrev pub aside_of : List ℕ → List ℕ
 aside_of name = name ++ codes ".new"
+
+-- names stand in byte order
+abbrev pub name_cmp : List ℕ → List ℕ → Ordering
+name_cmp = slice_cmp nat_cmp
+
+abbrev pub is_name : List ℕ → List ℕ → Bool
+is_name a b = is_eq (name_cmp a b)

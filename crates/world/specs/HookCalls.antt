@@ -1,5 +1,5 @@
 -- What hooks that tell what they run make of each call.
-use Rattle.std.specs.Prelude.{ℕ, Bool, true, false, ◌≡◌, ◌+◌, List, [], ◌∷◌, ◌++◌, map, Option, Some, None, Result, Ok, Err}
+use Rattle.std.specs.Prelude.{ℕ, Bool, true, false, ◌≡◌, ◌+◌, List, [], ◌∷◌, ◌++◌, map, drop, count_by, Option, Some, None, Result, Ok, Err}
 use Rattle.std.specs.String.{string_bytes}
 use Rattle.net_types.specs.declared.fault.Failed.{Failed}
 use Rattle.world.specs.declared.faults.DeviceAnswer.{DeviceAnswer}
@@ -28,32 +28,35 @@ variable_of var = record { name = string_bytes var.name; value = string_bytes va
 abbrev pub job_of : HookJob → Job
 job_of job = record { number = job.number; reason = job.reason; iface = job.iface.number; script = string_bytes job.script; vars = map variable_of job.vars.items }
 
--- a job that was to start, and whether it did
+-- a call with its answer: a start and whether it was done; what a poll said, nothing where it failed; a child abandoned
 pub data HookCall : Type 0 where
   Started : (job : Job) → (done : Bool) → HookCall
+  Polled : (answer : Option Poll) → HookCall
+  Abandoned : HookCall
 
 pub record HooksTold : Type 0 where
   -- what polls will answer, in order; nothing where the poll fails
   pub polls : List (Option Poll)
-  -- how many jobs were to start, how often was polled, and how many children were abandoned, earlier lives included
-  pub starts : ℕ
-  pub polled : ℕ
-  pub abandoned : ℕ
-  -- the jobs that were to start
+  -- the calls answered so far, those of earlier lives included
   pub calls : List HookCall
+
+abbrev pub is_start : HookCall → Bool
+is_start (Started job done) = true
+is_start (Polled answer) = false
+is_start Abandoned = false
 
 -- the number of the next start, from 1
 abbrev pub start_number : Option HooksTold → ℕ
 start_number None = 0
-start_number (Some told) = told.starts + 1
+start_number (Some told) = count_by is_start told.calls + 1
 
-abbrev pub started : Job → Bool → HooksTold → HooksTold
-started job done told = record told { starts = told.starts + 1; calls = told.calls ++ Started job done ∷ [] }
+abbrev pub hooks_answered : HookCall → HooksTold → HooksTold
+hooks_answered call told = record told { calls = told.calls ++ call ∷ [] }
 
 abbrev pub StartsJob : {T : Type 0} → Job → Option HooksTold → Option HooksTold → Result T DeviceAnswer → Type 0
 StartsJob job None new result = new ≡ None
-StartsJob job (Some told) new (Ok x) = new ≡ Some (started job true told)
-StartsJob job (Some told) new (Err Answer.Failed) = new ≡ Some (started job false told)
+StartsJob job (Some told) new (Ok x) = new ≡ Some (hooks_answered (Started job true) told)
+StartsJob job (Some told) new (Err Answer.Failed) = new ≡ Some (hooks_answered (Started job false) told)
 StartsJob job (Some told) new (Err Answer.NoMemory) = new ≡ Some told
 
 -- a child runs after a start that was done, and after no other
@@ -67,26 +70,28 @@ RunsOn running (Ok Running) = running ≡ true
 RunsOn running (Ok (Ended status)) = running ≡ false
 RunsOn running (Err e) = running ≡ true
 
-abbrev pub IsPollAnswer : Option Poll → Result Poll Failed → Type 0
-IsPollAnswer None (Ok poll) = ⊥
-IsPollAnswer None (Err e) = Unit {0}
-IsPollAnswer (Some poll) (Ok answer) = answer ≡ poll
-IsPollAnswer (Some poll) (Err e) = ⊥
+-- what a poll said; nothing where it failed
+abbrev pub said_by_poll : Result Poll Failed → Option Poll
+said_by_poll (Ok poll) = Some poll
+said_by_poll (Err e) = None
 
 -- polls are answered in order; when no answer is left the child has ended with status 0
-abbrev pub AnswersNext : List (Option Poll) → HooksTold → Option HooksTold → Result Poll Failed → Type 0
-AnswersNext [] told new result = IsPollAnswer (Some (Ended 0)) result × (new ≡ Some (record told { polled = told.polled + 1 }))
-AnswersNext (answer ∷ polls) told new result = IsPollAnswer answer result × (new ≡ Some (record told { polls = polls; polled = told.polled + 1 }))
+abbrev pub next_answer : List (Option Poll) → Option Poll
+next_answer [] = Some (Ended 0)
+next_answer (answer ∷ polls) = answer
+
+abbrev pub polled : HooksTold → HooksTold
+polled told = record { polls = drop 1 told.polls; calls = told.calls ++ Polled (next_answer told.polls) ∷ [] }
 
 abbrev pub AnswersPoll : Option HooksTold → Option HooksTold → Result Poll Failed → Type 0
 AnswersPoll None new result = new ≡ None
-AnswersPoll (Some told) new result = AnswersNext told.polls told new result
+AnswersPoll (Some told) new result = (said_by_poll result ≡ next_answer told.polls) × (new ≡ Some (polled told))
 
--- a child that runs is abandoned; where none runs nothing changes
-abbrev pub abandon : Bool → HooksTold → HooksTold
-abandon true told = record told { abandoned = told.abandoned + 1 }
-abandon false told = told
+-- a child that runs is abandoned; where none runs nothing is asked
+abbrev pub abandoned : Bool → HooksTold → HooksTold
+abandoned true told = hooks_answered Abandoned told
+abandoned false told = told
 
 abbrev pub Abandons : Bool → Option HooksTold → Option HooksTold → Type 0
 Abandons running None new = new ≡ None
-Abandons running (Some told) new = new ≡ Some (abandon running told)
+Abandons running (Some told) new = new ≡ Some (abandoned running told)

@@ -5,7 +5,14 @@ pub mod Rows
 pub mod FileNames
 pub mod Streams
 pub mod LinkCalls
+pub mod NamedLists
+pub mod FileLists
+pub mod CrashImages
+pub mod DiskChanges
+pub mod Undoing
+pub mod StoreFails
 pub mod StoreCalls
+pub mod SoundStores
 pub mod HostCalls
 pub mod HookCalls
 pub mod RowText

@@ -1,18 +1,16 @@
 -- What a store that tells what it holds makes of each call.
-use Rattle.std.specs.Prelude.{ℕ, Bool, true, false, not, ◌||◌, ◌≡◌, ◌+◌, ◌-◌, ◌⊎◌, List, [], ◌∷◌, ◌++◌, length, map, filter, drop, All, codes, Option, Some, None, is_some, Result, Ok, Err, String, if◌then◌else◌}
+use Rattle.std.specs.Prelude.{ℕ, Bool, true, false, not, ◌||◌, ◌≡◌, ◌+◌, ◌⊎◌, List, [], ◌∷◌, ◌++◌, length, All, Option, Some, None, is_some, option_map, Result, Ok, Err, String}
 use Rattle.std.specs.Global.{Global}
 use Rattle.std.specs.String.{string_bytes}
-use Rattle.std.specs.declared.cmp.Ordering.{Ordering}
-use Rattle.std.specs.Ordering.{nat_cmp, is_eq, match_ordering}
-use Rattle.std.specs.Cmp.Lexicographic.{slice_cmp}
 use Rattle.world.specs.declared.faults.DeviceAnswer.{DeviceAnswer}
 use Rattle.world.specs.declared.faults.DeviceAnswer.TheVariants as Answer
-use Rattle.world.specs.Causes.{has_number}
+use Rattle.world.specs.Causes.{FailsAsTold}
+use Rattle.world.specs.StoreFails.{StoreFails, fails_at}
 use Rattle.world.specs.FileNames.{IsFileName, aside_of}
-
-pub record StoreFile : Type 0 where
-  pub name : List ℕ
-  pub bytes : List ℕ
+use Rattle.world.specs.FileLists.{StoreFile, file_at, put_file, drop_file, asides, rename_file}
+use Rattle.world.specs.CrashImages.{ChangedFile}
+use Rattle.world.specs.Undoing.{UndoneFile, Empties, put_undo, undo_synced, undo_renamed, restoring, undo_settled}
+use Rattle.world.specs.DiskChanges.{written, synced, renamed, removed, settled}
 
 -- what reading a file gave
 pub data Reading : Type 0 where
@@ -35,42 +33,43 @@ pub record StoreTold : Type 0 where
   pub files : List StoreFile
   -- the calls answered so far, those of earlier lives included
   pub calls : List StoreCall
+  -- the files of which a crash may leave something else
+  pub disk : List ChangedFile
+  -- what a crash that undoes all that isn't settled makes of the files
+  pub undo : List UndoneFile
 
-abbrev pub name_cmp : List ℕ → List ℕ → Ordering
-name_cmp = slice_cmp nat_cmp
+-- what a crash may leave after a call that was answered over these files; one that failed was done or not done
+abbrev pub disk_after : StoreCall → List StoreFile → List ChangedFile → List ChangedFile
+disk_after (ListedAsides names) files disk = disk
+disk_after (ReadFile name reading) files disk = disk
+disk_after (WroteAside name bytes done) files disk = written (aside_of name) bytes (file_at (aside_of name) files) disk
+disk_after (SyncedAside name true) files disk = synced (aside_of name) (file_at (aside_of name) files) disk
+disk_after (SyncedAside name false) files disk = disk
+disk_after (RenamedAside name done) files disk = renamed name done (file_at name files) (file_at (aside_of name) files) disk
+disk_after (RemovedFile name done) files disk = removed name done (file_at name files) disk
+disk_after (SettledFiles true) files disk = settled disk
+disk_after (SettledFiles false) files disk = disk
 
-abbrev pub is_name : List ℕ → List ℕ → Bool
-is_name a b = is_eq (name_cmp a b)
-
--- the bytes of a file
-abbrev pub file_at : List ℕ → List StoreFile → Option (List ℕ)
-file_at name [] = None
-file_at name (file ∷ files) = if is_name name file.name then Some file.bytes else file_at name files
-
--- the files with one at its place in the order, in place of one of that name
-abbrev pub put_file : StoreFile → List StoreFile → List StoreFile
-put_file file [] = file ∷ []
-put_file file (f ∷ files) = match_ordering (name_cmp file.name f.name) (file ∷ f ∷ files) (file ∷ files) (f ∷ put_file file files)
-
--- the files without the one of a name
-abbrev pub drop_file : List ℕ → List StoreFile → List StoreFile
-drop_file name [] = []
-drop_file name (file ∷ files) = if is_name name file.name then files else file ∷ drop_file name files
-
--- whether a name is that of an aside
-abbrev pub is_aside : List ℕ → Bool
-is_aside name = is_name (drop (length name - 4) name) (codes ".new")
-
-abbrev pub asides : List StoreFile → List (List ℕ)
-asides files = filter is_aside (map (λ file. file.name) files)
-
--- the aside of a name is put in place of its file, and is no more
-abbrev pub rename_file : List ℕ → Option (List ℕ) → List StoreFile → List StoreFile
-rename_file name None files = files
-rename_file name (Some bytes) files = drop_file (aside_of name) (put_file (record { name = name; bytes = bytes }) files)
+-- what undoing gives after a call that was answered over these files; one that failed changes nothing of it
+abbrev pub undo_after : StoreCall → List StoreFile → List UndoneFile → List UndoneFile
+undo_after (WroteAside name bytes true) files undo = put_undo (aside_of name) Empties undo
+undo_after (SyncedAside name true) files undo = undo_synced (aside_of name) (file_at (aside_of name) files) undo
+undo_after (RenamedAside name true) files undo = undo_renamed name (file_at name files) (file_at (aside_of name) files) undo
+undo_after (RemovedFile name true) files undo = restoring name (file_at name files) undo
+undo_after (SettledFiles true) files undo = undo_settled undo
+undo_after call files undo = undo
 
 abbrev pub store_answered : StoreCall → List StoreFile → StoreTold → StoreTold
-store_answered call files told = record { files = files; calls = told.calls ++ call ∷ [] }
+store_answered call files told = record {
+  files = files;
+  calls = told.calls ++ call ∷ [];
+  disk = disk_after call told.files told.disk;
+  undo = undo_after call told.files told.undo;
+}
+
+-- a store that holds these files, of which nothing is unsettled, before its first call
+abbrev pub store_holding : List StoreFile → StoreTold
+store_holding files = record { files = files; calls = []; disk = []; undo = [] }
 
 -- the number of the next call, from 1
 abbrev pub store_number : Option StoreTold → ℕ
@@ -78,12 +77,12 @@ store_number None = 0
 store_number (Some told) = length told.calls + 1
 
 -- A failed call left the files as they were or changed; where it is told which calls fail, as they were.
-abbrev pub FailedWrite : Option (List ℕ) → StoreCall → List StoreFile → StoreTold → Option StoreTold → Type 0
+abbrev pub FailedWrite : Option StoreFails → StoreCall → List StoreFile → StoreTold → Option StoreTold → Type 0
 FailedWrite None call changed told new = (new ≡ Some (store_answered call told.files told)) ⊎ (new ≡ Some (store_answered call changed told))
 FailedWrite (Some failing) call changed told new = new ≡ Some (store_answered call told.files told)
 
 -- a change to the files, and the call that asked for it
-abbrev pub ChangesFiles : {T : Type 0} → Option (List ℕ) → (List StoreFile → List StoreFile) → (Bool → StoreCall) → Option StoreTold → Option StoreTold → Result T DeviceAnswer → Type 0
+abbrev pub ChangesFiles : {T : Type 0} → Option StoreFails → (List StoreFile → List StoreFile) → (Bool → StoreCall) → Option StoreTold → Option StoreTold → Result T DeviceAnswer → Type 0
 ChangesFiles failing change call None new result = new ≡ None
 ChangesFiles failing change call (Some told) new (Ok x) = new ≡ Some (store_answered (call true) (change told.files) told)
 ChangesFiles failing change call (Some told) new (Err Answer.Failed) = FailedWrite failing (call false) (change told.files) told new
@@ -119,29 +118,26 @@ FindsAside name (Some told) (Ok x) = is_some (file_at (aside_of name) told.files
 FindsAside name (Some told) (Err answer) = Unit {0}
 
 -- where it is told which calls fail, renaming fails at these calls and where there is no aside, and nowhere else
-abbrev pub fails_rename : List ℕ → List ℕ → StoreTold → Bool
-fails_rename failing name told = has_number failing (length told.calls + 1) || not (is_some (file_at (aside_of name) told.files))
+abbrev pub fails_rename : List ℕ → StoreTold → StoreFails → Bool
+fails_rename name told fails = fails_at fails (length told.calls + 1) || not (is_some (file_at (aside_of name) told.files))
 
-abbrev pub RenameForetold : {T : Type 0} → Option (List ℕ) → List ℕ → Option StoreTold → Result T DeviceAnswer → Type 0
-RenameForetold None name told result = Unit {0}
-RenameForetold (Some failing) name None result = Unit {0}
-RenameForetold (Some failing) name (Some told) (Ok x) = fails_rename failing name told ≡ false
-RenameForetold (Some failing) name (Some told) (Err Answer.Failed) = fails_rename failing name told ≡ true
-RenameForetold (Some failing) name (Some told) (Err Answer.NoMemory) = Unit {0}
+abbrev pub RenameForetold : {T : Type 0} → Option StoreFails → List ℕ → Option StoreTold → Result T DeviceAnswer → Type 0
+RenameForetold failing name None result = Unit {0}
+RenameForetold failing name (Some told) result = FailsAsTold (option_map (fails_rename name told) failing) result
 
-abbrev pub WritesAside : {T : Type 0} → Option (List ℕ) → List ℕ → List ℕ → Option StoreTold → Option StoreTold → Result T DeviceAnswer → Type 0
+abbrev pub WritesAside : {T : Type 0} → Option StoreFails → List ℕ → List ℕ → Option StoreTold → Option StoreTold → Result T DeviceAnswer → Type 0
 WritesAside failing name bytes = ChangesFiles failing (put_file (record { name = aside_of name; bytes = bytes })) (WroteAside name bytes)
 
-abbrev pub SyncsAside : {T : Type 0} → Option (List ℕ) → List ℕ → Option StoreTold → Option StoreTold → Result T DeviceAnswer → Type 0
+abbrev pub SyncsAside : {T : Type 0} → Option StoreFails → List ℕ → Option StoreTold → Option StoreTold → Result T DeviceAnswer → Type 0
 SyncsAside failing name = ChangesFiles failing (λ files. files) (SyncedAside name)
 
-abbrev pub RenamesAside : {T : Type 0} → Option (List ℕ) → List ℕ → Option StoreTold → Option StoreTold → Result T DeviceAnswer → Type 0
+abbrev pub RenamesAside : {T : Type 0} → Option StoreFails → List ℕ → Option StoreTold → Option StoreTold → Result T DeviceAnswer → Type 0
 RenamesAside failing name = ChangesFiles failing (λ files. rename_file name (file_at (aside_of name) files) files) (RenamedAside name)
 
-abbrev pub RemovesFile : {T : Type 0} → Option (List ℕ) → List ℕ → Option StoreTold → Option StoreTold → Result T DeviceAnswer → Type 0
+abbrev pub RemovesFile : {T : Type 0} → Option StoreFails → List ℕ → Option StoreTold → Option StoreTold → Result T DeviceAnswer → Type 0
 RemovesFile failing name = ChangesFiles failing (drop_file name) (RemovedFile name)
 
-abbrev pub Settles : {T : Type 0} → Option (List ℕ) → Option StoreTold → Option StoreTold → Result T DeviceAnswer → Type 0
+abbrev pub Settles : {T : Type 0} → Option StoreFails → Option StoreTold → Option StoreTold → Result T DeviceAnswer → Type 0
 Settles failing = ChangesFiles failing (λ files. files) SettledFiles
 
 -- names are appended, or none on a refusal; they are names of files

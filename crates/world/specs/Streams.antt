@@ -18,3 +18,8 @@ Writes (Some written) new bytes (Err e) = (n : ℕ) × (new ≡ Some (written ++
 -- the count of calls after one more; it stays at the end of its range
 abbrev pub count_after : ℕ → ℕ
 count_after count = min (count + 1) (2 ^ 64 - 1)
+
+-- the count of bytes taken after a read; it stays at the end of its range
+abbrev pub taken_after : ℕ → Result ℕ Failed → ℕ
+taken_after count (Ok n) = min (count + n) (2 ^ 64 - 1)
+taken_after count (Err e) = count

@@ -1,6 +1,7 @@
 //! The outside of the daemon: what each device is asked, what it answers, and what is known of it.
 #![tactic(auto)]
 
+mod crash_laws;
 mod faults;
 mod hooking;
 mod hosts;
@@ -15,6 +16,7 @@ mod streams;
 mod tests;
 mod wakes;
 
+pub use crash_laws::what_a_crash_leaves;
 pub use faults::DeviceAnswer;
 pub use hooking::{HookJob, HookVar, Hooks, Poll};
 pub use hosts::Host;

@@ -1,6 +1,7 @@
 ghost use Rattle.std.specs.Prelude.{◌≡◌, ◌≤◌, ℕ, Option, List, length, IfOk, IfSome, IsOk};
 ghost use Rattle.world.specs.Causes.{HasCause, HasDeviceCause, Foretold};
 ghost use Rattle.world.specs.LinkCalls.{LinkTold, frame_len, Begins, Waits, Offers, wait_number, send_number};
+ghost use Rattle.world.specs.Streams.{count_after};
 
 use crate::faults::DeviceAnswer;
 use crate::wakes::{Begin, Wake};
@@ -13,6 +14,9 @@ pub trait Link {
 
     /// How many sends failed.
     ghost send_faults: { Self → ℕ };
+
+    /// How often a life was to begin, counted up to 2^64 - 1.
+    ghost begins: { Self → ℕ };
 
     /// What was asked, given and offered, and what will come, where that is told.
     ghost told: { Self → Option LinkTold };
@@ -27,6 +31,7 @@ pub trait Link {
     fn begin(&mut self) -> Result<Begin, Failed>
         ensures cause { HasCause (faults self.old) (faults self.new) result }
         ensures no_send { send_faults self.new ≡ send_faults self.old }
+        ensures counted { begins self.new ≡ count_after (begins self.old) }
         ensures told { Begins (told self.old) (told self.new) result }
         // Where it is told which waits fail, beginning doesn't.
         ensures begun { IfSome (failing_waits self.old) (λ _. IsOk result) }
@@ -37,6 +42,7 @@ pub trait Link {
     fn wait(&mut self, until: Option<u64>, buf: &mut [u8]) -> Result<Wake, DeviceAnswer>
         ensures cause { HasDeviceCause (faults self.old) (faults self.new) result }
         ensures no_send { send_faults self.new ≡ send_faults self.old }
+        ensures no_begin { begins self.new ≡ begins self.old }
         ensures room { IfOk result (λ wake. frame_len wake.event ≤ length buf.new) }
         ensures told { Waits until (told self.old) (told self.new) buf.new result }
         ensures foretold { Foretold (failing_waits self.old) (wait_number (told self.old)) result }
@@ -45,7 +51,7 @@ pub trait Link {
     /// Offers a frame on an interface.
     fn send(&mut self, iface: IfIndex, frame: &[u8]) -> Result<(), DeviceAnswer>
         ensures cause { HasDeviceCause (send_faults self.old) (send_faults self.new) result }
-        ensures no_wait { faults self.new ≡ faults self.old }
+        ensures no_wait { (faults self.new ≡ faults self.old) × (begins self.new ≡ begins self.old) }
         ensures told { Offers iface.number frame.now (told self.old) (told self.new) result }
         ensures foretold { Foretold (failing_sends self.old) (send_number (told self.old)) result }
         ensures failing { (failing_waits self.new ≡ failing_waits self.old) × (failing_sends self.new ≡ failing_sends self.old) };

@@ -1,7 +1,8 @@
-ghost use Rattle.std.specs.Prelude.{◌≡◌, ℕ, Option, List, map, All, OnErr, String};
+ghost use Rattle.std.specs.Prelude.{◌≡◌, ℕ, Option, map, OnErr};
 ghost use Rattle.std.specs.String.{string_bytes};
-ghost use Rattle.world.specs.Causes.{HasDeviceCause, Foretold};
+ghost use Rattle.world.specs.Causes.{HasDeviceCause};
 ghost use Rattle.world.specs.FileNames.{IsFileName};
+ghost use Rattle.world.specs.StoreFails.{StoreFails, StoreForetold};
 ghost use Rattle.world.specs.StoreCalls.{StoreTold, store_number, AppendsNames, ListsAsides, ReadsFile, FindsAside, RenameForetold, WritesAside, SyncsAside, RenamesAside, RemovesFile, Settles};
 
 use crate::faults::DeviceAnswer;
@@ -14,15 +15,15 @@ pub trait Store {
     /// The files and the calls so far, where these are told.
     ghost told: { Self → Option StoreTold };
 
-    /// The numbers of the calls that fail, from 1 over all lives, where these are told. Then a failed call changes nothing.
-    ghost failing: { Self → Option (List ℕ) };
+    /// Which calls fail, by their numbers from 1 over all lives, where these are told. Then a failed call changes nothing.
+    ghost failing: { Self → Option StoreFails };
 
     /// Appends the names of all asides, in byte order.
     fn list_asides(&mut self, names: &mut Vec<String>) -> Result<(), DeviceAnswer>
         ensures cause { HasDeviceCause (faults self.old) (faults self.new) result }
         ensures names { AppendsNames names.old.items names.new.items result }
         ensures told { ListsAsides (told self.old) (told self.new) (map string_bytes names.old.items) (map string_bytes names.new.items) result }
-        ensures foretold { Foretold (failing self.old) (store_number (told self.old)) result }
+        ensures foretold { StoreForetold (failing self.old) (store_number (told self.old)) result }
         ensures failing { failing self.new ≡ failing self.old };
 
     /// Appends the bytes of a file and answers true, or answers false where there is none.
@@ -31,7 +32,7 @@ pub trait Store {
         ensures cause { HasDeviceCause (faults self.old) (faults self.new) result }
         ensures err { OnErr result (into.new.items ≡ into.old.items) }
         ensures told { ReadsFile name.now (told self.old) (told self.new) into.old.items into.new.items result }
-        ensures foretold { Foretold (failing self.old) (store_number (told self.old)) result }
+        ensures foretold { StoreForetold (failing self.old) (store_number (told self.old)) result }
         ensures failing { failing self.new ≡ failing self.old };
 
     /// Writes the aside of a file.
@@ -39,7 +40,7 @@ pub trait Store {
         requires { IsFileName name.now }
         ensures cause { HasDeviceCause (faults self.old) (faults self.new) result }
         ensures told { WritesAside (failing self.old) name.now bytes.now (told self.old) (told self.new) result }
-        ensures foretold { Foretold (failing self.old) (store_number (told self.old)) result }
+        ensures foretold { StoreForetold (failing self.old) (store_number (told self.old)) result }
         ensures failing { failing self.new ≡ failing self.old };
 
     /// Makes what was written to the aside of a file outlive a crash.
@@ -47,7 +48,7 @@ pub trait Store {
         requires { IsFileName name.now }
         ensures cause { HasDeviceCause (faults self.old) (faults self.new) result }
         ensures told { SyncsAside (failing self.old) name.now (told self.old) (told self.new) result }
-        ensures foretold { Foretold (failing self.old) (store_number (told self.old)) result }
+        ensures foretold { StoreForetold (failing self.old) (store_number (told self.old)) result }
         ensures failing { failing self.new ≡ failing self.old };
 
     /// Puts the aside of a file in its place. Where there is no aside, that fails.
@@ -64,13 +65,13 @@ pub trait Store {
         requires { IsFileName name.now }
         ensures cause { HasDeviceCause (faults self.old) (faults self.new) result }
         ensures told { RemovesFile (failing self.old) name.now (told self.old) (told self.new) result }
-        ensures foretold { Foretold (failing self.old) (store_number (told self.old)) result }
+        ensures foretold { StoreForetold (failing self.old) (store_number (told self.old)) result }
         ensures failing { failing self.new ≡ failing self.old };
 
     /// Makes renames and removals outlive a crash.
     fn settle(&mut self) -> Result<(), DeviceAnswer>
         ensures cause { HasDeviceCause (faults self.old) (faults self.new) result }
         ensures told { Settles (failing self.old) (told self.old) (told self.new) result }
-        ensures foretold { Foretold (failing self.old) (store_number (told self.old)) result }
+        ensures foretold { StoreForetold (failing self.old) (store_number (told self.old)) result }
         ensures failing { failing self.new ≡ failing self.old };
 }

@@ -1,6 +1,6 @@
 ghost use Rattle.std.specs.Prelude.{◌≡◌, ◌≤◌, ℕ, Option, List, length, IfOk};
 ghost use Rattle.world.specs.Causes.{HasCause, HasDeviceCause};
-ghost use Rattle.world.specs.Streams.{Reads, Writes, count_after};
+ghost use Rattle.world.specs.Streams.{Reads, Writes, count_after, taken_after};
 
 use crate::faults::DeviceAnswer;
 use net_types::Failed;
@@ -13,6 +13,9 @@ pub trait Source {
     /// How many calls were made, counted up to 2^64 - 1.
     ghost reads: { Self → ℕ };
 
+    /// How many bytes were taken, counted up to 2^64 - 1.
+    ghost taken: { Self → ℕ };
+
     /// The bytes left, where these are told.
     ghost left: { Self → Option (List ℕ) };
 
@@ -20,6 +23,7 @@ pub trait Source {
     fn read(&mut self, buf: &mut [u8]) -> Result<usize, Failed>
         ensures cause { HasCause (faults self.old) (faults self.new) result }
         ensures counted { reads self.new ≡ count_after (reads self.old) }
+        ensures taken { taken self.new ≡ taken_after (taken self.old) result }
         ensures room { IfOk result (λ n. n ≤ length buf.new) }
         ensures told { Reads (left self.old) (left self.new) buf.new result };
 }

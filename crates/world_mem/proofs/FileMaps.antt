@@ -9,7 +9,8 @@ use Rattle.std.specs.Ordering.{match_ordering}
 use Rattle.std.specs.BTreeMap.{insert_entry, is_at}
 use Rattle.std.specs.Map.{remove_entry, lookup}
 use Rattle.std.proofs.lemmas.Map.Lookups.{exact_bytes}
-use Rattle.world.specs.StoreCalls.{name_cmp, is_name, put_file, drop_file, file_at}
+use Rattle.world.specs.FileNames.{name_cmp, is_name}
+use Rattle.world.specs.FileLists.{put_file, drop_file, file_at}
 use Rattle.world_mem.specs.StoreRecord.{entry_file}
 
 abbrev Entry : Type 0

@@ -6,7 +6,8 @@ use Rattle.std.specs.Ordering.{match_ordering}
 use Rattle.std.proofs.lemmas.List.Elements.{All-cons, All-head, All-tail, All-nil, All-map, All-filter}
 use Rattle.std.proofs.lemmas.List.Folds.{list_all-append}
 use Rattle.world.specs.FileNames.{IsFileName, aside_of}
-use Rattle.world.specs.StoreCalls.{StoreFile, name_cmp, is_name, put_file, drop_file}
+use Rattle.world.specs.FileNames.{name_cmp, is_name}
+use Rattle.world.specs.FileLists.{StoreFile, put_file, drop_file, rename_file, file_at, is_aside, asides}
 use Rattle.world_mem.specs.declared.stores.MemFile.{MemFile}
 use Rattle.std.specs.Prelude.{String, Option, Some, None, is_some, filter}
 use Rattle.std.specs.Global.{Global, Vec}
@@ -16,7 +17,7 @@ use Rattle.std.proofs.lemmas.List.Sums.{fold-append}
 use Rattle.std.proofs.Common.{append_assoc, append-nil, length-append, take}
 use Rattle.std.proofs.Math.Seq.{take-append_seam}
 use Rattle.std.proofs.lemmas.List.{map-append}
-use Rattle.world.specs.StoreCalls.{StoreTold, StoreCall, WroteAside, RenamedAside, RemovedFile, store_answered, rename_file, file_at, is_aside, asides, ListedAsides}
+use Rattle.world.specs.StoreCalls.{StoreTold, StoreCall, WroteAside, RenamedAside, RemovedFile, store_answered, ListedAsides}
 use Rattle.world_mem.specs.declared.stores.StoreEntry.{StoreEntry}
 use Rattle.world_mem.specs.declared.stores.StoreEntry.TheVariants.{List as Lists, Write, Rename, Remove}
 use Rattle.world_mem.specs.StoreRecord.{file_of, put_files, in_name_order, entry_file, store_step, store_start, told_after, HoldsFiles}
@@ -57,23 +58,20 @@ named_more item sorted sorted' k is inv = rw k (All-put_file IsNamed (file_of it
 pub named_at : (files xs : List MemFile) (item : MemFile) (i : ℕ) → i < length xs → item ≡ get_or xs i item → xs ≡ files → All (λ (file : MemFile). IsFileName (string_bytes file.name)) files → IsFileName (string_bytes item.name)
 named_at files xs item i lt is e all = let far : i < length files = rw e at lt in let same : get_or files i item ≡ item = ap (λ ys. get_or ys i item) (sym e) ∙ sym is in rw same at (all i item far)
 
-length_more : {A B : Type 0} (xs : List A) (x : A) (ys : List B) (y : B) → length xs ≡ length ys → length (xs ++ x ∷ []) ≡ length (ys ++ y ∷ [])
-length_more xs x ys y e = length-append xs (x ∷ []) ∙ ap (λ n. n + 1) e ∙ sym (length-append ys (y ∷ []))
-
-module _ (first : List MemFile) (held held' : List (String Global × Vec ℕ)) (entries between after : List StoreEntry) (e : between ≡ entries) (h : HoldsFiles (told_after first entries) held entries) where
-  after_change : (entry : StoreEntry) (call : StoreCall) (files : List StoreFile) → store_step (told_after first entries) entry ≡ store_answered call files (told_after first entries) → after ≡ between ++ entry ∷ [] → files ≡ map entry_file held' → All IsNamed files → HoldsFiles (told_after first after) held' after
+module _ (first : List MemFile) (held held' : List (String Global × Vec ℕ)) (entries between after : List StoreEntry) (answered number : ℕ) (e : between ≡ entries) (next : number ≡ answered + 1) (h : HoldsFiles (told_after first entries) held answered) where
+  after_change : (entry : StoreEntry) (call : StoreCall) (files : List StoreFile) → store_step (told_after first entries) entry ≡ store_answered call files (told_after first entries) → after ≡ between ++ entry ∷ [] → files ≡ map entry_file held' → All IsNamed files → HoldsFiles (told_after first after) held' number
   after_change entry call files step f is named =
       rw (f, e, fold-append store_step (store_start first) entries (entry ∷ []), step)
-      (record { files = is; names = named; counted = length_more (told_after first entries).calls call entries entry h.counted })
+      (record { files = is; names = named; counted = length-append (told_after first entries).calls (call ∷ []) ∙ ap (λ n. n + 1) h.counted ∙ sym next })
 
-  pub after_remove : (copy : String Global) (name : List ℕ) → after ≡ between ++ Remove copy true ∷ [] → string_bytes copy ≡ name → map entry_file held' ≡ drop_file name (map entry_file held) → HoldsFiles (told_after first after) held' after
+  pub after_remove : (copy : String Global) (name : List ℕ) → after ≡ between ++ Remove copy true ∷ [] → string_bytes copy ≡ name → map entry_file held' ≡ drop_file name (map entry_file held) → HoldsFiles (told_after first after) held' number
   after_remove copy name f n k =
       after_change (Remove copy true) (RemovedFile (string_bytes copy) true) (drop_file (string_bytes copy) (told_after first entries).files) refl f
       (ap (λ m. drop_file m (told_after first entries).files) n ∙ ap (drop_file name) h.files ∙ sym k)
       (All-drop_file IsNamed (string_bytes copy) (told_after first entries).files h.names)
 
   pub after_write : (copy aside : String Global) (written content : Vec ℕ) (name bytes : List ℕ) → after ≡ between ++ Write copy written true ∷ [] → string_bytes copy ≡ name → written.items ≡ bytes → string_bytes aside ≡ aside_of name → content.items ≡ bytes → IsFileName name
-      → map entry_file held' ≡ put_file (record { name = string_bytes aside; bytes = content.items }) (map entry_file held) → HoldsFiles (told_after first after) held' after
+      → map entry_file held' ≡ put_file (record { name = string_bytes aside; bytes = content.items }) (map entry_file held) → HoldsFiles (told_after first after) held' number
   after_write copy aside written content name bytes f n w a b is k =
       let file : StoreFile = record { name = aside_of (string_bytes copy); bytes = written.items } in
       let same : file ≡ record { name = string_bytes aside; bytes = content.items } = λ i. record { name = (ap aside_of n ∙ sym a) i; bytes = (w ∙ sym b) i } in
@@ -85,7 +83,7 @@ module _ (first : List MemFile) (held held' : List (String Global × Vec ℕ)) (
   rename_named name None files is a = a
   rename_named name (Some bytes) files is a = All-drop_file IsNamed (aside_of name) (put_file (record { name = name; bytes = bytes }) files) (All-put_file IsNamed (record { name = name; bytes = bytes }) files a is)
 
-  pub after_rename : (copy : String Global) (name : List ℕ) → after ≡ between ++ Rename copy true ∷ [] → string_bytes copy ≡ name → IsFileName name → map entry_file held' ≡ rename_file name (file_at (aside_of name) (map entry_file held)) (map entry_file held) → HoldsFiles (told_after first after) held' after
+  pub after_rename : (copy : String Global) (name : List ℕ) → after ≡ between ++ Rename copy true ∷ [] → string_bytes copy ≡ name → IsFileName name → map entry_file held' ≡ rename_file name (file_at (aside_of name) (map entry_file held)) (map entry_file held) → HoldsFiles (told_after first after) held' number
   after_rename copy name f n is k =
       let now = (told_after first entries).files in
       after_change (Rename copy true) (RenamedAside (string_bytes copy) true) (rename_file (string_bytes copy) (file_at (aside_of (string_bytes copy)) (told_after first entries).files) (told_after first entries).files) refl f
@@ -96,7 +94,7 @@ module _ (first : List MemFile) (held held' : List (String Global × Vec ℕ)) (
   unmoved name None files e = refl
   unmoved name (Some bytes) files e = cc
 
-  pub after_missing : (copy : String Global) (name : List ℕ) → after ≡ between ++ Rename copy false ∷ [] → (o : Option (List ℕ)) → is_some o ≡ false → map entry_file held' ≡ rename_file name o (map entry_file held) → HoldsFiles (told_after first after) held' after
+  pub after_missing : (copy : String Global) (name : List ℕ) → after ≡ between ++ Rename copy false ∷ [] → (o : Option (List ℕ)) → is_some o ≡ false → map entry_file held' ≡ rename_file name o (map entry_file held) → HoldsFiles (told_after first after) held' number
   after_missing copy name f o gone k =
       after_change (Rename copy false) (RenamedAside (string_bytes copy) false) (told_after first entries).files refl f
       (h.files ∙ sym (k ∙ unmoved name o (map entry_file held) gone)) h.names

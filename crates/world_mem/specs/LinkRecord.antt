@@ -10,6 +10,8 @@ use Rattle.world_mem.specs.declared.links.LinkEntry.TheVariants.{Wait, FailedWai
 pub record LinkState : Type 0 where
   -- how it begins, what comes and the calls so far
   pub told : LinkTold
+  -- how often a life was to begin
+  pub begins : ℕ
   -- the numbers of the waits and of the sends that fail, from 1
   pub failing_waits : List ℕ
   pub failing_sends : List ℕ

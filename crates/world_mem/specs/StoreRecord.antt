@@ -3,7 +3,9 @@ use Rattle.std.specs.Prelude.{ℕ, Bool, true, false, not, ◌≡◌, List, [], 
 use Rattle.std.specs.Global.{Global, Vec}
 use Rattle.std.specs.String.{string_bytes}
 use Rattle.world.specs.FileNames.{IsFileName, aside_of}
-use Rattle.world.specs.StoreCalls.{StoreFile, Found, Missing, Unread, StoreCall, ListedAsides, ReadFile, WroteAside, SyncedAside, RenamedAside, RemovedFile, SettledFiles, StoreTold, store_answered, asides, reading_of, file_at, put_file, drop_file, rename_file}
+use Rattle.world.specs.FileLists.{StoreFile, asides, file_at, put_file, drop_file, rename_file}
+use Rattle.world.specs.StoreFails.{StoreFails}
+use Rattle.world.specs.StoreCalls.{Found, Missing, Unread, StoreCall, ListedAsides, ReadFile, WroteAside, SyncedAside, RenamedAside, RemovedFile, SettledFiles, StoreTold, store_answered, store_holding, reading_of}
 use Rattle.world_mem.specs.declared.stores.MemFile.{MemFile}
 use Rattle.world_mem.specs.declared.stores.StoreEntry.{StoreEntry}
 use Rattle.world_mem.specs.declared.stores.StoreEntry.TheVariants.{List as Lists, Read, Write, Sync, Rename, Remove, Settle}
@@ -11,8 +13,8 @@ use Rattle.world_mem.specs.declared.stores.StoreEntry.TheVariants.{List as Lists
 pub record StoreState : Type 0 where
   -- the files and the calls so far
   pub told : StoreTold
-  -- the numbers of the calls that fail, from 1
-  pub failing : List ℕ
+  -- which calls fail
+  pub failing : StoreFails
 
 abbrev pub file_of : MemFile → StoreFile
 file_of file = record { name = string_bytes file.name; bytes = file.bytes.items }
@@ -44,7 +46,7 @@ store_step told (Settle done) = changed done (SettledFiles done) (λ files. file
 
 -- what is told before the first call
 abbrev pub store_start : List MemFile → StoreTold
-store_start files = record { files = in_name_order (map file_of files); calls = [] }
+store_start files = store_holding (in_name_order (map file_of files))
 
 -- what is told of a store that held these files first after the calls of a record
 abbrev pub told_after : List MemFile → List StoreEntry → StoreTold
@@ -66,8 +68,8 @@ store_failed (SettledFiles done) = not done
 abbrev pub entry_file : String Global × Vec ℕ → StoreFile
 entry_file entry = record { name = string_bytes entry.0; bytes = entry.1.items }
 
--- what is held is what is told, under names of files, and each call has its entry
-pub record HoldsFiles (told : StoreTold) (held : List (String Global × Vec ℕ)) (entries : List StoreEntry) : Type 0 where
+-- what is held is what is told, under names of files, and the calls are counted
+pub record HoldsFiles (told : StoreTold) (held : List (String Global × Vec ℕ)) (answered : ℕ) : Type 0 where
   pub files : told.files ≡ map entry_file held
   pub names : All (λ file. IsFileName file.name) told.files
-  pub counted : length told.calls ≡ length entries
+  pub counted : length told.calls ≡ answered

@@ -6,8 +6,9 @@ use Rattle.world.specs.declared.faults.DeviceAnswer.{DeviceAnswer}
 use Rattle.world.specs.declared.faults.DeviceAnswer.TheVariants as Answer
 
 pub record SourceState : Type 0 where
-  -- the bytes to come
+  -- the bytes to come, and how many were taken
   pub left : List ℕ
+  pub taken : ℕ
   -- the number of the next call, from 1; nothing past the range of numbers
   pub next : Option ℕ
   -- how many calls failed
@@ -41,7 +42,7 @@ FewFailed failed (Some number) = failed < number
 
 -- a read fails exactly where its number is told, and each is counted
 abbrev pub Counts : {T : Type 0} → SourceState → SourceState → Result T Failed → Type 0
-Counts old new (Ok x) = (call_fails old.next old.failing ≡ false) × (new ≡ record old { left = new.left; next = next_call old.next })
+Counts old new (Ok x) = (call_fails old.next old.failing ≡ false) × (new ≡ record old { left = new.left; taken = new.taken; next = next_call old.next })
 Counts old new (Err e) = (call_fails old.next old.failing ≡ true) × (new ≡ record old { next = next_call old.next; failed = old.failed + 1 })
 
 -- a write likewise; one that answers NoMemory is not counted, and writes nothing

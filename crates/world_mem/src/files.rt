@@ -1,6 +1,6 @@
 ghost use Rattle.std.specs.Prelude.{◌≡◌, map, IfErr, OnOk, OnErr, option_map};
 ghost use Rattle.std.specs.String.{string_bytes};
-ghost use Rattle.world.specs.StoreCalls.{put_file, drop_file, file_at};
+ghost use Rattle.world.specs.FileLists.{put_file, drop_file, file_at};
 ghost use Rattle.world_mem.specs.StoreRecord.{entry_file};
 
 use std::collections::BTreeMap;

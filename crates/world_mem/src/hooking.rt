@@ -2,7 +2,7 @@ ghost use Rattle.std.specs.Prelude.{◌≡◌, map, IfOk, IfErr};
 ghost use Rattle.world.specs.HookCalls.{job_of, variable_of};
 ghost use Rattle.world_mem.specs.HookRecord.{hooks_start};
 
-use crate::record::{Numbers, copy_text, enter, next_fails};
+use crate::record::{Numbers, copy_text, enter, make_room, next_number};
 use net_types::Failed;
 use std::alloc::Global;
 use std::marker::Model;
@@ -19,11 +19,12 @@ pub enum MemPoll {
     Failed,
 }
 
-/// A job that was to start, and whether it did.
+/// A call that hooks answered.
 #[derive(Drop)]
-pub(crate) struct HookEntry {
-    job: HookJob,
-    done: bool,
+pub(crate) enum HookEntry {
+    Start { job: HookJob, done: bool },
+    Poll { answer: MemPoll },
+    Abandon,
 }
 
 /// Hooks in memory: no script runs, and polls are answered as told.
@@ -33,37 +34,28 @@ pub struct MemHooks {
     polls: Vec<MemPoll>,
     /// The place of the next answer.
     next: usize,
-    /// How many polls came after the last answer. Each ended a child.
-    late: u64,
-    failed: u64,
-    abandoned: u64,
     running: bool,
-    starts: Vec<HookEntry>,
+    starts: u64,
+    calls: Vec<HookEntry>,
     fails: Numbers,
 }
 
 impl Model for MemHooks {
-    ghost use Rattle.std.specs.Prelude.{map, drop, length, ◌+◌};
-    ghost use Rattle.world_mem.specs.HookRecord.{HooksState, HoldsChildren, poll_of, call_of};
+    ghost use Rattle.std.specs.Prelude.{map, drop, length, vec_len};
+    ghost use Rattle.std.specs.Vec.{vec_capacity};
+    ghost use Rattle.world_mem.specs.HookRecord.{HooksState, HoldsCalls, poll_of, call_of};
 
     ghost Value = { HooksState };
 
     ghost view = { λ hooks. record {
-      told = record {
-        polls = map poll_of (drop hooks.next hooks.polls.items);
-        starts = length hooks.starts.items;
-        polled = hooks.next + hooks.late;
-        abandoned = hooks.abandoned;
-        calls = map call_of hooks.starts.items;
-      };
+      told = record { polls = map poll_of (drop hooks.next hooks.polls.items); calls = map call_of hooks.calls.items };
       running = hooks.running;
       failing = hooks.fails;
-      failed_polls = hooks.failed;
     } };
 
     ghost invariant = { λ hooks.
-        HoldsChildren hooks.next (length hooks.polls.items) hooks.failed hooks.late hooks.abandoned hooks.running
-        (length hooks.starts.items) };
+        HoldsCalls (map call_of hooks.calls.items) hooks.starts hooks.next (length hooks.polls.items) hooks.running
+        (vec_len hooks.calls) (vec_capacity hooks.calls) };
 }
 
 impl MemHooks {
@@ -75,11 +67,9 @@ impl MemHooks {
             alloc,
             polls,
             next: 0,
-            late: 0,
-            failed: 0,
-            abandoned: 0,
             running: false,
-            starts: Vec::new(alloc),
+            starts: 0,
+            calls: Vec::new(alloc),
             fails: Numbers::new(starts),
         }
     }
@@ -124,10 +114,10 @@ fn copy_job(alloc: Global, job: &HookJob) -> Result<HookJob, DeviceAnswer>
 }
 
 impl Hooks for MemHooks {
-    ghost use Rattle.std.specs.Prelude.{Some, count_by, ◌+◌};
-    ghost use Rattle.world_mem.specs.HookRecord.{start_failed};
+    ghost use Rattle.std.specs.Prelude.{Some, count_by};
+    ghost use Rattle.world_mem.specs.HookRecord.{hook_failed};
 
-    ghost faults = { λ hooks. count_by start_failed hooks.told.calls + hooks.failed_polls };
+    ghost faults = { λ hooks. count_by hook_failed hooks.told.calls };
 
     ghost running = { λ hooks. hooks.running };
 
@@ -136,53 +126,43 @@ impl Hooks for MemHooks {
     ghost failing = { λ hooks. Some hooks.failing };
 
     fn start(&mut self, job: &HookJob) -> Result<(), DeviceAnswer> {
-        let fails = next_fails(&mut self.starts, &self.fails)?;
+        let number = next_number(self.starts)?;
+        // Room for the start, for each poll that is to be answered, for one after them and for an abandoning: those take
+        // no memory.
+        make_room(&mut self.calls, self.polls.len() - self.next + 3)?;
         let copy = copy_job(self.alloc, job)?;
-        if fails {
-            enter(
-                &mut self.starts,
-                HookEntry {
-                    job: copy,
-                    done: false,
-                },
-            );
+        let done = !self.fails.has(number);
+        enter(&mut self.calls, HookEntry::Start { job: copy, done });
+        self.starts = number;
+        if !done {
             return Err(DeviceAnswer::Failed);
         }
-        enter(
-            &mut self.starts,
-            HookEntry {
-                job: copy,
-                done: true,
-            },
-        );
         self.running = true;
         Ok(())
     }
 
     fn poll(&mut self) -> Result<Poll, Failed> {
-        if self.next == self.polls.len() {
-            self.late += 1;
-            self.running = false;
-            return Ok(Poll::Ended(0));
-        }
-        let answer = self.polls[self.next];
-        self.next += 1;
+        let answer = match self.polls.get(self.next) {
+            Some(answer) => {
+                self.next += 1;
+                *answer
+            }
+            None => MemPoll::Ended(0),
+        };
+        enter(&mut self.calls, HookEntry::Poll { answer });
         match answer {
             MemPoll::Run => Ok(Poll::Running),
             MemPoll::Ended(status) => {
                 self.running = false;
                 Ok(Poll::Ended(status))
             }
-            MemPoll::Failed => {
-                self.failed += 1;
-                Err(Failed)
-            }
+            MemPoll::Failed => Err(Failed),
         }
     }
 
     fn abandon(&mut self) {
         if self.running {
-            self.abandoned += 1;
+            enter(&mut self.calls, HookEntry::Abandon);
             self.running = false;
         }
     }

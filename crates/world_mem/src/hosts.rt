@@ -3,7 +3,7 @@ ghost use Rattle.std.specs.BTreeSet.{IsOrdered};
 ghost use Rattle.world.specs.Rows.{IsRow};
 ghost use Rattle.world.specs.RowOrder.{in_row_order, row_cmp};
 
-use crate::record::{Numbers, enter, next_fails};
+use crate::record::{Numbers, accept, enter, next_fails, refuse};
 use std::alloc::Global;
 use std::collections::BTreeSet;
 use std::marker::Model;
@@ -85,8 +85,7 @@ impl Host for MemHost {
 
     fn list(&mut self, rows: &mut Vec<HostRow>) -> Result<(), DeviceAnswer> {
         if next_fails(&mut self.calls, &self.fails)? {
-            enter(&mut self.calls, HostEntry::List { done: false });
-            return Err(DeviceAnswer::Failed);
+            return refuse(&mut self.calls, HostEntry::List { done: false });
         }
         let Ok(()) = append_rows(&self.rows, rows) else {
             return Err(DeviceAnswer::NoMemory);
@@ -97,47 +96,43 @@ impl Host for MemHost {
 
     fn add(&mut self, row: &HostRow) -> Result<(), DeviceAnswer> {
         if next_fails(&mut self.calls, &self.fails)? {
-            enter(
+            return refuse(
                 &mut self.calls,
                 HostEntry::Add {
                     row: *row,
                     done: false,
                 },
             );
-            return Err(DeviceAnswer::Failed);
         }
         let Ok(_) = self.rows.insert(*row) else {
             return Err(DeviceAnswer::NoMemory);
         };
-        enter(
+        accept(
             &mut self.calls,
             HostEntry::Add {
                 row: *row,
                 done: true,
             },
-        );
-        Ok(())
+        )
     }
 
     fn remove(&mut self, row: &HostRow) -> Result<(), DeviceAnswer> {
         if next_fails(&mut self.calls, &self.fails)? {
-            enter(
+            return refuse(
                 &mut self.calls,
                 HostEntry::Remove {
                     row: *row,
                     done: false,
                 },
             );
-            return Err(DeviceAnswer::Failed);
         }
         self.rows.remove(row);
-        enter(
+        accept(
             &mut self.calls,
             HostEntry::Remove {
                 row: *row,
                 done: true,
             },
-        );
-        Ok(())
+        )
     }
 }

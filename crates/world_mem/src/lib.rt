@@ -2,6 +2,7 @@
 //! and keep a record of their calls.
 #![tactic(auto)]
 
+mod fails;
 mod files;
 mod hooking;
 mod hosts;

@@ -43,6 +43,8 @@ pub struct MemLink {
     next: usize,
     waits: u64,
     sends: u64,
+    /// How often it was asked to begin.
+    begins: u64,
     /// How many sends earlier lives made.
     earlier: u64,
     calls: Vec<LinkEntry>,
@@ -57,6 +59,7 @@ impl Model for MemLink {
 
     ghost view = { λ link. record {
       told = told_of (link_start link.begin link.wakes.items link.earlier) link.calls.items;
+      begins = link.begins;
       failing_waits = link.failing_waits;
       failing_sends = link.failing_sends;
     } };
@@ -77,7 +80,7 @@ impl MemLink {
         sends: Vec<u64>,
         waits: Vec<u64>,
     ) -> MemLink
-        ensures { result ≡ record { told = link_start begin wakes.items sent; failing_waits = waits.items; failing_sends = sends.items } }
+        ensures { result ≡ record { told = link_start begin wakes.items sent; begins = 0; failing_waits = waits.items; failing_sends = sends.items } }
     {
         MemLink {
             alloc,
@@ -86,6 +89,7 @@ impl MemLink {
             next: 0,
             waits: 0,
             sends: sent,
+            begins: 0,
             earlier: sent,
             calls: Vec::new(alloc),
             failing_sends: Numbers::new(sends),
@@ -134,6 +138,8 @@ impl Link for MemLink {
 
     ghost send_faults = { λ link. count_by send_failed link.told.calls };
 
+    ghost begins = { λ link. link.begins };
+
     ghost told = { λ link. Some link.told };
 
     ghost failing_waits = { λ link. Some link.failing_waits };
@@ -141,12 +147,13 @@ impl Link for MemLink {
     ghost failing_sends = { λ link. Some link.failing_sends };
 
     fn begin(&mut self) -> Result<Begin, Failed> {
+        self.begins = self.begins.saturating_add(1);
         Ok(self.begin)
     }
 
     fn wait(&mut self, until: Option<u64>, buf: &mut [u8]) -> Result<Wake, DeviceAnswer> {
         let number = next_number(self.waits)?;
-        make_room(&mut self.calls)?;
+        make_room(&mut self.calls, 1)?;
         if self.failing_waits.has(number) {
             enter(&mut self.calls, LinkEntry::FailedWait { until });
             self.waits = number;
@@ -170,7 +177,7 @@ impl Link for MemLink {
 
     fn send(&mut self, iface: IfIndex, frame: &[u8]) -> Result<(), DeviceAnswer> {
         let number = next_number(self.sends)?;
-        make_room(&mut self.calls)?;
+        make_room(&mut self.calls, 1)?;
         let copy = copy_bytes(self.alloc, frame)?;
         let fails = self.failing_sends.has(number);
         enter(

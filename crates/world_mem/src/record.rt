@@ -1,4 +1,4 @@
-ghost use Rattle.std.specs.Prelude.{◌≡◌, ◌+◌, ◌<◌, [], ◌∷◌, ◌++◌, length, take, min, IfOk, IfErr, OnOk, vec_len};
+ghost use Rattle.std.specs.Prelude.{◌≡◌, ◌+◌, ◌<◌, ◌≤◌, [], ◌∷◌, ◌++◌, length, take, min, IfOk, IfErr, IsOk, IsErrAnd, OnOk, vec_len};
 ghost use Rattle.std.specs.String.{string_bytes};
 ghost use Rattle.std.specs.Vec.{vec_capacity};
 ghost use Rattle.world.specs.Causes.{has_number};
@@ -7,13 +7,15 @@ use std::alloc::Global;
 use std::marker::Model;
 use world::DeviceAnswer;
 
-/// Makes room for one more entry in a device's record.
-pub(crate) fn make_room<E>(entries: &mut Vec<E>) -> Result<(), DeviceAnswer>
+/// Makes room for so many more entries in a device's record.
+pub(crate) fn make_room<E>(entries: &mut Vec<E>, more: usize) -> Result<(), DeviceAnswer>
     ensures items { entries.new.items ≡ entries.old.items }
-    ensures room { OnOk result (vec_len entries.new < vec_capacity entries.new) }
+    ensures len { vec_len entries.new ≡ vec_len entries.old }
+    ensures room { OnOk result (vec_len entries.new + more ≤ vec_capacity entries.new) }
+    ensures capacity { vec_capacity entries.old ≤ vec_capacity entries.new }
     ensures err { IfErr result (λ e. e ≡ DeviceAnswer.NoMemory) }
 {
-    match entries.reserve(1) {
+    match entries.reserve(more) {
         Ok(()) => Ok(()),
         Err(_) => Err(DeviceAnswer::NoMemory),
     }
@@ -63,7 +65,7 @@ pub(crate) fn next_fails<E>(entries: &mut Vec<E>, fails: &Numbers) -> Result<boo
     ensures fails { IfOk result (λ b. b ≡ has_number fails.now (length entries.old.items + 1)) }
     ensures err { IfErr result (λ e. e ≡ DeviceAnswer.NoMemory) }
 {
-    make_room(entries)?;
+    make_room(entries, 1)?;
     let number = entries.len() as u64 + 1;
     Ok(fails.has(number))
 }
@@ -71,9 +73,31 @@ pub(crate) fn next_fails<E>(entries: &mut Vec<E>, fails: &Numbers) -> Result<boo
 /// Enters a call for which there is room.
 pub(crate) fn enter<E: Drop>(entries: &mut Vec<E>, entry: E)
     requires { vec_len entries.old < vec_capacity entries.old }
-    ensures { entries.new.items ≡ entries.old.items ++ entry ∷ [] }
+    ensures items { entries.new.items ≡ entries.old.items ++ entry ∷ [] }
+    ensures len { vec_len entries.new ≡ vec_len entries.old + 1 }
+    ensures capacity { vec_capacity entries.old ≤ vec_capacity entries.new }
 {
     let _ = entries.push(entry);
+}
+
+/// Enters a call that was done, for which there is room, and answers so.
+pub(crate) fn accept<E: Drop>(entries: &mut Vec<E>, entry: E) -> Result<(), DeviceAnswer>
+    requires { vec_len entries.old < vec_capacity entries.old }
+    ensures entered { entries.new.items ≡ entries.old.items ++ entry ∷ [] }
+    ensures done { IsOk result }
+{
+    enter(entries, entry);
+    Ok(())
+}
+
+/// Enters a call that failed, for which there is room, and answers so.
+pub(crate) fn refuse<T, E: Drop>(entries: &mut Vec<E>, entry: E) -> Result<T, DeviceAnswer>
+    requires { vec_len entries.old < vec_capacity entries.old }
+    ensures entered { entries.new.items ≡ entries.old.items ++ entry ∷ [] }
+    ensures failed { IsErrAnd result (λ answer. answer ≡ DeviceAnswer.Failed) }
+{
+    enter(entries, entry);
+    Err(DeviceAnswer::Failed)
 }
 
 /// The number of the next call after so many. A count past its range is want of memory.

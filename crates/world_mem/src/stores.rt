@@ -1,13 +1,19 @@
-ghost use Rattle.std.specs.Prelude.{◌≡◌, [], ◌∷◌, ◌++◌, List, String, map, filter, All, IfOk, IfErr, OnOk, OnErr, is_some};
+ghost use Rattle.std.specs.Prelude.{◌≡◌, ◌+◌, ◌<◌, length, vec_len, [], ◌∷◌, ◌++◌, List, String, map, filter, All, IfOk, IfErr, OnOk, OnErr, is_some};
 ghost use Rattle.std.specs.Global.{Global as Heap};
 ghost use Rattle.std.specs.String.{string_bytes};
 ghost use Rattle.std.specs.BTreeMap.{keys};
+ghost use Rattle.std.specs.Vec.{vec_capacity};
+ghost use Rattle.world_mem.specs.Fuse.{first_stopped};
 ghost use Rattle.world.specs.FileNames.{IsFileName, aside_of};
-ghost use Rattle.world.specs.StoreCalls.{is_aside, file_at, put_file, rename_file, Appended};
+ghost use Rattle.world.specs.FileLists.{is_aside, file_at, put_file, rename_file};
+ghost use Rattle.world.specs.StoreCalls.{Appended};
 ghost use Rattle.world_mem.specs.StoreRecord.{store_start, entry_file, file_of};
 
+use crate::fails::Fails;
 use crate::files::{Files, bytes_of, put, take_out};
-use crate::record::{Numbers, copy_bytes, copy_text, enter, next_fails};
+use crate::record::{
+    Numbers, accept, copy_bytes, copy_text, enter, make_room, next_number, refuse,
+};
 use std::alloc::Global;
 use std::collections::BTreeMap;
 use std::marker::Model;
@@ -62,7 +68,9 @@ pub struct MemStore {
     first: Vec<MemFile>,
     files: Files,
     calls: Vec<StoreEntry>,
-    fails: Numbers,
+    /// How many calls were answered.
+    answered: u64,
+    fails: Fails,
 }
 
 impl Model for MemStore {
@@ -72,14 +80,14 @@ impl Model for MemStore {
 
     ghost view = { λ store. record { told = told_after store.first.items store.calls.items; failing = store.fails } };
 
-    ghost invariant = { λ store. HoldsFiles (told_after store.first.items store.calls.items) store.files.entries store.calls.items };
+    ghost invariant = { λ store. HoldsFiles (told_after store.first.items store.calls.items) store.files.entries store.answered };
 }
 
 impl MemStore {
     /// A store that holds the files at first, and fails at the calls with these numbers, from 1.
     pub fn new(alloc: Global, files: Vec<MemFile>, fails: Vec<u64>) -> Result<MemStore, NoMemory>
         requires { All (λ file. IsFileName (string_bytes file.name)) files.items }
-        ensures { IfOk result (λ store. store ≡ record { told = store_start files.items; failing = fails.items }) }
+        ensures { IfOk result (λ store. store ≡ record { told = store_start files.items; failing = record { numbers = fails.items; from = None } }) }
     {
         let mut held = BTreeMap::new(alloc);
         for file in &files {
@@ -92,9 +100,30 @@ impl MemStore {
             first: files,
             files: held,
             calls: Vec::new(alloc),
-            fails: Numbers::new(fails),
+            answered: 0,
+            fails: Fails::new(Numbers::new(fails)),
         })
     }
+}
+
+impl MemStore {
+    /// A fuse passes so many more calls, and fails each call after them; `None` takes it out.
+    pub fn set_fuse(&mut self, calls: Option<u64>)
+        ensures { self.new ≡ record self.old { failing = record self.old.failing { from = first_stopped (length self.old.told.calls) calls } } }
+    {
+        self.fails.set_fuse(self.answered, calls);
+    }
+}
+
+/// The number of the next call, for which room is made in the record.
+fn next_call(answered: u64, calls: &mut Vec<StoreEntry>) -> Result<u64, DeviceAnswer>
+    ensures items { calls.new.items ≡ calls.old.items }
+    ensures room { OnOk result (vec_len calls.new < vec_capacity calls.new) }
+    ensures number { IfOk result (λ number. number ≡ answered + 1) }
+    ensures err { IfErr result (λ e. e ≡ DeviceAnswer.NoMemory) }
+{
+    make_room(calls, 1)?;
+    next_number(answered)
 }
 
 /// Puts a copy of a file at its place.
@@ -201,29 +230,32 @@ impl Store for MemStore {
     ghost failing = { λ store. Some store.failing };
 
     fn list_asides(&mut self, names: &mut Vec<String>) -> Result<(), DeviceAnswer> {
-        if next_fails(&mut self.calls, &self.fails)? {
-            enter(&mut self.calls, StoreEntry::List { done: false });
-            return Err(DeviceAnswer::Failed);
+        let number = next_call(self.answered, &mut self.calls)?;
+        if self.fails.has(number) {
+            self.answered = number;
+            return refuse(&mut self.calls, StoreEntry::List { done: false });
         }
         append_asides(self.alloc, &self.files, names)?;
+        self.answered = number;
         enter(&mut self.calls, StoreEntry::List { done: true });
         Ok(())
     }
 
     fn read_file(&mut self, name: &str, into: &mut Vec<u8>) -> Result<bool, DeviceAnswer> {
-        let fails = next_fails(&mut self.calls, &self.fails)?;
+        let number = next_call(self.answered, &mut self.calls)?;
         let copy = copy_text(self.alloc, name)?;
-        if fails {
-            enter(
+        if self.fails.has(number) {
+            self.answered = number;
+            return refuse(
                 &mut self.calls,
                 StoreEntry::Read {
                     name: copy,
                     done: false,
                 },
             );
-            return Err(DeviceAnswer::Failed);
         }
         let found = append_file(&self.files, name, into)?;
+        self.answered = number;
         enter(
             &mut self.calls,
             StoreEntry::Read {
@@ -235,11 +267,12 @@ impl Store for MemStore {
     }
 
     fn write_aside(&mut self, name: &str, bytes: &[u8]) -> Result<(), DeviceAnswer> {
-        let fails = next_fails(&mut self.calls, &self.fails)?;
+        let number = next_call(self.answered, &mut self.calls)?;
         let copy = copy_text(self.alloc, name)?;
         let written = copy_bytes(self.alloc, bytes)?;
-        if fails {
-            enter(
+        if self.fails.has(number) {
+            self.answered = number;
+            return refuse(
                 &mut self.calls,
                 StoreEntry::Write {
                     name: copy,
@@ -247,109 +280,105 @@ impl Store for MemStore {
                     done: false,
                 },
             );
-            return Err(DeviceAnswer::Failed);
         }
         let aside = aside_name(self.alloc, name)?;
         let content = copy_bytes(self.alloc, bytes)?;
         put(&mut self.files, aside, content)?;
-        enter(
+        self.answered = number;
+        accept(
             &mut self.calls,
             StoreEntry::Write {
                 name: copy,
                 bytes: written,
                 done: true,
             },
-        );
-        Ok(())
+        )
     }
 
     fn sync_aside(&mut self, name: &str) -> Result<(), DeviceAnswer> {
-        let fails = next_fails(&mut self.calls, &self.fails)?;
+        let number = next_call(self.answered, &mut self.calls)?;
         let copy = copy_text(self.alloc, name)?;
-        if fails {
-            enter(
+        self.answered = number;
+        if self.fails.has(number) {
+            return refuse(
                 &mut self.calls,
                 StoreEntry::Sync {
                     name: copy,
                     done: false,
                 },
             );
-            return Err(DeviceAnswer::Failed);
         }
-        enter(
+        accept(
             &mut self.calls,
             StoreEntry::Sync {
                 name: copy,
                 done: true,
             },
-        );
-        Ok(())
+        )
     }
 
     fn rename_aside(&mut self, name: &str) -> Result<(), DeviceAnswer> {
-        let fails = next_fails(&mut self.calls, &self.fails)?;
+        let number = next_call(self.answered, &mut self.calls)?;
         let copy = copy_text(self.alloc, name)?;
-        if fails {
-            enter(
+        if self.fails.has(number) {
+            self.answered = number;
+            return refuse(
                 &mut self.calls,
                 StoreEntry::Rename {
                     name: copy,
                     done: false,
                 },
             );
-            return Err(DeviceAnswer::Failed);
         }
         let there = rename(self.alloc, &mut self.files, name)?;
+        self.answered = number;
         if !there {
-            enter(
+            return refuse(
                 &mut self.calls,
                 StoreEntry::Rename {
                     name: copy,
                     done: false,
                 },
             );
-            return Err(DeviceAnswer::Failed);
         }
-        enter(
+        accept(
             &mut self.calls,
             StoreEntry::Rename {
                 name: copy,
                 done: true,
             },
-        );
-        Ok(())
+        )
     }
 
     fn remove(&mut self, name: &str) -> Result<(), DeviceAnswer> {
-        let fails = next_fails(&mut self.calls, &self.fails)?;
+        let number = next_call(self.answered, &mut self.calls)?;
         let copy = copy_text(self.alloc, name)?;
-        if fails {
-            enter(
+        self.answered = number;
+        if self.fails.has(number) {
+            return refuse(
                 &mut self.calls,
                 StoreEntry::Remove {
                     name: copy,
                     done: false,
                 },
             );
-            return Err(DeviceAnswer::Failed);
         }
         take_out(&mut self.files, name);
-        enter(
+        accept(
             &mut self.calls,
             StoreEntry::Remove {
                 name: copy,
                 done: true,
             },
-        );
-        Ok(())
+        )
     }
 
     fn settle(&mut self) -> Result<(), DeviceAnswer> {
-        if next_fails(&mut self.calls, &self.fails)? {
-            enter(&mut self.calls, StoreEntry::Settle { done: false });
-            return Err(DeviceAnswer::Failed);
+        let number = next_call(self.answered, &mut self.calls)?;
+        self.answered = number;
+        if self.fails.has(number) {
+            return refuse(&mut self.calls, StoreEntry::Settle { done: false });
         }
-        enter(&mut self.calls, StoreEntry::Settle { done: true });
-        Ok(())
+        accept(&mut self.calls, StoreEntry::Settle { done: true })
     }
 }

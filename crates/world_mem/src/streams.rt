@@ -1,6 +1,6 @@
 ghost use Rattle.std.specs.Prelude.{◌≡◌, ◌≤◌, [], Some, length, IfOk};
 ghost use Rattle.world.specs.Causes.{HasCause, HasDeviceCause};
-ghost use Rattle.world.specs.Streams.{Reads, Writes, count_after};
+ghost use Rattle.world.specs.Streams.{Reads, Writes, count_after, taken_after};
 ghost use Rattle.world_mem.specs.StreamRecord.{SourceState, SinkState, call_fails, next_call, calls_before, Counts, CountsWrite};
 
 use crate::record::{Numbers, fill_front};
@@ -46,7 +46,7 @@ impl Model for MemSource {
 
     ghost Value = { SourceState };
 
-    ghost view = { λ source. record { left = drop source.at source.bytes.items; next = source.next; failed = source.failed; failing = source.fails } };
+    ghost view = { λ source. record { left = drop source.at source.bytes.items; taken = source.at; next = source.next; failed = source.failed; failing = source.fails } };
 
     ghost invariant = { λ source. (source.at ≤ length source.bytes.items) × FewFailed source.failed source.next };
 }
@@ -54,7 +54,7 @@ impl Model for MemSource {
 impl MemSource {
     /// Input of these bytes, that fails at the calls with these numbers, from 1.
     pub fn new(_alloc: Global, bytes: Vec<u8>, fails: Vec<u64>) -> MemSource
-        ensures { result ≡ record { left = bytes.items; next = Some 1; failed = 0; failing = fails.items } }
+        ensures { result ≡ record { left = bytes.items; taken = 0; next = Some 1; failed = 0; failing = fails.items } }
     {
         MemSource {
             bytes,
@@ -71,6 +71,8 @@ impl Source for MemSource {
 
     ghost reads = { λ source. calls_before source.next };
 
+    ghost taken = { λ source. source.taken };
+
     ghost left = { λ source. Some source.left };
 
     /// Fails exactly at the calls that it is told.
@@ -78,6 +80,7 @@ impl Source for MemSource {
     fn read(&mut self, buf: &mut [u8]) -> Result<usize, Failed>
         ensures cause { HasCause self.old.failed self.new.failed result }
         ensures counted { calls_before self.new.next ≡ count_after (calls_before self.old.next) }
+        ensures taken { self.new.taken ≡ taken_after self.old.taken result }
         ensures room { IfOk result (λ n. n ≤ length buf.new) }
         ensures told { Reads (Some self.old.left) (Some self.new.left) buf.new result }
         ensures counts { Counts self.old self.new result }

@@ -99,7 +99,10 @@ fn a_store_puts_an_aside_in_its_place(rt: HostRuntime) -> Result<(), Fail> {
     let mut bytes = Vec::new(rt.alloc());
     assert_eq!(rt; store.read_file("b", &mut bytes), Ok(true));
     assert_eq!(rt; bytes.as_slice(), [1, 2].as_slice());
+    store.set_fuse(Some(1));
     assert_eq!(rt; store.remove("b"), Ok(()));
+    assert_eq!(rt; store.read_file("b", &mut bytes), Err(DeviceAnswer::Failed));
+    store.set_fuse(None);
     assert_eq!(rt; store.read_file("b", &mut bytes), Ok(false));
     Ok(())
 }

@@ -1,7 +1,8 @@
-use Rattle.std.proofs.Common.{◌≡◌, take}
-use Rattle.std.specs.Prelude.{map}
+use Rattle.std.proofs.Common.{take}
 use Rattle.client_model.specs.Interfaces.{opened}
+use Rattle.iface_core.specs.Outcomes.{asked_in}
+use Rattle.client_core.specs.Stepping.{GoAll}
 use Rattle.client_core.proofs.clients.opened_ifaces.Given as goal
 
 abbrev pub invariant-loop-m : goal.invariant-loop-m
-invariant-loop-m l = l.ifaces.items ≡ map (opened l.begin.up l.at) (take l.m-index l.managed)
+invariant-loop-m l = GoAll (opened l.begin.up l.at) (take l.m-index l.managed) l.ifaces.items (asked_in l.initial.outs) (asked_in l.outs)

@@ -1,18 +1,12 @@
-use Rattle.std.proofs.Common.{◌≡◌, ap, sym, ◌∙◌}
-use Rattle.client_model.specs.declared.interfaces.Iface.{Iface}
+use Rattle.std.proofs.Common.{◌∙◌}
 use Rattle.iface_core.specs.Inputs.{turn_of}
-use Rattle.iface_core.proofs.Staying.{turn_stays}
-use Rattle.client_core.proofs.SameRows.{same_rows, bool_same, address_same}
+use Rattle.iface_core.specs.Outcomes.{asked_in}
+use Rattle.client_core.proofs.SameRows.{unchanged, no_more}
 use Rattle.client_core.proofs.turning.turn_iface.Goals as goal
 
-pub returns-else-has_static-had_static-clause-same :
-    goal.returns-else-has_static-had_static-clause-same
-returns-else-has_static-had_static-clause-same c =
-    let managed : c.iface_turn.new.f.managed ≡ c.args.f.now.managed =
-    ap (λ (f : Iface). f.managed) c.in_ok-iface_turn.ensures.goes_on ∙ (turn_stays c.args.own.now (turn_of c.args.turn.now) c.args.f.now).managed in
-    let static : c.has_static.result ≡ c.has_static-had_static.result = bool_same c.has_static.result c.has_static-had_static.result c.if-has_static-had_static.false in
-    λ (unchanged : _).
-    let held : c.iface_held.result ≡ c.iface_held-held.result = address_same c.is_same.result c.iface_held.result c.iface_held-held.result c.is_same.ensures unchanged in
-    same_rows c.args.f.now c.iface_turn.new.f managed
-    (sym c.has_static.ensures ∙ static ∙ c.has_static-had_static.ensures)
-    (sym c.iface_held.ensures ∙ held ∙ c.iface_held-held.ensures)
+pub returns-clause-same : goal.returns-clause-same
+returns-clause-same c =
+    λ (few : _).
+    unchanged c.args.own.now (turn_of c.args.turn.now) c.args.iface.now c.iface_turn.new.iface (asked_in c.args.outs.now) (asked_in c.iface_turn.new.outs)
+    c.in_ok-iface_turn.ensures
+    (no_more c.len-told.result c.len.result _ _ (c.len-told.ensures ∙ c.args.outs.now.news.ok.0) (c.len.ensures ∙ c.iface_turn.new.outs.news.ok.0) few)

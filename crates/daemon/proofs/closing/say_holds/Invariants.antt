@@ -1,6 +1,6 @@
 use Rattle.std.proofs.Common.{take}
-use Rattle.client_model.specs.Lives.{hold_lines}
-use Rattle.daemon.specs.Printing.{Prints}
+use Rattle.turn_model.specs.Lives.{hold_lines}
+use Rattle.device_calls.specs.Printing.{Prints}
 use Rattle.daemon.proofs.closing.say_holds.Given as goal
 
 abbrev pub invariant-loop-row : goal.invariant-loop-row

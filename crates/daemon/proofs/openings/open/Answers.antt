@@ -1,25 +1,24 @@
-use Rattle.std.proofs.Common.{refl, ap, ◌∙◌, [], ◌∷◌}
-use Rattle.lease_file.specs.FileReads.{got_reading}
-use Rattle.client_model.specs.Turns.{until}
-use Rattle.daemon.specs.HostTurns.{met_of, keys_of}
-use Rattle.daemon.specs.Openings.{asides_of, settled_of}
-use Rattle.daemon.proofs.OpeningsMade.{opening_met, after_is, opens_is, asked_is, told_is, opening_prints}
+use Rattle.std.proofs.Common.{List, None, subst}
+use Rattle.std.specs.Prelude.{map}
+use Rattle.std.specs.String.{string_bytes}
+use Rattle.net_types.specs.declared.interface.IfSpec.{IfSpec}
+use Rattle.world.specs.declared.rows.HostRow.{HostRow}
+use Rattle.client_model.specs.Clients.{opening}
+use Rattle.iface_core.specs.declared.outs.Sending.{Sending}
+use Rattle.iface_core.specs.Outcomes.{asked_in, sending_of}
+use Rattle.client_core.specs.Stepping.{Steps}
+use Rattle.device_calls.specs.Does.{Does}
+use Rattle.turn_model.specs.Turns.{hosting, offering}
+use Rattle.daemon.specs.Lives.{keys_of, file_of}
+use Rattle.daemon.proofs.TurnSteps.{opening_made}
 use Rattle.daemon.proofs.openings.open.Goals as goal
 
 pub returns-clause-made : goal.returns-clause-made
 returns-clause-made g c =
-    let after = after_is c.args.managed.now c.args.begin (asides_of c.in_ok-asides.asides) (settled_of c.in_ok-asides.asides) (got_reading c.in_ok-got.got) c.in_ok-asked.asked c.in_ok-core.core c.rows.result.now.keys c.in_ok-core.ensures c.rows.ensures.rows (keys_of c.in_ok-asked.known) c.cut.result c.in_ok-asked.ensures.known c.cut.ensures.value in
-    record {
-      met = opening_met c.args.begin (asides_of c.in_ok-asides.asides) (settled_of c.in_ok-asides.asides) (got_reading c.in_ok-got.got) (met_of c.in_ok-asked.asked);
-      begins = refl;
-      after = after;
-      opens = opens_is c.args.managed.now c.args.begin (asides_of c.in_ok-asides.asides) (settled_of c.in_ok-asides.asides) (got_reading c.in_ok-got.got) c.in_ok-asked.asked c.in_ok-core.core c.rows.result.now.keys c.in_ok-core.ensures c.rows.ensures.rows c.in_ok-asides.ensures.settled c.in_ok-asked.ensures.turn.answers;
-      asked = asked_is c.args.managed.now c.args.begin (asides_of c.in_ok-asides.asides) (settled_of c.in_ok-asides.asides) (got_reading c.in_ok-got.got) c.in_ok-asked.asked c.in_ok-core.core c.rows.result.now.keys c.in_ok-core.ensures c.rows.ensures.rows _ _ c.in_ok-asked.ensures.asked c.in_ok-asked.ensures.turn.calls;
-      told = told_is c.args.managed.now c.args.begin (asides_of c.in_ok-asides.asides) (settled_of c.in_ok-asides.asides) (got_reading c.in_ok-got.got) c.in_ok-asked.asked c.in_ok-core.core c.rows.result.now.keys c.in_ok-core.ensures c.rows.ensures.rows _ _ _ c.in_ok-asked.ensures.told;
-      quiet = λ q. let nothing = c.in_ok-asides.ensures.quiet q in record {
-        asides = nothing.0.listed;
-        settled = nothing.0.settled;
-        readings = ap (λ got. got_reading got ∷ []) (c.in_ok-got.ensures.quiet nothing.1).0;
-      };
-      lines = opening_prints c.args.managed.now c.args.begin (asides_of c.in_ok-asides.asides) (settled_of c.in_ok-asides.asides) (got_reading c.in_ok-got.got) c.in_ok-asked.asked c.in_ok-core.core c.rows.result.now.keys c.in_ok-core.ensures c.rows.ensures.rows _ _ _ _ _ _ _ c.in_ok-say.ensures c.in_ok-say_asides.ensures c.in_ok-say_read.ensures c.in_ok-say_host_turn.ensures c.in_ok-asked.ensures.turn.calls c.in_ok-say-2.ensures (c.until.ensures ∙ ap until after);
-    }
+    opening_made c.args.managed.now c.args.begin (map string_bytes c.in_ok-names.names.items) c.in_ok-core.core (asked_in c.in_ok-core.outs) c.cut.result c.in_ok-unsent.unsent (keys_of c.in_ok-known.known) c.until.result (map file_of c.in_ok-_files._files.items) c.in_ok-clear.field-0
+    _ _ _ _ _ _ _ _ _ _ _ _
+    c.in_ok-names.ensures.names c.in_ok-core.ensures.steps c.cut.ensures.value
+    c.in_ok-say.ensures c.in_ok-clear.ensures.does c.in_ok-_files.ensures.does
+    (subst (λ (slice : List Sending). Does (offering (map sending_of slice) 0) c.in_ok-unsent.unsent (g.W.Outside.seen c.read_all.new.outside) (g.W.Outside.seen c.offer_all.new.outside) c.read_all.new.text.items c.offer_all.new.text.items) c.deref.ensures.value c.in_ok-unsent.ensures.does)
+    (subst (λ (rows : List HostRow). Does (hosting c.args.managed.now rows None) (keys_of c.in_ok-known.known) (g.W.Outside.seen c.offer_all.new.outside) (g.W.Outside.seen c.host_turn.new.outside) c.offer_all.new.text.items c.host_turn.new.text.items) c.rows.ensures.rows c.in_ok-known.ensures.does)
+    c.in_ok-say-2.ensures c.until.ensures

@@ -1,53 +1,48 @@
 use Rattle.std.proofs.Common.{refl, arith, ◌∙◌}
 use Rattle.daemon.specs.Lives.{life_of}
-use Rattle.daemon.specs.Serving.{failing_of}
-use Rattle.daemon.proofs.Wakings.{same_failing, takes_none, takes_more, takes_last}
 use Rattle.daemon.specs.declared.serving.ServeEnd.TheVariants as ends
 use Rattle.daemon.specs.Cuts.{BreaksOff}
 use Rattle.daemon.proofs.Causes.{error_is}
-use Rattle.daemon.proofs.CutOffs.{breaks_for_memory, takes_breaks, takes_over}
+use Rattle.daemon.proofs.CutOffs.{breaks_for_memory}
+use Rattle.daemon.proofs.Wakings.{takes_none, takes_more, takes_last, takes_breaks, takes_over}
 use Rattle.daemon.proofs.serving.take_turns.Goals as goal
 
 pub wakes-init : goal.wakes-init
 wakes-init g c = record {
-  turns = takes_none c.args.managed.now (failing_of (g.L.Link.failing_sends c.args.live.now.link) (g.H.Host.failing c.args.live.now.host)) (life_of c.args.life) (g.H.Host.told c.args.live.now.host) (g.L.Link.told c.args.live.now.link) (g.O.Sink.written c.args.out.now);
+  turns = takes_none c.args.managed.now (life_of c.args.life) (g.W.Outside.seen c.args.outside.now) (g.O.Sink.written c.args.out.now);
   timely = c.requires.timely;
   going = c.requires.going;
   out = omega arith;
   link = omega arith;
-  sends = refl;
   waits = refl;
-  failing = refl;
 }
 
 pub wakes-preserved : goal.wakes-preserved
 wakes-preserved g c =
     let woken = rw c.in-On.is at c.in_ok-last.ensures.ok in
     record {
-      turns = takes_more c.args.managed.now (failing_of (g.L.Link.failing_sends c.args.live.now.link) (g.H.Host.failing c.args.live.now.host)) (failing_of (g.L.Link.failing_sends c.wakes.live.link) (g.H.Host.failing c.wakes.live.host)) (life_of c.args.life) (life_of c.wakes.life) (life_of c.in-On.next) (g.H.Host.told c.args.live.now.host) (g.H.Host.told c.wakes.live.host) _ (g.L.Link.told c.args.live.now.link) (g.L.Link.told c.wakes.live.link) _ (g.O.Sink.written c.args.out.now) (g.O.Sink.written c.wakes.out) _ c.wakes.counter (same_failing c.wakes.invariant.sends c.wakes.invariant.failing) c.wakes.invariant.turns woken.1;
+      turns = takes_more c.args.managed.now (life_of c.args.life) (life_of c.wakes.life) (life_of c.in-On.next) (g.W.Outside.seen c.args.outside.now) (g.W.Outside.seen c.wakes.outside) _ (g.O.Sink.written c.args.out.now) (g.O.Sink.written c.wakes.out) _ c.wakes.counter c.wakes.invariant.turns woken.1;
       timely = woken.0;
       going = woken.1.going;
       out = omega (arith, c.wakes.invariant.out, c.in_ok-last.ensures.later.0);
       link = omega (arith, c.wakes.invariant.link, c.in_ok-last.ensures.later.1);
-      waits = c.in_ok-last.ensures.failing.0 ∙ c.wakes.invariant.waits;
-      sends = c.in_ok-last.ensures.failing.1 ∙ c.wakes.invariant.sends;
-      failing = c.in_ok-last.ensures.failing.2 ∙ c.wakes.invariant.failing;
+      waits = c.in_ok-last.ensures.failing ∙ c.wakes.invariant.waits;
     }
 
 pub returns-in-Over-clause-ok : goal.returns-in-Over-clause-ok
 returns-in-Over-clause-ok g c =
     let woken = rw c.in-Over.is at c.in_ok-last.ensures.ok in
-    takes_last c.args.managed.now (failing_of (g.L.Link.failing_sends c.args.live.now.link) (g.H.Host.failing c.args.live.now.host)) (failing_of (g.L.Link.failing_sends c.wakes.live.link) (g.H.Host.failing c.wakes.live.host)) (life_of c.args.life) (life_of c.wakes.life) (life_of c.in-Over.last) (g.H.Host.told c.args.live.now.host) (g.H.Host.told c.wakes.live.host) _ (g.L.Link.told c.args.live.now.link) (g.L.Link.told c.wakes.live.link) _ (g.O.Sink.written c.args.out.now) (g.O.Sink.written c.wakes.out) _ c.wakes.counter (same_failing c.wakes.invariant.sends c.wakes.invariant.failing) c.wakes.invariant.turns woken
+    takes_last c.args.managed.now (life_of c.args.life) (life_of c.wakes.life) (life_of c.in-Over.last) (g.W.Outside.seen c.args.outside.now) (g.W.Outside.seen c.wakes.outside) _ (g.O.Sink.written c.args.out.now) (g.O.Sink.written c.wakes.out) _ c.wakes.counter c.wakes.invariant.turns woken
 
 pub returns-in_err-buf-clause-cut : goal.returns-in_err-buf-clause-cut
 returns-in_err-buf-clause-cut g c =
-    error_is c.from_residual.result ends.NoMemory (λ end. BreaksOff end c.args.managed.now (failing_of (g.L.Link.failing_sends c.args.live.now.link) (g.H.Host.failing c.args.live.now.host)) (life_of c.args.life) (g.H.Host.told c.args.live.now.host) (g.L.Link.told c.args.live.now.link) (g.O.Sink.written c.args.out.now) (g.O.Sink.written c.args.out.now)) c.from_residual.ensures.1
-    (breaks_for_memory ends.NoMemory c.args.managed.now (failing_of (g.L.Link.failing_sends c.args.live.now.link) (g.H.Host.failing c.args.live.now.host)) (life_of c.args.life) (g.H.Host.told c.args.live.now.host) (g.L.Link.told c.args.live.now.link) (g.O.Sink.written c.args.out.now) refl)
+    error_is c.from_residual.result ends.NoMemory (λ end. BreaksOff end c.args.managed.now (life_of c.args.life) (g.W.Outside.seen c.args.outside.now) (g.W.Outside.seen c.args.outside.now) (g.O.Sink.written c.args.out.now) (g.O.Sink.written c.args.out.now)) c.from_residual.ensures.1
+    (breaks_for_memory c.args.managed.now (life_of c.args.life) (g.W.Outside.seen c.args.outside.now) (g.W.Outside.seen c.args.outside.now) (g.O.Sink.written c.args.out.now))
 
 pub returns-in_err-last-clause-cut : goal.returns-in_err-last-clause-cut
 returns-in_err-last-clause-cut g c =
-    error_is c.from_residual-in_err-last.result c.in_err-last.field-0.0 (λ end. BreaksOff end c.args.managed.now (failing_of (g.L.Link.failing_sends c.args.live.now.link) (g.H.Host.failing c.args.live.now.host)) (life_of c.args.life) (g.H.Host.told c.args.live.now.host) (g.L.Link.told c.args.live.now.link) (g.O.Sink.written c.args.out.now) (g.O.Sink.written c.one_turn.new.out)) c.from_residual-in_err-last.ensures.1
-    (takes_breaks c.in_err-last.field-0.0 c.args.managed.now (failing_of (g.L.Link.failing_sends c.args.live.now.link) (g.H.Host.failing c.args.live.now.host)) (failing_of (g.L.Link.failing_sends c.wakes.live.link) (g.H.Host.failing c.wakes.live.host)) (life_of c.args.life) (life_of c.wakes.life) (g.H.Host.told c.args.live.now.host) (g.H.Host.told c.wakes.live.host) (g.L.Link.told c.args.live.now.link) (g.L.Link.told c.wakes.live.link) (g.O.Sink.written c.args.out.now) (g.O.Sink.written c.wakes.out) (g.O.Sink.written c.one_turn.new.out) c.wakes.counter (same_failing c.wakes.invariant.sends c.wakes.invariant.failing) c.wakes.invariant.turns c.in_err-last.ensures.cut)
+    error_is c.from_residual-in_err-last.result c.in_err-last.field-0.0 (λ end. BreaksOff end c.args.managed.now (life_of c.args.life) (g.W.Outside.seen c.args.outside.now) (g.W.Outside.seen c.one_turn.new.outside) (g.O.Sink.written c.args.out.now) (g.O.Sink.written c.one_turn.new.out)) c.from_residual-in_err-last.ensures.1
+    (takes_breaks c.in_err-last.field-0.0 c.args.managed.now (life_of c.args.life) (life_of c.wakes.life) (g.W.Outside.seen c.args.outside.now) (g.W.Outside.seen c.wakes.outside) (g.W.Outside.seen c.one_turn.new.outside) (g.O.Sink.written c.args.out.now) (g.O.Sink.written c.wakes.out) (g.O.Sink.written c.one_turn.new.out) c.wakes.counter c.wakes.invariant.turns c.in_err-last.ensures.cut)
 
 pub returns-clause-cut : goal.returns-clause-cut
-returns-clause-cut g c = takes_over c.args.managed.now (failing_of (g.L.Link.failing_sends c.args.live.now.link) (g.H.Host.failing c.args.live.now.host)) (life_of c.args.life) (life_of c.wakes.life) (g.H.Host.told c.args.live.now.host) (g.H.Host.told c.wakes.live.host) (g.L.Link.told c.args.live.now.link) (g.L.Link.told c.wakes.live.link) (g.O.Sink.written c.args.out.now) (g.O.Sink.written c.wakes.out) c.wakes.counter c.wakes.invariant.turns
+returns-clause-cut g c = takes_over c.args.managed.now (life_of c.args.life) (life_of c.wakes.life) (g.W.Outside.seen c.args.outside.now) (g.W.Outside.seen c.wakes.outside) (g.O.Sink.written c.args.out.now) (g.O.Sink.written c.wakes.out) c.wakes.counter c.wakes.invariant.going c.wakes.invariant.turns

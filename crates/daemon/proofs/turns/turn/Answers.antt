@@ -1,35 +1,25 @@
-use Rattle.std.proofs.Common.{ℕ, ◌≡◌, List, ap, ◌∙◌}
-use Rattle.world.specs.declared.wakes.Event.{Event}
-use Rattle.client_model.specs.Interfaces.{TurnInput}
-use Rattle.client_model.specs.Turns.{until, input_of}
+use Rattle.std.proofs.Common.{◌≡◌, List, subst}
+use Rattle.std.specs.Prelude.{map}
+use Rattle.world.specs.declared.rows.HostRow.{HostRow}
+use Rattle.iface_core.specs.declared.outs.Sending.{Sending}
 use Rattle.iface_core.specs.Inputs.{event_of, bytes_of}
-use Rattle.iface_core.specs.Outcomes.{sends_in}
-use Rattle.daemon.specs.HostTurns.{keys_of, met_of}
-use Rattle.daemon.specs.Lives.{life_of}
-use Rattle.daemon.specs.Sends.{taken_of}
-use Rattle.daemon.proofs.TurnSteps.{turned_is, offers_are, answers_are, asked_is, told_is, turn_prints}
+use Rattle.iface_core.specs.Outcomes.{asked_in, sending_of}
+use Rattle.client_model.specs.IfaceTurns.{Turn}
+use Rattle.device_calls.specs.Does.{Does}
+use Rattle.turn_model.specs.Turns.{input_of, hosting, offering}
+use Rattle.daemon.specs.Lives.{keys_of, life_of}
+use Rattle.daemon.proofs.TurnSteps.{turn_made}
 use Rattle.daemon.proofs.turns.turn.Goals as goal
 
 pub returns-clause-made : goal.returns-clause-made
 returns-clause-made g c =
     let life = life_of c.args.life in
-    let turn : TurnInput = record { at = c.raised-moment.result; salt = c.args.wake.salt; unsent = c.args.life.unsent; event = event_of c.input.result; bytes = bytes_of c.input.result } in
+    let turn : Turn = record { at = c.raised-moment.result; salt = c.args.wake.salt; unsent = c.args.life.unsent; event = event_of c.input.result; bytes = bytes_of c.input.result } in
     let turn_is : turn ≡ input_of life c.args.wake c.args.bytes.now =
     λ i. record { at = c.raised-moment.ensures.value i; salt = c.args.wake.salt; unsent = c.args.life.unsent; event = c.input.ensures.event i; bytes = c.input.ensures.bytes i } in
-    let after = turned_is c.args.managed.now life c.args.wake c.args.bytes.now turn c.in_ok-core.core (sends_in c.in_ok-core.outs) c.in_ok-sent.sent.items c.in_ok-asked.asked c.rows.result.now.keys turn_is c.in_ok-core.ensures.steps c.in_ok-sent.ensures.sendings c.rows.ensures.rows
-    (keys_of c.in_ok-asked.known) c.raised-moment.result c.stop_moment.result c.unsent_on.result c.deref.result.now c.in_ok-asked.ensures.known c.raised-moment.ensures.value c.stop_moment.ensures c.deref.ensures.value c.unsent_on.ensures in
-    record {
-      taken = taken_of c.in_ok-sent.sent.items;
-      host = met_of c.in_ok-asked.asked;
-      after = after;
-      offers = offers_are c.args.managed.now life c.args.wake c.args.bytes.now turn c.in_ok-core.core (sends_in c.in_ok-core.outs) c.in_ok-sent.sent.items c.in_ok-asked.asked c.rows.result.now.keys turn_is c.in_ok-core.ensures.steps c.in_ok-sent.ensures.sendings c.rows.ensures.rows
-          _ _ _ c.in_ok-sent.ensures.offered;
-      answers = answers_are c.args.managed.now life c.args.wake c.args.bytes.now turn c.in_ok-core.core (sends_in c.in_ok-core.outs) c.in_ok-sent.sent.items c.in_ok-asked.asked c.rows.result.now.keys turn_is c.in_ok-core.ensures.steps c.in_ok-sent.ensures.sendings c.rows.ensures.rows
-          c.in_ok-asked.ensures.turn.answers;
-      told = told_is c.args.managed.now life c.args.wake c.args.bytes.now turn c.in_ok-core.core (sends_in c.in_ok-core.outs) c.in_ok-sent.sent.items c.in_ok-asked.asked c.rows.result.now.keys turn_is c.in_ok-core.ensures.steps c.in_ok-sent.ensures.sendings c.rows.ensures.rows
-          _ _ _ c.in_ok-asked.ensures.told;
-      asked = asked_is c.args.managed.now life c.args.wake c.args.bytes.now turn c.in_ok-core.core (sends_in c.in_ok-core.outs) c.in_ok-sent.sent.items c.in_ok-asked.asked c.rows.result.now.keys turn_is c.in_ok-core.ensures.steps c.in_ok-sent.ensures.sendings c.rows.ensures.rows
-          _ _ c.in_ok-asked.ensures.asked c.in_ok-asked.ensures.turn.calls;
-      lines = turn_prints c.args.managed.now life c.args.wake c.args.bytes.now turn c.in_ok-core.core (sends_in c.in_ok-core.outs) c.in_ok-sent.sent.items c.in_ok-asked.asked c.rows.result.now.keys turn_is c.in_ok-core.ensures.steps c.in_ok-sent.ensures.sendings c.rows.ensures.rows
-          _ _ _ _ _ c.raised-moment.result c.until.result c.deref-2.result.now c.in_ok-say.ensures c.raised-moment.ensures.value c.in_ok-say_sends.ensures c.deref-2.ensures.value c.in_ok-say_host_turn.ensures c.in_ok-asked.ensures.turn.calls c.in_ok-say-2.ensures (c.until.ensures ∙ ap until after);
-    }
+    turn_made c.args.managed.now life c.args.wake c.args.bytes.now turn c.in_ok-core.core (asked_in c.in_ok-core.outs) c.raised-moment.result c.stop_moment.result c.in_ok-unsent.unsent (keys_of c.in_ok-known.known) c.until.result
+    _ _ _ _ _ _ _ _
+    turn_is c.in_ok-core.ensures.steps c.raised-moment.ensures.value c.stop_moment.ensures
+    c.in_ok-say.ensures (subst (λ (slice : List Sending). Does (offering (map sending_of slice) 0) c.in_ok-unsent.unsent (g.W.Outside.seen c.args.outside.now) (g.W.Outside.seen c.offer_all.new.outside) c.say.new.text.items c.offer_all.new.text.items) c.deref.ensures.value c.in_ok-unsent.ensures.does)
+    (subst (λ (rows : List HostRow). Does (hosting c.args.managed.now rows (keys_of c.args.life.known)) (keys_of c.in_ok-known.known) (g.W.Outside.seen c.offer_all.new.outside) (g.W.Outside.seen c.host_turn.new.outside) c.offer_all.new.text.items c.host_turn.new.text.items) c.rows.ensures.rows c.in_ok-known.ensures.does)
+    c.in_ok-say-2.ensures c.until.ensures

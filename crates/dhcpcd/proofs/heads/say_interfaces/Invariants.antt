@@ -1,7 +1,7 @@
 use Rattle.std.proofs.Common.{take}
 use Rattle.std.specs.Prelude.{map}
-use Rattle.client_model.specs.Lines as lines
-use Rattle.daemon.specs.Printing.{Prints}
+use Rattle.script_model.specs.Lines as lines
+use Rattle.device_calls.specs.Printing.{Prints}
 use Rattle.dhcpcd.proofs.heads.say_interfaces.Given as goal
 
 abbrev pub invariant-loop-spec : goal.invariant-loop-spec

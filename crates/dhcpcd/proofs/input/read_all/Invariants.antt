@@ -1,5 +1,5 @@
 use Rattle.std.proofs.Common.{◌≡◌, ◌≤◌, ◌+◌, ◌-◌, vec_len}
-use Rattle.dhcpcd.specs.Input.{HasRead}
+use Rattle.dhcpcd.specs.Input.{CountsTaken, HasRead}
 use Rattle.dhcpcd.proofs.input.read_all.Given as goal
 
 abbrev pub invariant-pieces : goal.invariant-pieces
@@ -7,6 +7,7 @@ invariant-pieces g l = record {
   read : HasRead (g.I.Source.left l.fn.input) l.all.items (g.I.Source.left l.input);
   length : vec_len l.all ≤ 16777217;
   room : vec_len l.buf ≡ 65536;
+  counted : CountsTaken (vec_len l.all) (g.I.Source.taken l.fn.input) (g.I.Source.taken l.input);
   reads : g.I.Source.reads l.input ≤ g.I.Source.reads l.fn.input + vec_len l.all;
   faults : g.I.Source.faults l.fn.input ≤ g.I.Source.faults l.input;
 }

@@ -4,35 +4,26 @@ use Rattle.net_types.specs.AddressText.{FitsIp4}
 use Rattle.frame_link.specs.Frames.{frame_in}
 use Rattle.frame_link.specs.Packets.{arp_in, announcement_text}
 use Rattle.client_model.specs.WantedRows.{outranks}
-use Rattle.evidence.specs.SevenTurns.{client_mac, chosen}
-use Rattle.evidence.proofs.Announced.{one_address}
+use Rattle.turn_model.specs.Turns.{turn_asks}
+use Rattle.turn_model.specs.Opening.{opening_asks}
+use Rattle.turn_model.specs.HostInLife.{running_opened}
+use Rattle.evidence.specs.SevenTurns.{client_mac, chosen, interface, devices, seven_given}
+use Rattle.evidence.proofs.HostRests.{are_made, is_opening}
+use Rattle.local_evidence.proofs.Announced.{one_address}
 use Rattle.evidence.proofs.laws.seven_turns_give_a_basis.Goals as goal
 
-pub returns-clause-answered : goal.returns-clause-answered
-unfolding frame_in arp_in
-returns-clause-answered c = (
-  record { sends = refl; host = refl },
-  (
-    record { sends = refl; host = refl },
-    (
-      record { sends = refl; host = refl },
-      (
-        record { sends = refl; host = refl },
-        (
-          record { sends = refl; host = refl },
-          (record { sends = refl; host = refl }, (record { sends = refl; host = refl }, tt)),
-        ),
-      ),
-    ),
-  ),
-)
+pub returns-clause-opened : goal.returns-clause-opened
+returns-clause-opened c = is_opening (interface ∷ []) devices
+
+pub returns-clause-made : goal.returns-clause-made
+returns-clause-made c = are_made (interface ∷ []) seven_given (running_opened (interface ∷ []) devices)
 
 pub returns-clause-wanted : goal.returns-clause-wanted
-unfolding frame_in arp_in outranks
+unfolding frame_in arp_in outranks turn_asks opening_asks
 returns-clause-wanted c = refl
 
 pub returns-clause-shown : goal.returns-clause-shown
-unfolding frame_in arp_in
+unfolding frame_in arp_in turn_asks opening_asks
 returns-clause-shown c = refl
 
 -- each frame since the fourth turn announces the chosen address

@@ -1,4 +1,4 @@
-use Rattle.std.proofs.Common.{[], refl}
+use Rattle.std.proofs.Common.{refl}
 use Rattle.frame_link.specs.Fields.{word_in}
 use Rattle.udp_frame.specs.Datagrams.{is_checked4}
 use Rattle.udp_frame.proofs.Spelled.{not_zero}
@@ -7,7 +7,6 @@ use Rattle.udp_frame.proofs.udp4.is_checked.Goals as goal
 pub returns : goal.returns
 unfolding is_checked4
 returns c =
-    let sum = c.sum_is_right.ensures _ (c.sum_add-2.ensures _ (c.sum_add.ensures [] c.sum_new-sum.ensures)) in
-    let is = rw c.pseudo_header-pseudo.ensures at sum in
+    let right = rw c.pseudo_header-pseudo.ensures at c.is_right_after.ensures in
     let summed = not_zero (word_in c.args.datagram.now 6) (rw c.word_at.ensures at c.if-word_at-eq0.false) in
-    rw (summed, is) refl
+    rw (summed, right) refl

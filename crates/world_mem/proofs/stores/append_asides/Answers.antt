@@ -1,6 +1,6 @@
 use Rattle.std.proofs.Common.{ap, map, sym, ◌∙◌}
 use Rattle.std.specs.String.{string_bytes}
-use Rattle.world.specs.StoreCalls.{is_aside}
+use Rattle.world.specs.FileLists.{is_aside}
 use Rattle.world_mem.proofs.StoreSteps.{one_found, found_back}
 use Rattle.world_mem.proofs.stores.append_asides.Goals as goal
 

@@ -1,5 +1,6 @@
 use Rattle.std.proofs.Common.{◌≡◌, ◌∷◌, rules, subst, true}
-use Rattle.net_types.specs.Sum.{AreBytes, ones_add, ones_sum}
+use Rattle.net_types.specs.Sum.{ones_add, ones_sum}
+use Rattle.net_types.specs.Marks.{AreBytes}
 use Rattle.net_types.proofs.Checksum.{even_more, odd_more, fit_bytes, rest_bytes}
 use Rattle.net_types.proofs.sum.calls.sum_add.Goals as goal
 

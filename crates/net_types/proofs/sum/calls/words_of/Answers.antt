@@ -1,5 +1,6 @@
 use Rattle.std.proofs.Common.{arith, sym}
-use Rattle.net_types.specs.Sum.{AreBytes, ones_sum}
+use Rattle.net_types.specs.Sum.{ones_sum}
+use Rattle.net_types.specs.Marks.{AreBytes}
 use Rattle.net_types.proofs.Checksum.{zero_add_ones, sum_small, block_more, fit_bytes, drop_bytes}
 use Rattle.net_types.proofs.sum.calls.words_of.Goals as goal
 

@@ -1,5 +1,6 @@
 use Rattle.std.proofs.Common.{◌≡◌, ◌≤◌, length}
-use Rattle.net_types.specs.Sum.{AreBytes, ones_add, ones_sum}
+use Rattle.net_types.specs.Sum.{ones_add, ones_sum}
+use Rattle.net_types.specs.Marks.{AreBytes}
 use Rattle.net_types.proofs.sum.calls.words_of.Given as goal
 
 abbrev pub invariant-whole : goal.invariant-whole

@@ -1,0 +1,219 @@
+-- A turn of which nothing is new leaves an interface's rows as they are.
+use Rattle.std.proofs.Common.{ℕ, ◌≡◌, ◌-◌, Bool, true, false, not, ◌&&◌, List, [], ◌∷◌, ◌++◌, map, Option, Some, None, nat_le, nat_lt, nat_eq, refl, ap, ◌∙◌, if◌then◌else◌}
+use Rattle.net_types.proofs.CaseLaws.{split, gated}
+use Rattle.net_types.specs.declared.address.Ip4.{Ip4}
+use Rattle.net_types.specs.declared.address.Mac.{Mac}
+use Rattle.net_types.specs.declared.interface.IfIndex.{IfIndex}
+use Rattle.frame_link.specs.declared.arp.ArpView.{ArpView}
+use Rattle.arp_acd.specs.declared.detection.Phase.{Phase}
+use Rattle.arp_acd.specs.declared.detection.Phase.TheVariants.{Probing, Announcing, Held, Over}
+use Rattle.arp_acd.specs.Conflict.{is_used, is_contested}
+use Rattle.arp_acd.specs.Table as detection
+use Rattle.arp_acd.proofs.Standing.{mk}
+use Rattle.ipv4ll.specs.declared.link_local.LinkLocal.{LinkLocal}
+use Rattle.ipv4ll.specs.declared.link_local.LlNews.{LlNews}
+use Rattle.ipv4ll.specs.declared.link_local.LlNews.TheVariants.{Nothing, Timeout, Gained, Lost}
+use Rattle.ipv4ll.specs.declared.link_local.State.{State}
+use Rattle.ipv4ll.specs.declared.link_local.State.TheVariants.{Off, Armed, Chosen, Waiting}
+use Rattle.ipv4ll.specs.declared.link_local.Waits.TheVariants.{ForNothing}
+use Rattle.ipv4ll.specs.declared.link_local.Fallback.TheVariants.{Choose}
+use Rattle.ipv4ll.specs.Table.{chooses, LlStep, moves, tells, choosing, after_conflict, one_more, tick_row, ll_tick, ll_hears, ll_restarts, ll_armed, held_in}
+use Rattle.world.specs.declared.rows.HostRow.{HostRow}
+use Rattle.world.specs.declared.wakes.Event.{Event}
+use Rattle.world.specs.declared.wakes.Event.TheVariants.{Frame, Carrier, Duplicate, Release, Rebind, Stop, Quiet, End}
+use Rattle.settings.specs.declared.interfaces.IfConf.{IfConf}
+use Rattle.settings.specs.declared.interfaces.Managed.{Managed}
+use Rattle.script_model.specs.IfaceSets.{is_in}
+use Rattle.client_model.specs.declared.interfaces.Iface.{Iface}
+use Rattle.client_model.specs.declared.steps.News.{News}
+use Rattle.client_model.specs.declared.steps.News.TheVariants.{CarrierCame, CarrierWent, Released, Stopped}
+use Rattle.client_model.specs.IfaceSteps.{Report, IfaceStep, index_of, silent, then_step, with_news}
+use Rattle.client_model.specs.LocalSteps.{chooses_local, armed, local_news, local_step, tick_local, local_hears}
+use Rattle.client_model.specs.Interfaces.{begins, machines_off, restarted, unsent_in, ticked, carrier_comes, carrier_goes, carried, released, rebound}
+use Rattle.client_model.specs.IfaceTurns.{Turn, arp_heard, hears, taken, input_step, iface_turned}
+use Rattle.client_model.specs.WantedRows.{static_rows, local_rows, iface_rows}
+
+-- ---- the link-local machine
+
+abbrev at_state : IfIndex → State → LinkLocal
+at_state iface state = record { iface = iface; state = state }
+
+abbrev HeldStays : State → LlStep → Type 0
+HeldStays old step = step.out.news ≡ Nothing → held_in step.ll.state ≡ held_in old
+
+after_none : (iface : IfIndex) (conflicts at salt : ℕ) → held_in (after_conflict iface conflicts at salt) ≡ None
+after_none iface conflicts at salt =
+    gated (λ (s : State). held_in s ≡ None) (nat_lt conflicts 10) (choosing iface conflicts at salt) (Waiting conflicts _) refl refl
+
+tick_chosen : (iface i : IfIndex) (conflicts : ℕ) (addr : Ip4) (phase : Phase) (at salt : ℕ)
+    → HeldStays (Chosen conflicts (mk i addr phase)) (ll_tick (at_state iface (Chosen conflicts (mk i addr phase))) at salt)
+tick_chosen iface i conflicts addr (Probing n due) at salt =
+    split (nat_le due at)
+    (λ come. rw come (split (nat_lt n 3) (λ few. rw few (λ none. refl)) (λ all. rw all (λ none. cc))))
+    (λ early. rw early (λ none. refl))
+tick_chosen iface i conflicts addr (Announcing due last) at salt =
+    split (nat_le due at) (λ come. rw come (λ none. refl)) (λ early. rw early (λ none. refl))
+tick_chosen iface i conflicts addr (Held last) at salt = λ none. refl
+tick_chosen iface i conflicts addr Over at salt = λ none. refl
+
+tick_stays : (iface : IfIndex) (state : State) (at salt : ℕ) → HeldStays state (ll_tick (at_state iface state) at salt)
+tick_stays iface Off at salt = λ none. refl
+tick_stays iface (Armed due waits fallback) at salt =
+    gated (HeldStays (Armed due waits fallback)) (nat_le due at) (tick_row iface (Armed due waits fallback) at salt)
+    (moves iface (Armed due waits fallback) (tells Nothing))
+    (λ none. gated (λ (s : State). held_in s ≡ None) (chooses fallback) (choosing iface 0 at salt) Off refl refl) (λ none. refl)
+tick_stays iface (Chosen conflicts acd) at salt = tick_chosen iface acd.iface conflicts acd.addr acd.phase at salt
+tick_stays iface (Waiting conflicts due) at salt =
+    gated (HeldStays (Waiting conflicts due)) (nat_le due at) (tick_row iface (Waiting conflicts due) at salt)
+    (moves iface (Waiting conflicts due) (tells Nothing)) (λ none. refl) (λ none. refl)
+
+module _ (own : List Mac) (at salt : ℕ) (arp : ArpView) where
+  hears_chosen : (iface i : IfIndex) (conflicts : ℕ) (addr : Ip4) (phase : Phase)
+      → HeldStays (Chosen conflicts (mk i addr phase)) (ll_hears own (at_state iface (Chosen conflicts (mk i addr phase))) arp at salt)
+  hears_chosen iface i conflicts addr (Probing n due) =
+      split (is_contested own addr arp) (λ taken. rw taken (λ none. after_none iface (one_more conflicts) at salt)) (λ calm. rw calm (λ none. refl))
+  hears_chosen iface i conflicts addr (Announcing due None) = split (is_used own addr arp) (λ in_use. rw in_use (λ none. refl)) (λ other. rw other (λ none. refl))
+  hears_chosen iface i conflicts addr (Announcing due (Some last)) =
+      split (is_used own addr arp)
+      (λ in_use. rw in_use (split (nat_le 10000 (at - last)) (λ late. rw late (λ none. refl)) (λ soon. rw soon (λ none. cc))))
+      (λ other. rw other (λ none. refl))
+  hears_chosen iface i conflicts addr (Held None) = split (is_used own addr arp) (λ in_use. rw in_use (λ none. refl)) (λ other. rw other (λ none. refl))
+  hears_chosen iface i conflicts addr (Held (Some last)) =
+      split (is_used own addr arp)
+      (λ in_use. rw in_use (split (nat_le 10000 (at - last)) (λ late. rw late (λ none. refl)) (λ soon. rw soon (λ none. cc))))
+      (λ other. rw other (λ none. refl))
+  hears_chosen iface i conflicts addr Over = λ none. refl
+
+  hears_stays : (iface : IfIndex) (state : State) → HeldStays state (ll_hears own (at_state iface state) arp at salt)
+  hears_stays iface Off = λ none. refl
+  hears_stays iface (Armed due waits fallback) = λ none. refl
+  hears_stays iface (Chosen conflicts acd) = hears_chosen iface acd.iface conflicts acd.addr acd.phase
+  hears_stays iface (Waiting conflicts due) = λ none. refl
+
+phase_restarts : (i : IfIndex) (addr : Ip4) (phase : Phase) (at salt : ℕ) → detection.held_in addr (detection.acd_restarts (mk i addr phase) at salt).phase ≡ detection.held_in addr phase
+phase_restarts i addr (Probing n due) at salt =
+    gated (λ (p : Phase). detection.held_in addr p ≡ None) (nat_lt 0 n) (detection.probing_anew i at salt) (Probing n due) refl refl
+phase_restarts i addr (Announcing due last) at salt = refl
+phase_restarts i addr (Held last) at salt = refl
+phase_restarts i addr Over at salt = refl
+
+restart_stays : (iface : IfIndex) (state : State) (at salt : ℕ) → held_in (ll_restarts (at_state iface state) at salt).state ≡ held_in state
+restart_stays iface Off at salt = refl
+restart_stays iface (Armed due waits fallback) at salt = refl
+restart_stays iface (Chosen conflicts acd) at salt = phase_restarts acd.iface acd.addr acd.phase at salt
+restart_stays iface (Waiting conflicts due) at salt = refl
+
+arm_stays : (iface : IfIndex) (state : State) (at : ℕ) → held_in (ll_armed (at_state iface state) at ForNothing Choose).state ≡ held_in state
+arm_stays iface Off at = refl
+arm_stays iface (Armed due waits fallback) at = refl
+arm_stays iface (Chosen conflicts acd) at = refl
+arm_stays iface (Waiting conflicts due) at = refl
+
+-- ---- the interface
+
+-- what its rows come from is the same
+record SameSources (old new : Iface) : Type 0 where
+  managed : new.managed ≡ old.managed
+  up : new.up ≡ old.up
+  stopped : new.stopped ≡ old.stopped
+  held : held_in new.local.state ≡ held_in old.local.state
+
+itself : (iface : Iface) → SameSources iface iface
+itself iface = record { managed = refl; up = refl; stopped = refl; held = refl }
+
+in_turn : (a b c : Iface) → SameSources a b → SameSources b c → SameSources a c
+in_turn a b c first next = record {
+  managed = next.managed ∙ first.managed;
+  up = next.up ∙ first.up;
+  stopped = next.stopped ∙ first.stopped;
+  held = next.held ∙ first.held;
+}
+
+abbrev IsQuiet : Iface → IfaceStep → Type 0
+IsQuiet old step = step.reports ≡ [] → SameSources old step.iface
+
+no_news : (f : News → Report) (news : LlNews) → map f (local_news news) ≡ [] → news ≡ Nothing
+no_news f Nothing e = refl
+no_news f Timeout e = cc
+no_news f Gained e = cc
+no_news f (Lost addr) e = cc
+
+local_quiet : (iface : Iface) (step : LlStep) → HeldStays iface.local.state step → IsQuiet iface (local_step iface step)
+local_quiet iface step stays e = record { managed = refl; up = refl; stopped = refl; held = stays (no_news _ step.out.news e) }
+
+silent_quiet : (iface : Iface) → IsQuiet iface (silent iface)
+silent_quiet iface e = itself iface
+
+news_loud : (old before : Iface) (news : News) (step : IfaceStep) → IsQuiet old (with_news news before step)
+news_loud old before news step e = cc
+
+begins_quiet : (at : ℕ) (iface : Iface) → IsQuiet iface (begins at iface)
+begins_quiet at iface e = record {
+  managed = refl;
+  up = refl;
+  stopped = refl;
+  held = gated (λ (local : LinkLocal). held_in local.state ≡ held_in iface.local.state) (chooses_local iface.managed.conf)
+      (ll_armed iface.local at ForNothing Choose) iface.local (arm_stays iface.local.iface iface.local.state at) refl;
+}
+
+unsent_quiet : (set at salt : ℕ) (iface : Iface) → SameSources iface (unsent_in set at salt iface)
+unsent_quiet set at salt iface =
+    gated (SameSources iface) (is_in set (index_of iface)) (restarted at salt iface) iface
+    (record { managed = refl; up = refl; stopped = refl; held = restart_stays iface.local.iface iface.local.state at salt }) (itself iface)
+
+carried_quiet : (at : ℕ) (up : Bool) (iface : Iface) → IsQuiet iface (carried at up iface)
+carried_quiet at true iface =
+    gated (IsQuiet iface) iface.up (silent iface) (carrier_comes at iface) (silent_quiet iface) (news_loud iface iface CarrierCame (begins at (record iface { up = true })))
+carried_quiet at false iface =
+    gated (IsQuiet iface) iface.up (carrier_goes iface) (silent iface) (news_loud iface iface CarrierWent (machines_off (record iface { up = false }))) (silent_quiet iface)
+
+rebound_quiet : (at : ℕ) (iface : Iface) → IsQuiet iface (rebound at iface)
+rebound_quiet at iface = gated (IsQuiet iface) iface.up (begins at iface) (silent iface) (begins_quiet at iface) (silent_quiet iface)
+
+module _ (own : List Mac) (at salt : ℕ) (bytes : List ℕ) where
+  local_hears_quiet : (arp : Option ArpView) (iface : Iface) → IsQuiet iface (local_hears own at salt arp iface)
+  local_hears_quiet None iface = silent_quiet iface
+  local_hears_quiet (Some arp) iface = local_quiet iface (ll_hears own iface.local arp at salt) (hears_stays own at salt arp iface.local.iface iface.local.state)
+
+  named_quiet : (index : ℕ) (iface : Iface) (step : IfaceStep) → IsQuiet iface step → IsQuiet iface (if nat_eq (index_of iface) index then step else silent iface)
+  named_quiet index iface step quiet = gated (IsQuiet iface) (nat_eq (index_of iface) index) step (silent iface) quiet (silent_quiet iface)
+
+  taken_quiet : (event : Event) (iface : Iface) → IsQuiet iface (taken own at salt event bytes iface)
+  taken_quiet (Frame index len) iface = named_quiet index iface (hears own at salt bytes iface) (local_hears_quiet (arp_heard bytes) iface)
+  taken_quiet (Carrier index up) iface = named_quiet index iface (carried at up iface) (carried_quiet at up iface)
+  taken_quiet (Duplicate index addr) iface = silent_quiet iface
+  taken_quiet (Release index) iface = named_quiet index iface (released iface) (news_loud iface iface Released (machines_off iface))
+  taken_quiet (Rebind index) iface = named_quiet index iface (rebound at iface) (rebound_quiet at iface)
+  taken_quiet Stop iface = news_loud iface iface Stopped (machines_off (record iface { stopped = true }))
+  taken_quiet Quiet iface = silent_quiet iface
+  taken_quiet End iface = silent_quiet iface
+
+  input_quiet : (event : Event) (iface : Iface) → IsQuiet iface (input_step own at salt event bytes iface)
+  input_quiet event iface = gated (IsQuiet iface) iface.stopped (silent iface) (taken own at salt event bytes iface) (silent_quiet iface) (taken_quiet event iface)
+
+none_first : {X : Type 0} (xs ys : List X) → xs ++ ys ≡ [] → xs ≡ []
+none_first [] ys e = refl
+none_first (x ∷ xs) ys e = cc
+
+none_next : {X : Type 0} (xs ys : List X) → xs ++ ys ≡ [] → ys ≡ []
+none_next [] ys e = e
+none_next (x ∷ xs) ys e = cc
+
+turn_quiet : (own : List Mac) (turn : Turn) (iface : Iface) → IsQuiet iface (iface_turned own turn iface)
+turn_quiet own turn iface e =
+    let anew : Iface = unsent_in turn.unsent turn.at turn.salt iface in
+    let first : IfaceStep = ticked turn.at turn.salt anew in
+    let next : IfaceStep = input_step own turn.at turn.salt turn.event turn.bytes first.iface in
+    in_turn iface first.iface next.iface
+    (in_turn iface anew first.iface (unsent_quiet turn.unsent turn.at turn.salt iface)
+    (local_quiet anew (ll_tick anew.local turn.at turn.salt) (tick_stays anew.local.iface anew.local.state turn.at turn.salt) (none_first first.reports next.reports e)))
+    (input_quiet own turn.at turn.salt turn.bytes turn.event first.iface (none_next first.reports next.reports e))
+
+same_rows : (old new : Iface) → SameSources old new → iface_rows new ≡ iface_rows old
+same_rows old new same =
+    λ i. static_rows (same.managed i).spec.index (same.up i && not (same.stopped i)) (same.managed i).conf.line
+    ++ local_rows (same.managed i).spec.index (same.held i)
+
+pub quiet_rows : (own : List Mac) (turn : Turn) (iface : Iface) → (iface_turned own turn iface).reports ≡ []
+    → iface_rows (iface_turned own turn iface).iface ≡ iface_rows iface
+quiet_rows own turn iface none = same_rows iface (iface_turned own turn iface).iface (turn_quiet own turn iface none)

@@ -1,0 +1,198 @@
+-- What one device answered at one question.
+use Rattle.std.proofs.Common.{ℕ, ◌≡◌, inl, inr, Bool, true, false, List, [], ◌∷◌, ◌++◌, Option, Some, None, Result, Ok, Err, refl, sym, ap, subst, ◌∙◌}
+use Rattle.std.specs.Prelude.{not, cond, map, option_map}
+use Rattle.world.specs.declared.faults.DeviceAnswer.TheVariants as Answer
+use Rattle.world.specs.declared.faults.DeviceAnswer.{DeviceAnswer}
+use Rattle.world.specs.Causes.{Foretold}
+use Rattle.world.specs.StoreFails.{StoreFails, StoreForetold}
+use Rattle.world.specs.declared.rows.HostRow.{HostRow}
+use Rattle.world.specs.RowOrder.{in_row_order}
+use Rattle.world.specs.LinkCalls.{LinkTold, Offered, offered, Offers, send_number}
+use Rattle.world.specs.HostCalls.{HostCall, HostTold, Listed, host_answered, host_number, Shows, ListsRows, ListsNone, Changes}
+use Rattle.world.specs.FileLists.{asides, file_at, drop_file}
+use Rattle.world.specs.StoreCalls.{StoreCall, StoreTold, Reading, Found, Missing, Unread, ListedAsides, ReadFile, RemovedFile, SettledFiles, reading_of, Appended, ListsAsides, ReadsFile, store_answered, store_number, ChangesFiles}
+use Rattle.host_model.specs.declared.changes.HostChange.{HostChange}
+use Rattle.host_model.specs.HostTurn.{change_call, applied}
+use Rattle.device_calls.specs.Telling.{Adds}
+use Rattle.daemon.specs.Answered.{OfferedBy, ListedBy, ChangedBy, AsidesBy, ReadBy, RemovedBy, SettledBy}
+
+abbrev done_call : Result (Unit {0}) DeviceAnswer
+done_call = Ok tt
+
+abbrev failed_call : Result (Unit {0}) DeviceAnswer
+failed_call = Err Answer.Failed
+
+abbrev no_memory : {T : Type 0} → Result T DeviceAnswer
+no_memory = Err Answer.NoMemory
+
+-- ---- the link
+
+offer_adds : (iface : ℕ) (frame : List ℕ) (taken : Bool) (told : LinkTold) (new : Option LinkTold) → new ≡ Some (offered iface frame taken told) → Adds (Some told.calls) (option_map (λ t. t.calls) new) (Offered iface frame taken ∷ [])
+offer_adds iface frame taken told new same = subst (λ (n : Option LinkTold). Adds (Some told.calls) (option_map (λ t. t.calls) n) (Offered iface frame taken ∷ [])) (sym same) refl
+
+pub offered_by : (iface : ℕ) (frame : List ℕ) (failing : Option (List ℕ)) (old new : Option LinkTold) → Offers iface frame old new done_call → Foretold failing (send_number old) done_call → OfferedBy iface frame true failing old new
+offered_by iface frame failing None new offers foretold = record { adds = tt; foretold_is = tt }
+offered_by iface frame None (Some told) new offers foretold = record { adds = offer_adds iface frame true told new offers; foretold_is = tt }
+offered_by iface frame (Some failing) (Some told) new offers foretold = record { adds = offer_adds iface frame true told new offers; foretold_is = (ap not (sym foretold), offers) }
+
+pub untaken_by : (iface : ℕ) (frame : List ℕ) (failing : Option (List ℕ)) (old new : Option LinkTold) → Offers iface frame old new failed_call → Foretold failing (send_number old) failed_call → OfferedBy iface frame false failing old new
+untaken_by iface frame failing None new offers foretold = record { adds = tt; foretold_is = tt }
+untaken_by iface frame None (Some told) new offers foretold = record { adds = offer_adds iface frame false told new offers; foretold_is = tt }
+untaken_by iface frame (Some failing) (Some told) new offers foretold = record { adds = offer_adds iface frame false told new offers; foretold_is = (ap not (sym foretold), offers) }
+
+pub unoffered : (iface : ℕ) (frame : List ℕ) (old new : Option LinkTold) → Offers {T = Unit {0}} iface frame old new no_memory → new ≡ old
+unoffered iface frame None new offers = offers
+unoffered iface frame (Some told) new offers = offers
+
+-- ---- the host
+
+host_adds : (call : HostCall) (rows : List HostRow) (told : HostTold) (new : Option HostTold) → new ≡ Some (host_answered call rows told) → Adds (Some told.calls) (option_map (λ t. t.calls) new) (call ∷ [])
+host_adds call rows told new same = subst (λ (n : Option HostTold). Adds (Some told.calls) (option_map (λ t. t.calls) n) (call ∷ [])) (sym same) refl
+
+shown : (failing : Option (List ℕ)) (old new : Option HostTold) (listing : List HostRow) → Shows old new listing → Foretold failing (host_number old) done_call → ListedBy (Some (in_row_order listing)) failing old new
+shown failing None new listing shows foretold = record { adds = tt; foretold_is = tt }
+shown None (Some told) new listing shows foretold = record {
+  adds = subst (λ (rows : List HostRow). Adds (Some told.calls) (option_map (λ t. t.calls) new) (Listed (Some rows) ∷ [])) (sym shows.0) (host_adds (Listed (Some told.rows)) told.rows told new shows.1);
+  foretold_is = tt;
+}
+shown (Some failing) (Some told) new listing shows foretold = record {
+  adds = subst (λ (rows : List HostRow). Adds (Some told.calls) (option_map (λ t. t.calls) new) (Listed (Some rows) ∷ [])) (sym shows.0) (host_adds (Listed (Some told.rows)) told.rows told new shows.1);
+  foretold_is = (
+    ap (λ (rows : List HostRow). Some rows) shows.0 ∙ ap (λ (b : Bool). cond b None (Some told.rows)) (sym foretold),
+    shows.1 ∙ ap (λ (rows : List HostRow). Some (host_answered (Listed (Some rows)) told.rows told)) (sym shows.0),
+  );
+}
+
+pub listed_by : (failing : Option (List ℕ)) (old new : Option HostTold) (before after : List HostRow) → before ≡ [] → ListsRows old new before after → Foretold failing (host_number old) done_call → ListedBy (Some (in_row_order after)) failing old new
+listed_by failing old new before after empty lists foretold =
+    let same : after ≡ lists.listing = lists.appended ∙ ap (λ (rows : List HostRow). rows ++ lists.listing) empty in
+    subst (λ (rows : List HostRow). ListedBy (Some (in_row_order rows)) failing old new) (sym same) (shown failing old new lists.listing lists.told foretold)
+
+pub failed_list_by : (failing : Option (List ℕ)) (old new : Option HostTold) → ListsNone old new Answer.Failed → Foretold failing (host_number old) failed_call → ListedBy None failing old new
+failed_list_by failing None new none foretold = record { adds = tt; foretold_is = tt }
+failed_list_by None (Some told) new none foretold = record { adds = host_adds (Listed None) told.rows told new none; foretold_is = tt }
+failed_list_by (Some failing) (Some told) new none foretold = record { adds = host_adds (Listed None) told.rows told new none; foretold_is = (ap (λ (b : Bool). cond b None (Some told.rows)) (sym foretold), none) }
+
+pub unlisted : (old new : Option HostTold) → ListsNone old new Answer.NoMemory → new ≡ old
+unlisted None new none = none
+unlisted (Some told) new none = none
+
+pub done_by : (change : HostChange) (failing : Option (List ℕ)) (old new : Option HostTold) → Changes failing (applied change) (change_call change) old new done_call → Foretold failing (host_number old) done_call → ChangedBy change true failing old new
+done_by change failing None new changes foretold = record { adds = tt; foretold_is = tt }
+done_by change None (Some told) new changes foretold = record { adds = host_adds (change_call change true) _ told new changes; foretold_is = tt }
+done_by change (Some failing) (Some told) new changes foretold = record { adds = host_adds (change_call change true) _ told new changes; foretold_is = (ap not (sym foretold), changes) }
+
+pub undone_by : (change : HostChange) (failing : Option (List ℕ)) (old new : Option HostTold) → Changes failing (applied change) (change_call change) old new failed_call → Foretold failing (host_number old) failed_call → ChangedBy change false failing old new
+undone_by change failing None new changes foretold = record { adds = tt; foretold_is = tt }
+undone_by change None (Some told) new (inl changes) foretold = record { adds = host_adds (change_call change false) _ told new changes; foretold_is = tt }
+undone_by change None (Some told) new (inr changes) foretold = record { adds = host_adds (change_call change false) _ told new changes; foretold_is = tt }
+undone_by change (Some failing) (Some told) new changes foretold = record { adds = host_adds (change_call change false) _ told new changes; foretold_is = (ap not (sym foretold), changes) }
+
+pub unchanged : (change : HostChange) (failing : Option (List ℕ)) (old new : Option HostTold) → Changes {T = Unit {0}} failing (applied change) (change_call change) old new no_memory → new ≡ old
+unchanged change failing None new changes = changes
+unchanged change failing (Some told) new changes = changes
+
+-- ---- the store
+
+store_adds : (call : StoreCall) (files : List _) (told : StoreTold) (new : Option StoreTold) → new ≡ Some (store_answered call files told) → Adds (Some told.calls) (option_map (λ t. t.calls) new) (call ∷ [])
+store_adds call files told new same = subst (λ (n : Option StoreTold). Adds (Some told.calls) (option_map (λ t. t.calls) n) (call ∷ [])) (sym same) refl
+
+asides_here : (failing : Option StoreFails) (old new : Option StoreTold) (names : List (List ℕ)) → ListsAsides old new [] names done_call → StoreForetold failing (store_number old) done_call → AsidesBy (Some names) failing old new
+asides_here failing None new names lists foretold = record { adds = tt; foretold_is = tt }
+asides_here None (Some told) new names lists foretold = record {
+  adds = subst (λ (ns : List (List ℕ)). Adds (Some told.calls) (option_map (λ t. t.calls) new) (ListedAsides (Some ns) ∷ [])) (sym lists.0) (store_adds (ListedAsides (Some (asides told.files))) told.files told new lists.1);
+  foretold_is = tt;
+}
+asides_here (Some failing) (Some told) new names lists foretold = record {
+  adds = subst (λ (ns : List (List ℕ)). Adds (Some told.calls) (option_map (λ t. t.calls) new) (ListedAsides (Some ns) ∷ [])) (sym lists.0) (store_adds (ListedAsides (Some (asides told.files))) told.files told new lists.1);
+  foretold_is = (
+    ap (λ (ns : List (List ℕ)). Some ns) lists.0 ∙ ap (λ (b : Bool). cond b None (Some (asides told.files))) (sym foretold),
+    lists.1 ∙ ap (λ (ns : List (List ℕ)). Some (store_answered (ListedAsides (Some ns)) told.files told)) (sym lists.0),
+  );
+}
+
+pub asides_by : (failing : Option StoreFails) (old new : Option StoreTold) (before names : List (List ℕ)) → before ≡ [] → ListsAsides old new before names done_call → StoreForetold failing (store_number old) done_call → AsidesBy (Some names) failing old new
+asides_by failing old new before names empty lists foretold = asides_here failing old new names (subst (λ (b : List (List ℕ)). ListsAsides old new b names done_call) empty lists) foretold
+
+pub failed_asides_by : (failing : Option StoreFails) (old new : Option StoreTold) (before names : List (List ℕ)) → ListsAsides old new before names failed_call → StoreForetold failing (store_number old) failed_call → AsidesBy None failing old new
+failed_asides_by failing None new before names lists foretold = record { adds = tt; foretold_is = tt }
+failed_asides_by None (Some told) new before names lists foretold = record { adds = store_adds (ListedAsides None) told.files told new lists; foretold_is = tt }
+failed_asides_by (Some failing) (Some told) new before names lists foretold = record {
+  adds = store_adds (ListedAsides None) told.files told new lists;
+  foretold_is = (ap (λ (b : Bool). cond b None (Some (asides told.files))) (sym foretold), lists);
+}
+
+pub asides_unlisted : (old new : Option StoreTold) (before names : List (List ℕ)) → ListsAsides {T = Unit {0}} old new before names no_memory → new ≡ old
+asides_unlisted None new before names lists = lists
+asides_unlisted (Some told) new before names lists = lists
+
+abbrev read_call : Bool → Result Bool DeviceAnswer
+read_call found = Ok found
+
+read_as : (name : List ℕ) (reading : Reading) (file : Option (List ℕ)) (failing : Option StoreFails) (told : StoreTold) (new : Option StoreTold) (found : Bool) → file_at name told.files ≡ file → reading_of file ≡ reading
+    → new ≡ Some (store_answered (ReadFile name (reading_of (file_at name told.files))) told.files told) → StoreForetold failing (store_number (Some told)) (read_call found) → ReadBy name reading failing (Some told) new
+read_as name reading file None told new found file_is reading_is new_is foretold =
+    let is : reading_of (file_at name told.files) ≡ reading = ap reading_of file_is ∙ reading_is in
+    record { adds = store_adds (ReadFile name reading) told.files told new (new_is ∙ ap (λ (r : Reading). Some (store_answered (ReadFile name r) told.files told)) is); foretold_is = tt }
+read_as name reading file (Some failing) told new found file_is reading_is new_is foretold =
+    let is : reading_of (file_at name told.files) ≡ reading = ap reading_of file_is ∙ reading_is in
+    let here : new ≡ Some (store_answered (ReadFile name reading) told.files told) = new_is ∙ ap (λ (r : Reading). Some (store_answered (ReadFile name r) told.files told)) is in
+    record { adds = store_adds (ReadFile name reading) told.files told new here; foretold_is = (sym is ∙ ap (λ (b : Bool). cond b Unread (reading_of (file_at name told.files))) (sym foretold), here) }
+
+-- a file that was found
+found_in : (name before after : List ℕ) (file : Option (List ℕ)) → before ≡ [] → Appended file before after true → file ≡ Some after
+found_in name before after None empty appended = absurd (let bad : true ≡ false = appended.0 in cc)
+found_in name before after (Some bytes) empty appended = ap (λ (b : List ℕ). Some b) (sym (appended.1 ∙ ap (λ (b : List ℕ). b ++ bytes) empty))
+
+missing_in : (before after : List ℕ) (file : Option (List ℕ)) → Appended file before after false → file ≡ None
+missing_in before after None appended = refl
+missing_in before after (Some bytes) appended = absurd (let bad : false ≡ true = appended.0 in cc)
+
+pub found_by : (name : List ℕ) (failing : Option StoreFails) (old new : Option StoreTold) (before after : List ℕ) → before ≡ [] → ReadsFile name old new before after (read_call true) → StoreForetold failing (store_number old) (read_call true) → ReadBy name (Found after) failing old new
+found_by name failing None new before after empty reads foretold = record { adds = tt; foretold_is = tt }
+found_by name failing (Some told) new before after empty reads foretold = read_as name (Found after) (Some after) failing told new true (found_in name before after (file_at name told.files) empty reads.0) refl reads.1 foretold
+
+pub missing_by : (name : List ℕ) (failing : Option StoreFails) (old new : Option StoreTold) (before after : List ℕ) → ReadsFile name old new before after (read_call false) → StoreForetold failing (store_number old) (read_call false) → ReadBy name Missing failing old new
+missing_by name failing None new before after reads foretold = record { adds = tt; foretold_is = tt }
+missing_by name failing (Some told) new before after reads foretold = read_as name Missing None failing told new false (missing_in before after (file_at name told.files) reads.0) refl reads.1 foretold
+
+abbrev unread_call : Result Bool DeviceAnswer
+unread_call = Err Answer.Failed
+
+pub unread_by : (name : List ℕ) (failing : Option StoreFails) (old new : Option StoreTold) (before after : List ℕ) → ReadsFile name old new before after unread_call → StoreForetold failing (store_number old) unread_call → ReadBy name Unread failing old new
+unread_by name failing None new before after reads foretold = record { adds = tt; foretold_is = tt }
+unread_by name None (Some told) new before after reads foretold = record { adds = store_adds (ReadFile name Unread) told.files told new reads; foretold_is = tt }
+unread_by name (Some failing) (Some told) new before after reads foretold = record {
+  adds = store_adds (ReadFile name Unread) told.files told new reads;
+  foretold_is = (ap (λ (b : Bool). cond b Unread (reading_of (file_at name told.files))) (sym foretold), reads);
+}
+
+pub not_read : (name : List ℕ) (old new : Option StoreTold) (before after : List ℕ) → ReadsFile name old new before after no_memory → new ≡ old
+not_read name None new before after reads = reads
+not_read name (Some told) new before after reads = reads
+
+pub removed_by : (name : List ℕ) (failing : Option StoreFails) (old new : Option StoreTold) → ChangesFiles failing (drop_file name) (RemovedFile name) old new done_call → StoreForetold failing (store_number old) done_call → RemovedBy name true failing old new
+removed_by name failing None new changes foretold = record { adds = tt; foretold_is = tt }
+removed_by name None (Some told) new changes foretold = record { adds = store_adds (RemovedFile name true) _ told new changes; foretold_is = tt }
+removed_by name (Some failing) (Some told) new changes foretold = record { adds = store_adds (RemovedFile name true) _ told new changes; foretold_is = (ap not (sym foretold), changes) }
+
+pub unremoved_by : (name : List ℕ) (failing : Option StoreFails) (old new : Option StoreTold) → ChangesFiles failing (drop_file name) (RemovedFile name) old new failed_call → StoreForetold failing (store_number old) failed_call → RemovedBy name false failing old new
+unremoved_by name failing None new changes foretold = record { adds = tt; foretold_is = tt }
+unremoved_by name None (Some told) new (inl changes) foretold = record { adds = store_adds (RemovedFile name false) _ told new changes; foretold_is = tt }
+unremoved_by name None (Some told) new (inr changes) foretold = record { adds = store_adds (RemovedFile name false) _ told new changes; foretold_is = tt }
+unremoved_by name (Some failing) (Some told) new changes foretold = record { adds = store_adds (RemovedFile name false) _ told new changes; foretold_is = (ap not (sym foretold), changes) }
+
+pub settled_by : (failing : Option StoreFails) (old new : Option StoreTold) → ChangesFiles failing (λ files. files) SettledFiles old new done_call → StoreForetold failing (store_number old) done_call → SettledBy true failing old new
+settled_by failing None new changes foretold = record { adds = tt; foretold_is = tt }
+settled_by None (Some told) new changes foretold = record { adds = store_adds (SettledFiles true) _ told new changes; foretold_is = tt }
+settled_by (Some failing) (Some told) new changes foretold = record { adds = store_adds (SettledFiles true) _ told new changes; foretold_is = (ap not (sym foretold), changes) }
+
+pub unsettled_by : (failing : Option StoreFails) (old new : Option StoreTold) → ChangesFiles failing (λ files. files) SettledFiles old new failed_call → StoreForetold failing (store_number old) failed_call → SettledBy false failing old new
+unsettled_by failing None new changes foretold = record { adds = tt; foretold_is = tt }
+unsettled_by None (Some told) new (inl changes) foretold = record { adds = store_adds (SettledFiles false) _ told new changes; foretold_is = tt }
+unsettled_by None (Some told) new (inr changes) foretold = record { adds = store_adds (SettledFiles false) _ told new changes; foretold_is = tt }
+unsettled_by (Some failing) (Some told) new changes foretold = record { adds = store_adds (SettledFiles false) _ told new changes; foretold_is = (ap not (sym foretold), changes) }
+
+pub unwritten : (failing : Option StoreFails) (change : _) (call : Bool → StoreCall) (old new : Option StoreTold) → ChangesFiles {T = Unit {0}} failing change call old new no_memory → new ≡ old
+unwritten failing change call None new changes = changes
+unwritten failing change call (Some told) new changes = changes

@@ -1,0 +1,166 @@
+-- What beginning and waiting leave of what the devices tell.
+use Rattle.std.proofs.Common.{ℕ, ◌≡◌, Bool, true, false, List, [], ◌∷◌, ◌++◌, ◌+◌, length, take, drop, Option, Some, None, Result, Ok, Err, refl, sym, ap, subst, ◌∙◌, append-nil}
+use Rattle.std.specs.Prelude.{IfSome, option_map}
+use Rattle.net_types.specs.declared.fault.Failed.{Failed}
+use Rattle.world.specs.declared.faults.DeviceAnswer.{DeviceAnswer}
+use Rattle.world.specs.declared.faults.DeviceAnswer.TheVariants as Answer
+use Rattle.world.specs.declared.wakes.Begin.{Begin}
+use Rattle.world.specs.declared.wakes.Wake.{Wake}
+use Rattle.world.specs.declared.wakes.Event.{Event}
+use Rattle.world.specs.declared.wakes.Event.TheVariants.{Frame, Carrier, Duplicate, Release, Rebind, Stop, Quiet, End}
+use Rattle.world.specs.StoreFails.{StoreFails}
+use Rattle.world.specs.LinkCalls.{LinkCall, LinkTold, Given, Waited, frame_len, cut_event, cut_wake, Comes, Waits, Begins}
+use Rattle.world.specs.HostCalls.{HostTold}
+use Rattle.world.specs.StoreCalls.{StoreTold}
+use Rattle.device_calls.specs.Calls.{Call, Link}
+use Rattle.device_calls.specs.Worlds.{Seen, World, Told, told_from, told_of, world_from, world_of}
+use Rattle.device_calls.specs.Telling.{Adds, Tells}
+use Rattle.device_calls.proofs.Doing.{adds_none}
+use Rattle.turn_model.specs.Turns.{is_end}
+use Rattle.turn_model.specs.Foretold.{told_wake, told_bytes, woken}
+use Rattle.daemon.specs.Waits.{OnlyLink, BeginsThere, WaitsThere}
+
+abbrev pub woke : Wake → Result Wake DeviceAnswer
+woke wake = Ok wake
+
+abbrev pub began : Begin → Result Begin Failed
+began begin = Ok begin
+
+abbrev pub not_begun : Failed → Result Begin Failed
+not_begun failed = Err failed
+
+abbrev pub wait_failed : Result Wake DeviceAnswer
+wait_failed = Err Answer.Failed
+
+-- cutting a frame doesn't make an end of it
+pub is_end-cut : (event : Event) (size room : ℕ) → is_end (cut_event event size room) ≡ is_end event
+is_end-cut (Frame i n) size room = refl
+is_end-cut (Carrier i u) size room = refl
+is_end-cut (Duplicate i a) size room = refl
+is_end-cut (Release i) size room = refl
+is_end-cut (Rebind i) size room = refl
+is_end-cut Stop size room = refl
+is_end-cut Quiet size room = refl
+is_end-cut End size room = refl
+
+-- one call of the link
+pub link_alone : (old mid : Seen) (call : LinkCall) → OnlyLink old mid → mid.waiting.begins ≡ old.waiting.begins → Adds (option_map (λ t. t.calls) old.link.told) (option_map (λ t. t.calls) mid.link.told) (call ∷ []) → Tells old mid (Link call ∷ [])
+link_alone old mid call only begins adds = record {
+  link = adds;
+  host = subst (λ h. Adds (option_map (λ t. t.calls) old.host.told) (option_map (λ t. t.calls) h.told) []) (sym only.host) (adds_none _);
+  store = subst (λ s. Adds (option_map (λ t. t.calls) old.store.told) (option_map (λ t. t.calls) s.told) []) (sym only.store) (adds_none _);
+  hooks = subst (λ h. Adds (option_map (λ t. t.calls) old.hooks.told) (option_map (λ t. t.calls) h.told) []) (sym only.hooks) (adds_none _);
+  begins = begins;
+}
+
+-- the worlds before and after differ in what the link tells alone
+pub same_but_link : (old mid : Seen) → OnlyLink old mid → world_from (told_from mid.link.told old.link.failing) (told_of old.host) (told_of old.store) ≡ world_of mid
+same_but_link old mid only = λ i. world_from (told_from mid.link.told (sym only.failing i)) (told_of (sym only.host i)) (told_of (sym only.store i))
+
+-- ---- beginning
+
+begun_at : (begin : Begin) (link mid : Option LinkTold) (failing : Option (List ℕ)) (host : Option (Told HostTold (List ℕ))) (store : Option (Told StoreTold StoreFails)) → Begins link mid (began begin)
+    → IfSome (world_from (told_from link failing) host store) (λ world. (begin ≡ world.link.told.begin) × (world_from (told_from mid failing) host store ≡ Some world))
+begun_at begin None mid failing host store begins = tt
+begun_at begin (Some told) mid None host store begins = tt
+begun_at begin (Some told) mid (Some failing) None store begins = tt
+begun_at begin (Some told) mid (Some failing) (Some host) None begins = tt
+begun_at begin (Some told) mid (Some failing) (Some host) (Some store) begins = (begins.0, ap (λ (l : Option LinkTold). world_from (told_from l (Some failing)) (Some host) (Some store)) begins.1)
+
+-- a life begins as the link tells
+pub begun_world : (begin : Begin) (old mid : Seen) → BeginsThere old mid (began begin) → IfSome (world_of old) (λ world. (begin ≡ world.link.told.begin) × (world_of mid ≡ Some world))
+begun_world begin old mid begins =
+    subst (λ (m : Option World). IfSome (world_of old) (λ world. (begin ≡ world.link.told.begin) × (m ≡ Some world))) (same_but_link old mid begins.only)
+    (begun_at begin old.link.told mid.link.told old.link.failing (told_of old.host) (told_of old.store) begins.told)
+
+-- ---- a wait that gave a wake
+
+-- the link told what came next
+pub record Woke (asked : Option ℕ) (wake : Wake) (bytes : List ℕ) (world : World) (mid : Option World) : Type 0 where
+  pub given : Given
+  pub coming : List Given
+  pub comes : world.link.told.coming ≡ given ∷ coming
+  pub wake_is : wake ≡ told_wake given
+  pub bytes_are : bytes ≡ told_bytes given
+  pub mid_is : mid ≡ Some (woken asked wake bytes world)
+
+abbrev world_with : LinkTold → List ℕ → Told HostTold (List ℕ) → Told StoreTold StoreFails → World
+world_with told failing host store = record { link = record { told = told; failing = failing }; host = host; store = store }
+
+module _ (asked : Option ℕ) (wake : Wake) (bytes buffer : List ℕ) (more : is_end wake.event ≡ false) (room : length buffer ≡ 2048) (front : bytes ≡ take (frame_len wake.event) buffer) where
+  woke_in : (told : LinkTold) (failing : List ℕ) (mid : Option LinkTold) (host : Told HostTold (List ℕ)) (store : Told StoreTold StoreFails) (coming : List Given) → told.coming ≡ coming → Comes asked told coming mid buffer wake
+      → Woke asked wake bytes (world_with told failing host store) (world_from (told_from mid (Some failing)) (Some host) (Some store))
+  woke_in told failing mid host store [] same comes = absurd (let bad : false ≡ true = sym more ∙ ap is_end comes.0 in cc)
+  woke_in told failing mid host store (given ∷ coming) same comes =
+      let wake_is : wake ≡ told_wake given = comes.0 ∙ ap (cut_wake given) room in
+      let bytes_here : bytes ≡ take (frame_len wake.event) given.bytes = front ∙ comes.1 in
+      let rest_is : coming ≡ drop 1 told.coming = ap (λ (c : List Given). drop 1 c) (sym same) in
+      record {
+        given = given;
+        coming = coming;
+        comes = same;
+        wake_is = wake_is;
+        bytes_are = bytes_here ∙ ap (λ (w : Wake). take (frame_len w.event) given.bytes) wake_is;
+        mid_is = ap (λ (l : Option LinkTold). world_from (told_from l (Some failing)) (Some host) (Some store)) comes.2
+            ∙ (λ i. Some (world_with (record told { coming = rest_is i; waits = told.waits + 1; calls = told.calls ++ Waited asked (Some (record { wake = wake; bytes = sym bytes_here i })) ∷ [] }) failing host store));
+      }
+
+  woke_at : (link mid : Option LinkTold) (failing : Option (List ℕ)) (host : Option (Told HostTold (List ℕ))) (store : Option (Told StoreTold StoreFails)) → Waits asked link mid buffer (woke wake)
+      → IfSome (world_from (told_from link failing) host store) (λ world. Woke asked wake bytes world (world_from (told_from mid failing) host store))
+  woke_at None mid failing host store waits = tt
+  woke_at (Some told) mid None host store waits = tt
+  woke_at (Some told) mid (Some failing) None store waits = tt
+  woke_at (Some told) mid (Some failing) (Some host) None waits = tt
+  woke_at (Some told) mid (Some failing) (Some host) (Some store) waits = woke_in told failing mid host store told.coming refl waits
+
+  wait_adds_in : (told : LinkTold) (mid : Option LinkTold) (coming : List Given) → Comes asked told coming mid buffer wake
+      → Adds (Some told.calls) (option_map (λ t. t.calls) mid) (Waited asked (Some (record { wake = wake; bytes = bytes })) ∷ [])
+  wait_adds_in told mid [] comes = absurd (let bad : false ≡ true = sym more ∙ ap is_end comes.0 in cc)
+  wait_adds_in told mid (given ∷ coming) comes =
+      subst (λ (l : Option LinkTold). Adds (Some told.calls) (option_map (λ t. t.calls) l) (Waited asked (Some (record { wake = wake; bytes = bytes })) ∷ [])) (sym comes.2)
+      (ap (λ (bs : List ℕ). told.calls ++ Waited asked (Some (record { wake = wake; bytes = bs })) ∷ []) (sym (front ∙ comes.1)))
+
+  wait_adds : (link mid : Option LinkTold) → Waits asked link mid buffer (woke wake) → Adds (option_map (λ t. t.calls) link) (option_map (λ t. t.calls) mid) (Waited asked (Some (record { wake = wake; bytes = bytes })) ∷ [])
+  wait_adds None mid waits = tt
+  wait_adds (Some told) mid waits = wait_adds_in told mid told.coming waits
+
+  pub woke_world : (old mid : Seen) → WaitsThere asked old mid buffer (woke wake) → IfSome (world_of old) (λ world. Woke asked wake bytes world (world_of mid))
+  woke_world old mid waits =
+      subst (λ (m : Option World). IfSome (world_of old) (λ world. Woke asked wake bytes world m)) (same_but_link old mid waits.only)
+      (woke_at old.link.told mid.link.told old.link.failing (told_of old.host) (told_of old.store) waits.told)
+
+  pub wait_tells : (old mid : Seen) → WaitsThere asked old mid buffer (woke wake) → Tells old mid (Link (Waited asked (Some (record { wake = wake; bytes = bytes }))) ∷ [])
+  wait_tells old mid waits = link_alone old mid _ waits.only waits.begins (wait_adds old.link.told mid.link.told waits.told)
+
+-- ---- a wait that failed
+
+failed_adds : (asked : Option ℕ) (buffer : List ℕ) (link mid : Option LinkTold) → Waits asked link mid buffer wait_failed → Adds (option_map (λ t. t.calls) link) (option_map (λ t. t.calls) mid) (Waited asked None ∷ [])
+failed_adds asked buffer None mid waits = tt
+failed_adds asked buffer (Some told) mid waits = subst (λ (l : Option LinkTold). Adds (Some told.calls) (option_map (λ t. t.calls) l) (Waited asked None ∷ [])) (sym waits) refl
+
+pub failed_wait_tells : (asked : Option ℕ) (buffer : List ℕ) (old mid : Seen) → WaitsThere asked old mid buffer wait_failed → Tells old mid (Link (Waited asked None) ∷ [])
+failed_wait_tells asked buffer old mid waits = link_alone old mid (Waited asked None) waits.only waits.begins (failed_adds asked buffer old.link.told mid.link.told waits.told)
+
+-- ---- the last wait
+
+-- some wake was given
+pub record Gave (asked : Option ℕ) (wake : Wake) (link mid : Option LinkTold) : Type 0 where
+  pub given : Given
+  pub its_wake : given.wake ≡ wake
+  pub adds : Adds (option_map (λ t. t.calls) link) (option_map (λ t. t.calls) mid) (Waited asked (Some given) ∷ [])
+
+gave_in : (asked : Option ℕ) (wake : Wake) (buffer : List ℕ) (told : LinkTold) (mid : Option LinkTold) (coming : List Given) → Comes asked told coming mid buffer wake → Gave asked wake (Some told) mid
+gave_in asked wake buffer told mid [] comes = record {
+  given = record { wake = wake; bytes = [] };
+  its_wake = refl;
+  adds = subst (λ (l : Option LinkTold). Adds (Some told.calls) (option_map (λ t. t.calls) l) (Waited asked (Some (record { wake = wake; bytes = [] })) ∷ [])) (sym comes.1) refl;
+}
+gave_in asked wake buffer told mid (given ∷ coming) comes = record {
+  given = record { wake = wake; bytes = take (frame_len wake.event) given.bytes };
+  its_wake = refl;
+  adds = subst (λ (l : Option LinkTold). Adds (Some told.calls) (option_map (λ t. t.calls) l) (Waited asked (Some (record { wake = wake; bytes = take (frame_len wake.event) given.bytes })) ∷ [])) (sym comes.2) refl;
+}
+
+pub gave : (asked : Option ℕ) (wake : Wake) (buffer : List ℕ) (link mid : Option LinkTold) → Waits asked link mid buffer (woke wake) → Gave asked wake link mid
+gave asked wake buffer None mid waits = record { given = record { wake = wake; bytes = [] }; its_wake = refl; adds = tt }
+gave asked wake buffer (Some told) mid waits = gave_in asked wake buffer told mid told.coming waits

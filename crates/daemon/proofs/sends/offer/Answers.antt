@@ -1,0 +1,13 @@
+use Rattle.std.proofs.Common.{ℕ, List, [], ◌∷◌, subst}
+use Rattle.script_model.specs.Lines as lines
+use Rattle.device_calls.specs.Calls.{Offer}
+use Rattle.device_calls.specs.Does.{One}
+use Rattle.device_calls.specs.Printing.{Prints}
+use Rattle.device_calls.proofs.Doing.{does_one}
+use Rattle.daemon.proofs.sends.offer.Goals as goal
+
+pub returns-clause-does : goal.returns-clause-does
+returns-clause-does g c =
+    does_one (Offer c.args.sending.now.iface.number c.args.sending.now.bytes.items) c.in_ok-taken.taken _ _ _ _
+    (subst (λ (frame : List ℕ). One (Offer c.args.sending.now.iface.number frame) c.in_ok-taken.taken (g.W.Outside.seen c.args.outside.now) (g.W.Outside.seen c.offer.new.self)) c.deref.ensures.value c.in_ok-taken.ensures.one)
+    (subst (λ (frame : List ℕ). Prints c.args.text.now.items c.say.new.text.items (lines.Send c.args.sending.now.iface frame c.in_ok-taken.taken ∷ [])) c.deref-2.ensures.value c.in_ok-say.ensures)

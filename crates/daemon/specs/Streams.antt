@@ -1,0 +1,23 @@
+-- What stands written, where that is told.
+use Rattle.std.specs.Prelude.{ℕ, ◌≡◌, List, ◌++◌, take, Option, Some, None}
+use Rattle.script_model.specs.Lines.{Line, lines_text}
+
+-- bytes were written
+abbrev pub WritesBytes : Option (List ℕ) → Option (List ℕ) → List ℕ → Type 0
+WritesBytes None new bytes = new ≡ None
+WritesBytes (Some written) new bytes = new ≡ Some (written ++ bytes)
+
+-- a front of the bytes was written
+abbrev pub WritesSome : Option (List ℕ) → Option (List ℕ) → List ℕ → Type 0
+WritesSome None new bytes = new ≡ None
+WritesSome (Some written) new bytes = (n : ℕ) × (new ≡ Some (written ++ take n bytes))
+
+-- lines were written
+abbrev pub WritesLines : Option (List ℕ) → Option (List ℕ) → List Line → Type 0
+WritesLines None new lines = new ≡ None
+WritesLines (Some written) new lines = new ≡ Some (written ++ lines_text lines)
+
+-- lines were written whole, and then a front of the bytes of further lines
+abbrev pub WritesFront : Option (List ℕ) → Option (List ℕ) → List Line → List Line → Type 0
+WritesFront None new whole lines = new ≡ None
+WritesFront (Some written) new whole lines = (n : ℕ) × (new ≡ Some ((written ++ lines_text whole) ++ take n (lines_text lines)))

@@ -1,0 +1,28 @@
+-- What beginning and waiting do to what the devices tell.
+use Rattle.std.specs.Prelude.{ℕ, ◌≡◌, List, Option, Result}
+use Rattle.net_types.specs.declared.fault.Failed.{Failed}
+use Rattle.world.specs.declared.faults.DeviceAnswer.{DeviceAnswer}
+use Rattle.world.specs.declared.wakes.Begin.{Begin}
+use Rattle.world.specs.declared.wakes.Wake.{Wake}
+use Rattle.world.specs.LinkCalls.{Begins, Waits}
+use Rattle.world.specs.Streams.{count_after}
+use Rattle.device_calls.specs.Worlds.{Seen}
+
+-- all but what the link tells stays
+pub record OnlyLink (old new : Seen) : Type 0 where
+  pub failing : new.link.failing ≡ old.link.failing
+  pub waits : new.waiting.failing ≡ old.waiting.failing
+  pub host : new.host ≡ old.host
+  pub store : new.store ≡ old.store
+  pub hooks : new.hooks ≡ old.hooks
+
+-- the life was to begin once more
+pub record BeginsThere (old new : Seen) (result : Result Begin Failed) : Type 0 where
+  pub told : Begins old.link.told new.link.told result
+  pub counted : new.waiting.begins ≡ count_after old.waiting.begins
+  pub only : OnlyLink old new
+
+pub record WaitsThere (until : Option ℕ) (old new : Seen) (buffer : List ℕ) (result : Result Wake DeviceAnswer) : Type 0 where
+  pub told : Waits until old.link.told new.link.told buffer result
+  pub begins : new.waiting.begins ≡ old.waiting.begins
+  pub only : OnlyLink old new

@@ -1,0 +1,67 @@
+ghost use Rattle.std.specs.Prelude.{◌≡◌, ◌++◌, [], ◌∷◌, List, Some, OnOk, map};
+ghost use Rattle.world.specs.HostCalls as calls;
+ghost use Rattle.script_model.specs.Lines as lines;
+ghost use Rattle.transcript_text.specs.Printed.{line_of};
+ghost use Rattle.host_model.specs.HostTurn.{change_call};
+ghost use Rattle.device_calls.specs.CallLines.{host_lines};
+ghost use Rattle.device_calls.specs.Printing.{Prints};
+ghost use Rattle.daemon.specs.Lives.{keys_of};
+
+use host_model::HostChange;
+use std::alloc::Global;
+use std::collections::BTreeSet;
+use transcript_text::{TranscriptLine, print_line};
+use world::{HostRow, NoMemory};
+
+/// Appends one line to a text.
+#[tactic(auto, using(device_calls::proofs::Printings::prints_line))]
+pub fn say(line: &TranscriptLine<'_>, text: &mut Vec<u8>) -> Result<(), NoMemory>
+    ensures { OnOk result (Prints text.old.items text.new.items (line_of line.now ∷ [])) }
+{
+    print_line(line, text)
+}
+
+#[tactic(auto, using(device_calls::proofs::Printings::prints_none, device_calls::proofs::Printings::rows_more))]
+fn say_rows(rows: &[HostRow], text: &mut Vec<u8>) -> Result<(), NoMemory>
+    ensures { OnOk result (Prints text.old.items text.new.items (map lines.Row rows.now)) }
+{
+    for row in rows {
+        say(&TranscriptLine::Row(row), text)?;
+    }
+    Ok(())
+}
+
+#[tactic(auto, using(device_calls::proofs::Printings::prints_then))]
+fn say_listed(alloc: Global, rows: &BTreeSet<HostRow>, text: &mut Vec<u8>) -> Result<(), NoMemory>
+    ensures { OnOk result (Prints text.old.items text.new.items (host_lines (calls.Listed (Some rows.now.keys)))) }
+{
+    let all: Vec<HostRow> = rows.iter().copied().collect(alloc)?;
+    let count = all.len() as u64;
+    say(&TranscriptLine::HostListed { count }, text)?;
+    say_rows(&all, text)?;
+    Ok(())
+}
+
+/// Appends the lines of a listing.
+pub fn say_listing(
+    alloc: Global,
+    rows: &Option<BTreeSet<HostRow>>,
+    text: &mut Vec<u8>,
+) -> Result<(), NoMemory>
+    ensures { OnOk result (Prints text.old.items text.new.items (host_lines (calls.Listed (keys_of rows.now)))) }
+{
+    match rows {
+        None => say(&TranscriptLine::HostListFailed, text),
+        Some(rows) => say_listed(alloc, rows, text),
+    }
+}
+
+/// Appends the line of a change.
+pub fn say_change(change: HostChange, done: bool, text: &mut Vec<u8>) -> Result<(), NoMemory>
+    ensures { OnOk result (Prints text.old.items text.new.items (host_lines (change_call change done))) }
+{
+    match change {
+        HostChange::Remove(row) => say(&TranscriptLine::HostDel { row: &row, done }, text),
+        HostChange::Add(row) => say(&TranscriptLine::HostAdd { row: &row, done }, text),
+    }
+}

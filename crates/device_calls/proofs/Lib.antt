@@ -1,0 +1,4 @@
+pub mod Printings
+pub mod Programs
+pub mod Doing
+pub mod Running

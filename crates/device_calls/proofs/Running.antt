@@ -1,0 +1,29 @@
+-- What a run makes, and what it leaves.
+use Rattle.std.proofs.Common.{ℕ, ◌≡◌, List, [], ◌∷◌, refl, ap, ◌∙◌}
+use Rattle.world.specs.LinkCalls.{Given}
+use Rattle.world.specs.declared.rows.HostRow.{HostRow}
+use Rattle.host_model.specs.declared.changes.HostChange.{HostChange}
+use Rattle.device_calls.specs.Calls.{Ask, AnswerTo, made, Offer, ListRows, Change, ListAsides, Read, RemoveFile, Settle}
+use Rattle.device_calls.specs.Programs.{Asks, Done, Then, Makes}
+use Rattle.device_calls.specs.Worlds.{World, run, answer_to, world_with}
+use Rattle.device_calls.proofs.Programs.{makes_done, makes_then}
+
+-- what is foretold is made of questions and answers
+pub run_makes : {A : Type 0} (asks : Asks A) (world : World) → Makes asks (run asks world).calls (run asks world).result
+run_makes (Done x) world = makes_done x
+run_makes (Then ask next) world =
+    makes_then ask next (answer_to ask world) _ _ (run_makes (next (answer_to ask world)) (world_with ask (answer_to ask world) world))
+
+-- no question changes what comes, nor how a life begins, nor which calls fail
+coming_stays : (ask : Ask) (answer : AnswerTo ask) (world : World) → (world_with ask answer world).link.told.coming ≡ world.link.told.coming
+coming_stays (Offer iface frame) taken world = refl
+coming_stays ListRows rows world = refl
+coming_stays (Change change) done world = refl
+coming_stays ListAsides names world = refl
+coming_stays (Read name) reading world = refl
+coming_stays (RemoveFile name) done world = refl
+coming_stays Settle done world = refl
+
+pub run_coming : {A : Type 0} (asks : Asks A) (world : World) → (run asks world).world.link.told.coming ≡ world.link.told.coming
+run_coming (Done x) world = refl
+run_coming (Then ask next) world = run_coming (next (answer_to ask world)) (world_with ask (answer_to ask world) world) ∙ coming_stays ask (answer_to ask world) world

@@ -1,0 +1,34 @@
+-- The lines of a transcript that a call gives.
+use Rattle.std.specs.Prelude.{ℕ, List, [], ◌∷◌, map, length, Option, Some, None}
+use Rattle.world.specs.LinkCalls.{LinkCall, Waited, Offered}
+use Rattle.world.specs.HostCalls.{HostCall, Listed, Added, Removed}
+use Rattle.world.specs.StoreCalls.{StoreCall, ListedAsides, ReadFile, RemovedFile, SettledFiles}
+use Rattle.script_model.specs.Lines as lines
+use Rattle.script_model.specs.Lines.{Line}
+use Rattle.device_calls.specs.Calls.{Call, Link, Host, Store, Hook}
+
+-- (a wait has no line of its own: the turn line says what came)
+abbrev pub link_lines : LinkCall → List Line
+link_lines (Waited until given) = []
+link_lines (Offered iface frame taken) = lines.Send (record { number = iface }) frame taken ∷ []
+
+abbrev pub host_lines : HostCall → List Line
+host_lines (Listed None) = lines.HostListFailed ∷ []
+host_lines (Listed (Some rows)) = lines.HostListed (length rows) ∷ map lines.Row rows
+host_lines (Added row done) = lines.HostAdd row done ∷ []
+host_lines (Removed row done) = lines.HostDel row done ∷ []
+
+-- (the calls that save a file have no lines yet: no life makes them)
+abbrev pub store_lines : StoreCall → List Line
+store_lines (ListedAsides None) = lines.AsidesFailed ∷ []
+store_lines (ListedAsides (Some names)) = lines.Asides names ∷ []
+store_lines (ReadFile name reading) = lines.Read name reading ∷ []
+store_lines (RemovedFile name done) = lines.Removed name done ∷ []
+store_lines (SettledFiles done) = lines.Settled done ∷ []
+store_lines other = []
+
+abbrev pub lines_of : Call → List Line
+lines_of (Link call) = link_lines call
+lines_of (Host call) = host_lines call
+lines_of (Store call) = store_lines call
+lines_of (Hook call) = []

@@ -1,0 +1,63 @@
+-- What devices are asked, and the calls that a question and its answer make.
+use Rattle.std.specs.Prelude.{ℕ, Bool, List, [], ◌∷◌, Option}
+use Rattle.world.specs.declared.rows.HostRow.{HostRow}
+use Rattle.world.specs.LinkCalls.{LinkCall, Offered}
+use Rattle.world.specs.HostCalls.{HostCall, Listed}
+use Rattle.world.specs.StoreCalls.{StoreCall, Reading, ListedAsides, ReadFile, RemovedFile, SettledFiles}
+use Rattle.world.specs.HookCalls.{HookCall}
+use Rattle.host_model.specs.declared.changes.HostChange.{HostChange}
+use Rattle.host_model.specs.HostTurn.{change_call}
+
+-- a call of a device, with its answer
+pub data Call : Type 0 where
+  Link : (call : LinkCall) → Call
+  Host : (call : HostCall) → Call
+  Store : (call : StoreCall) → Call
+  Hook : (call : HookCall) → Call
+
+-- a question: to offer a frame; to list the host's rows or change one; to list asides, read or remove a file, settle removals
+pub data Ask : Type 0 where
+  Offer : (iface : ℕ) → (frame : List ℕ) → Ask
+  ListRows : Ask
+  Change : (change : HostChange) → Ask
+  ListAsides : Ask
+  Read : (name : List ℕ) → Ask
+  RemoveFile : (name : List ℕ) → Ask
+  Settle : Ask
+
+-- what answers a question: whether it was done, or what was found (nothing where listing failed)
+abbrev pub AnswerTo : Ask → Type 0
+AnswerTo (Offer iface frame) = Bool
+AnswerTo ListRows = Option (List HostRow)
+AnswerTo (Change change) = Bool
+AnswerTo ListAsides = Option (List (List ℕ))
+AnswerTo (Read name) = Reading
+AnswerTo (RemoveFile name) = Bool
+AnswerTo Settle = Bool
+
+-- the call that a question and its answer make
+abbrev pub made : (ask : Ask) → AnswerTo ask → Call
+made (Offer iface frame) taken = Link (Offered iface frame taken)
+made ListRows rows = Host (Listed rows)
+made (Change change) done = Host (change_call change done)
+made ListAsides names = Store (ListedAsides names)
+made (Read name) reading = Store (ReadFile name reading)
+made (RemoveFile name) done = Store (RemovedFile name done)
+made Settle done = Store (SettledFiles done)
+
+-- the calls of one device
+abbrev pub link_call : Call → List LinkCall
+link_call (Link call) = call ∷ []
+link_call other = []
+
+abbrev pub host_call : Call → List HostCall
+host_call (Host call) = call ∷ []
+host_call other = []
+
+abbrev pub store_call : Call → List StoreCall
+store_call (Store call) = call ∷ []
+store_call other = []
+
+abbrev pub hook_call : Call → List HookCall
+hook_call (Hook call) = call ∷ []
+hook_call other = []

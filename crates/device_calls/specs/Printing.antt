@@ -1,0 +1,6 @@
+-- Lines that were appended to a text.
+use Rattle.std.specs.Prelude.{ℕ, ◌≡◌, List, ◌++◌}
+use Rattle.script_model.specs.Lines.{Line, lines_text}
+
+pub record Prints (old new : List ℕ) (lines : List Line) : Type 0 where
+  pub appended : new ≡ old ++ lines_text lines

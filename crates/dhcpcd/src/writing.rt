@@ -1,0 +1,55 @@
+//! Writing to a stream, a few lines in one call.
+ghost use Rattle.std.specs.Prelude.{◌≤◌, [], ◌∷◌, IfOk, IfErr};
+ghost use Rattle.script_model.specs.Lines as lines;
+ghost use Rattle.replay_text.specs.ScriptContent as content;
+ghost use Rattle.daemon.specs.Streams.{WritesFront};
+ghost use Rattle.daemon.specs.Streams.{WritesLines};
+ghost use Rattle.daemon.specs.Streams.{WritesBytes, WritesSome};
+ghost use Rattle.dhcpcd.specs.Replays.{head_lines};
+ghost use Rattle.dhcpcd.specs.Statuses.{HasStatusCause, StopsWriting};
+
+use crate::heads::{say, say_head};
+use crate::status::Status;
+use replay_text::Script;
+use std::alloc::Global;
+use transcript_text::TranscriptLine;
+use world::{DeviceAnswer, Sink};
+
+/// Writes a text in one call.
+pub fn write_text<O: Sink>(out: &mut O, text: &[u8]) -> Result<(), Status>
+    ensures ok { IfOk result (λ _. (O.faults out.old ≤ O.faults out.new) × WritesBytes (O.written out.old) (O.written out.new) text.now) }
+    ensures some { IfErr result (λ _. WritesSome (O.written out.old) (O.written out.new) text.now) }
+    ensures cause { IfErr result (λ status. HasStatusCause status 0 0 (O.faults out.old) (O.faults out.new) × StopsWriting status) }
+{
+    match out.write(text) {
+        Ok(()) => Ok(()),
+        Err(DeviceAnswer::Failed) => Err(Status::WriteFault),
+        Err(DeviceAnswer::NoMemory) => Err(Status::NoMemory),
+    }
+}
+
+/// Writes the head of a script's transcript.
+#[tactic(auto, using(crate::proofs::WholeLife::head_written, crate::proofs::WholeLife::front_of_head, daemon::proofs::CutOffs::front_none))]
+pub fn write_head<O: Sink>(alloc: Global, script: &Script, out: &mut O) -> Result<(), Status>
+    ensures ok { IfOk result (λ _. (O.faults out.old ≤ O.faults out.new) × WritesLines (O.written out.old) (O.written out.new) (head_lines (content.script_of script.now))) }
+    ensures front { IfErr result (λ _. WritesFront (O.written out.old) (O.written out.new) [] (head_lines (content.script_of script.now))) }
+    ensures cause { IfErr result (λ status. HasStatusCause status 0 0 (O.faults out.old) (O.faults out.new) × StopsWriting status) }
+{
+    let mut text = Vec::new(alloc);
+    say_head(script, &mut text)?;
+    write_text(out, &text)?;
+    Ok(())
+}
+
+/// Writes the line that begins a life, by its number from 1.
+#[tactic(auto, using(crate::proofs::WholeLife::head_written, crate::proofs::WholeLife::front_of_head, daemon::proofs::CutOffs::front_none))]
+pub fn begin_life<O: Sink>(alloc: Global, number: u64, out: &mut O) -> Result<(), Status>
+    ensures ok { IfOk result (λ _. (O.faults out.old ≤ O.faults out.new) × WritesLines (O.written out.old) (O.written out.new) (lines.Life number ∷ [])) }
+    ensures front { IfErr result (λ _. WritesFront (O.written out.old) (O.written out.new) [] (lines.Life number ∷ [])) }
+    ensures cause { IfErr result (λ status. HasStatusCause status 0 0 (O.faults out.old) (O.faults out.new) × StopsWriting status) }
+{
+    let mut text = Vec::new(alloc);
+    say(&TranscriptLine::Life(number), &mut text)?;
+    write_text(out, &text)?;
+    Ok(())
+}

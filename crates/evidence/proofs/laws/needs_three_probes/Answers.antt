@@ -1,5 +1,0 @@
-use Rattle.evidence.proofs.Counting.{needs_three}
-use Rattle.evidence.proofs.laws.needs_three_probes.Goals as goal
-
-pub returns : goal.returns
-returns c = needs_three

@@ -1,0 +1,69 @@
+-- What conflict detection carries of the turns shown while it probes.
+use Rattle.std.proofs.Common.{◌≡◌, ℕ, zero, suc, ◌+◌, ◌<◌, ◌≤◌, true, false, List, [], ◌∷◌, ◌++◌, Option, Some, None, inl, inr, ◌⊎◌, refl, sym, ap, subst, ◌∙◌, add-one, arith, append_assoc}
+use Rattle.std.proofs.lemmas.Slice.Eq.{bytes_eq-Decides}
+use Rattle.std.specs.Prelude.{MatchOption, bytes_eq}
+use Rattle.std.specs.List.{AllByRecursion}
+use Rattle.machine.proofs.Entries.{since-map}
+use Rattle.net_types.proofs.AllLaws.{all_map, all_join}
+use Rattle.net_types.specs.declared.address.Ip4.{Ip4}
+use Rattle.net_types.specs.declared.interface.IfIndex.{IfIndex}
+use Rattle.net_types.specs.AddressText.{FitsIp4}
+use Rattle.frame_link.specs.Packets.{probe_text}
+use Rattle.arp_acd.specs.declared.detection.ArpSay.TheVariants.{Probe, Announce}
+use Rattle.arp_acd.specs.declared.detection.Phase.{Phase}
+use Rattle.arp_acd.specs.declared.detection.Phase.TheVariants.{Probing, Announcing, Held, Over}
+use Rattle.arp_acd.specs.Table as detection
+use Rattle.arp_acd.proofs.Standing.{wait_after, waits, one_second}
+use Rattle.ipv4ll.specs.Choice.{IsChoice}
+use Rattle.evidence_words.specs.Entries.{Entry, Offer}
+use Rattle.client_model.specs.declared.steps.Said.{Said}
+use Rattle.client_model.specs.declared.steps.Said.TheVariants.{Arp}
+use Rattle.evidence_words.specs.Inputs.{Site, offers_at, uses, contests}
+use Rattle.evidence_words.specs.Probed.{TurnWord, AsProbe, probe_taken, Probes, EachAfter, Probed}
+use Rattle.evidence_words.proofs.Offers.{Offered}
+
+module _ (C : TurnWord) (site : Site) (addr : Ip4) where
+  abbrev pub ProbesOf : (n before : ℕ) → List Entry → Type 0
+  ProbesOf n before past = Probes C C site addr n (wait_after n) before past
+
+  pub probes-on : (n w b : ℕ) (e : Entry) (past : List Entry) → C e past → contests site addr e ≡ false
+      → Probes C C site addr n w b past → Probes C C site addr n w b (e ∷ past)
+  probes-on zero w b e past stays calm h = tt
+  probes-on (suc n) w b e past stays calm h = inr ((stays, calm), h)
+
+  as_probe : (n : ℕ) (e : Entry) (past : List Entry) → C e past → AsProbe C C n e past
+  as_probe zero e past h = h
+  as_probe (suc n) e past h = h
+
+  probes-later : (n w b later : ℕ) (past : List Entry) → b ≤ later
+      → Probes C C site addr n w b past → Probes C C site addr n w later past
+  probes-later zero w b later past le h = tt
+  probes-later (suc n) w b later past le h =
+      since-map _ _ _ (λ e earlier q. (q.0, q.1, q.2, bound e.moment w b later q.3 le, q.4)) past h
+    where
+      bound : (m w b later : ℕ) → m + w ≤ b → b ≤ later → m + w ≤ later
+      bound m w b later h le = omega arith
+
+  pub probe_offered : (clean : Type 0) (more : List Said) (offers : List Offer)
+      → Offered site.managed.spec clean (Arp (Probe addr) ∷ more) offers → clean → probe_taken site addr offers ≡ true
+  probe_offered clean more [] h k = absurd h
+  probe_offered clean more (o ∷ offers) h k =
+      let same : bytes_eq o.bytes (probe_text site.managed.spec.mac addr) ≡ true = (bytes_eq-Decides o.bytes (probe_text site.managed.spec.mac addr)).1 h.0 in
+      rw (h.1 k) (rw same refl)
+
+  pub probe_said : (iface : IfIndex) (n due salt : ℕ) (e : Entry) (past : List Entry) → n < 3 → due ≤ e.moment → ProbesOf n due past
+      → C e past → contests site addr e ≡ false → probe_taken site addr (offers_at site e) ≡ true
+      → ProbesOf (n + 1) (detection.due_after iface (n + 1) e.moment salt) (e ∷ past)
+  probe_said iface n due salt e past few le h stays calm taken =
+      subst (λ k. ProbesOf k (detection.due_after iface k e.moment salt) (e ∷ past)) (sym (add-one n))
+      (inl (
+        as_probe n e past stays,
+        calm,
+        taken,
+        waits iface (suc n) e.moment salt,
+        probes-later n 1000 due e.moment past le (subst (λ w. Probes C C site addr n w due past) (one_second n few) h),
+      ))
+
+  pub three_said : (n due : ℕ) (e : Entry) (past : List Entry) → n ≡ 3 → due ≤ e.moment → ProbesOf n due past
+      → Probes C C site addr 3 2000 e.moment past
+  three_said n due e past three le h = probes-later 3 2000 due e.moment past le (subst (λ k. ProbesOf k due past) three h)

@@ -1,0 +1,3 @@
+pub mod HostTableRows
+mod HostTableChanges
+pub mod HostTableTurns

@@ -1,0 +1,4 @@
+pub mod HostTurn
+pub mod ToldHost
+pub mod HostTable
+pub mod HostLaws

@@ -1,0 +1,8 @@
+use world::HostRow;
+
+/// A change to the host's table.
+#[derive(Clone, Copy, Debug, PartialEq, Eq)]
+pub enum HostChange {
+    Remove(HostRow),
+    Add(HostRow),
+}

@@ -1,0 +1,3 @@
+pub mod ValueForms
+pub mod Leases
+pub mod Bounds

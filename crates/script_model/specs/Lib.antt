@@ -1,0 +1,6 @@
+pub mod IfaceSets
+pub mod Lines
+pub mod FailingCalls
+pub mod ScriptTexts
+pub mod Scripts
+pub mod LineNumbers

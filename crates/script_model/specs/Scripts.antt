@@ -1,0 +1,71 @@
+-- Which scripts are built.
+use Rattle.std.specs.Prelude.{ℕ, ◌≡◌, ◌+◌, ◌^◌, ◌<◌, ◌≤◌, List, [], ◌∷◌, length, All, AllPairs}
+use Rattle.net_types.specs.declared.interface.IfSpec.{IfSpec}
+use Rattle.net_types.specs.AddressText.{FitsMac}
+use Rattle.net_types.specs.NameText.{FitsName}
+use Rattle.net_types.specs.Marks.{Lacks, AreBytes}
+use Rattle.world.specs.declared.wakes.Event.{Event}
+use Rattle.world.specs.declared.wakes.Event.TheVariants.{Frame, Carrier, Quiet}
+use Rattle.world.specs.LinkCalls.{Given}
+use Rattle.world.specs.RowOrder.{in_row_order}
+use Rattle.world.specs.RowText.{IsBuiltRow}
+use Rattle.script_model.specs.FailingCalls.{FitsFail}
+use Rattle.script_model.specs.ScriptTexts.{ScriptLines, LifeScript}
+
+-- interfaces count from 1; names and hardware addresses are unlike
+abbrev pub CountsFrom : ℕ → List IfSpec → Type 0
+CountsFrom index [] = Unit {0}
+CountsFrom index (spec ∷ specs) = (spec.index.number ≡ index) × FitsName spec.name × FitsMac spec.mac × CountsFrom (index + 1) specs
+
+abbrev pub Unlike : IfSpec → IfSpec → Type 0
+Unlike a b = (a.name ≡ b.name → ⊥) × (a.mac ≡ b.mac → ⊥)
+
+pub record FitInterfaces (specs : List IfSpec) : Type 0 where
+  pub few : length specs ≤ 64
+  pub counted : CountsFrom 1 specs
+  pub unlike : AllPairs Unlike specs
+
+-- inputs that are built: quiet, and a frame on an interface of the script or its carrier
+abbrev pub FitsEvent : ℕ → Event → Type 0
+FitsEvent count (Frame iface len) = (1 ≤ iface) × (iface ≤ count)
+FitsEvent count (Carrier iface up) = (1 ≤ iface) × (iface ≤ count)
+FitsEvent count Quiet = Unit {0}
+FitsEvent count event = ⊥
+
+-- a frame has at most so many bytes
+abbrev pub frame_room : ℕ
+frame_room = 2048
+
+pub record FitsFrame (len : ℕ) (bytes : List ℕ) : Type 0 where
+  pub whole : len ≡ length bytes
+  pub room : length bytes ≤ frame_room
+  pub octets : AreBytes bytes
+
+-- other inputs have no bytes
+abbrev pub FitsBytes : Event → List ℕ → Type 0
+FitsBytes (Frame iface len) bytes = FitsFrame len bytes
+FitsBytes event bytes = bytes ≡ []
+
+pub record FitsGiven (count : ℕ) (given : Given) : Type 0 where
+  pub at : given.wake.at < 10 ^ 15
+  pub salt : given.wake.salt < 2 ^ 64
+  pub event : FitsEvent count given.wake.event
+  pub bytes : FitsBytes given.wake.event given.bytes
+
+pub record FitsLife (count : ℕ) (life : LifeScript) : Type 0 where
+  pub at : life.begin.at < 10 ^ 15
+  pub salt : life.begin.salt < 2 ^ 64
+  -- carriers are those of interfaces of the script
+  pub up : life.begin.up < 2 ^ count
+  pub turns : All (FitsGiven count) life.turns
+
+pub record FitsScript (script : ScriptLines) : Type 0 where
+  pub conf : All (Lacks 10) script.conf
+  pub ifaces : FitInterfaces script.ifaces
+  -- rows that are built, each once
+  pub rows : All IsBuiltRow script.rows
+  pub once : length (in_row_order script.rows) ≡ length script.rows
+  pub fails : All FitsFail script.fails
+  -- lives that are built: one
+  pub one : length script.lives ≡ 1
+  pub lives : All (FitsLife (length script.ifaces)) script.lives

@@ -1,0 +1,3 @@
+pub mod HostRuns
+pub mod Acting
+pub mod HostInLifeTurns

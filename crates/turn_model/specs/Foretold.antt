@@ -1,0 +1,56 @@
+-- The life that devices foretell which tell what they hold and which of their calls fail: it is determined.
+use Rattle.std.specs.Prelude.{ℕ, ◌||◌, if◌then◌else◌, List, [], ◌∷◌, take, drop, Option, Some}
+use Rattle.world.specs.declared.wakes.Wake.{Wake}
+use Rattle.world.specs.LinkCalls.{Given, frame_len, cut_wake, waited}
+use Rattle.settings.specs.declared.interfaces.Managed.{Managed}
+use Rattle.script_model.specs.Scripts.{frame_room}
+use Rattle.device_calls.specs.Worlds.{World, Ran, run, with_link}
+use Rattle.turn_model.specs.Turns.{Life, turn_asks, until, is_over, is_end}
+use Rattle.turn_model.specs.Opening.{opening_asks}
+use Rattle.turn_model.specs.Lives.{OpeningMet, Met, met_with}
+
+-- a wake as a wait gives it: its frame is cut to the room that there is
+abbrev pub told_wake : Given → Wake
+told_wake given = cut_wake given frame_room
+
+abbrev pub told_bytes : Given → List ℕ
+told_bytes given = take (frame_len (told_wake given).event) given.bytes
+
+-- the world after a wait that gave a wake
+abbrev pub woken : (asked : Option ℕ) → Wake → List ℕ → World → World
+woken asked wake bytes world =
+    with_link (waited asked (Some (record { wake = wake; bytes = bytes })) (drop 1 world.link.told.coming) world.link.told) world
+
+abbrev pub ran_turn : List Managed → Life → World → Given → Ran Life
+ran_turn managed life world given =
+    run (turn_asks managed life (told_wake given) (told_bytes given)) (woken (until life) (told_wake given) (told_bytes given) world)
+
+abbrev pub met_of : Given → Ran Life → Met
+met_of given ran = met_with (told_wake given) (told_bytes given) ran.calls ran.result
+
+-- the turns up to the one that ends the life
+abbrev pub told_turns : List Managed → Life → World → List Given → List Met
+told_turns managed life world [] = []
+told_turns managed life world (given ∷ coming) =
+    let ran = ran_turn managed life world given in
+    if is_over life || is_end given.wake.event then [] else met_of given ran ∷ told_turns managed ran.result ran.world coming
+
+abbrev pub foretold_turns : List Managed → Life → World → List Met
+foretold_turns managed life world = told_turns managed life world world.link.told.coming
+
+abbrev pub ran_opening : List Managed → World → Ran Life
+ran_opening managed world = run (opening_asks managed world.link.told.begin) world
+
+abbrev pub opening_of : List Managed → World → OpeningMet
+opening_of managed world =
+    let ran = ran_opening managed world in
+    record { begin = world.link.told.begin; calls = ran.calls; life = ran.result }
+
+-- a life that devices foretell
+pub record ForetoldLife : Type 0 where
+  pub opening : OpeningMet
+  pub mets : List Met
+
+abbrev pub foretold_life : List Managed → World → ForetoldLife
+foretold_life managed world =
+    record { opening = opening_of managed world; mets = foretold_turns managed (ran_opening managed world).result (ran_opening managed world).world }

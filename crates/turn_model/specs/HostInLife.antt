@@ -1,0 +1,40 @@
+-- The host in a life over devices that tell what they hold and which of their calls fail.
+use Rattle.std.specs.Prelude.{ℕ, List, [], ◌∷◌}
+use Rattle.world.specs.declared.rows.HostRow.{HostRow}
+use Rattle.world.specs.LinkCalls.{Given}
+use Rattle.settings.specs.declared.interfaces.Managed.{Managed}
+use Rattle.client_model.specs.Clients.{rows_of}
+use Rattle.host_model.specs.HostTable.{Table, NoneFails, Holds}
+use Rattle.device_calls.specs.Worlds.{World}
+use Rattle.turn_model.specs.Turns.{Life}
+use Rattle.turn_model.specs.Foretold.{ran_opening, ran_turn}
+
+-- a life between two turns, and what its devices tell then
+pub record Running : Type 0 where
+  pub life : Life
+  pub world : World
+
+abbrev pub running_opened : List Managed → World → Running
+running_opened managed world = record { life = (ran_opening managed world).result; world = (ran_opening managed world).world }
+
+abbrev pub running_turned : List Managed → Running → Given → Running
+running_turned managed running given =
+    record { life = (ran_turn managed running.life running.world given).result; world = (ran_turn managed running.life running.world given).world }
+
+abbrev pub running_after : List Managed → List Given → Running → Running
+running_after managed [] running = running
+running_after managed (given ∷ coming) running = running_after managed coming (running_turned managed running given)
+
+-- a life after its opening and some turns
+abbrev pub life_run : List Managed → World → List Given → Running
+life_run managed world turns = running_after managed turns (running_opened managed world)
+
+abbrev pub table_of : Running → Table
+table_of running = record { known = running.life.known; told = running.world.host.told }
+
+-- Where no host call failed between two tables, the host has exactly what the client then wants on managed interfaces,
+-- and on all others the rows of the beginning.
+abbrev pub HoldsUnlessFailed : List Managed → (failing : List ℕ) → (first : List HostRow) → (before : Table) → (after : Running) → Type 0
+HoldsUnlessFailed managed failing first before after =
+    NoneFails managed failing (rows_of after.life.client) before
+    → Holds managed (rows_of after.life.client) first after.world.host.told.rows

@@ -1,0 +1,5 @@
+pub mod Turns
+pub mod Opening
+pub mod Lives
+pub mod Foretold
+pub mod HostInLife

@@ -1,0 +1,9 @@
+mod KeptValues
+pub mod SoundSteps
+pub mod SoundAnswers
+pub mod SoundClients
+pub mod SoundRuns
+pub mod Foreign
+pub mod Granted
+pub mod Probed
+pub mod Expiring

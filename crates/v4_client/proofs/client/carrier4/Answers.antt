@@ -1,0 +1,22 @@
+use Rattle.std.proofs.Common.{◌≡◌, ◌<◌, ◌^◌, ap, subst}
+use Rattle.v4_client.specs.declared.states.State4.{State4}
+use Rattle.v4_client.specs.Clients.{ClientContent}
+use Rattle.v4_client.specs.Sound.{IsSound, IsSoundStep, FitsBegin}
+use Rattle.v4_client.proofs.SoundClients.{begin_fits, early}
+use Rattle.v4_client.proofs.SoundSteps.{begin_sound, off_sound}
+use Rattle.v4_client.proofs.client.carrier4.Goals as goal
+use Rattle.v4_client.proofs.client.carrier4.Goals.{in-Up, in-Down}
+
+pub go-requires : goal.go-requires
+go-requires c =
+    let same : c.c.inside.state ≡ c.args.c.now.state = ap (λ (v : ClientContent). v.state) c.c.view_is in
+    let sound : IsSound c.args.c.now = subst IsSound c.c.view_is c.c.invariant in
+    let at : c.turn-turn.result.at < 10 ^ 15 = early c.turn-turn.result c.args.at c.clamp_moment.result c.args.salt c.args.c.now c.clamp_moment.ensures c.turn-turn.ensures in
+    subst (λ (s : State4). IsSoundStep s c.match-carrier.step) same
+    (elim c.match-carrier.branch [
+      | in-Up w ↦
+          let begin : FitsBegin w.kept_terms.result = rw w.kept_terms.ensures.value (begin_fits c.args.c.now.kept sound.kept) in
+          rw (w.step-is, w.begin_row-step.ensures)
+          (begin_sound c.turn-turn.result w.kept_terms.result c.c.inside.state at begin c.c.invariant.state)
+      | in-Down w ↦ rw (w.step-is, w.off_row-step.ensures) (off_sound c.turn-turn.result c.c.inside.state)
+    ])

@@ -1,0 +1,210 @@
+//! What a message says to a client: whether it is acceptable in its state.
+
+ghost use Rattle.std.specs.Prelude.{◌≡◌, ◌<◌, ◌^◌, true, Some, IfOk, OnErr};
+ghost use Rattle.v4_client.specs.Answers.{answer_of, answering, is_answer, is_blacklisted, is_chosen, is_unexpired, offer_by, offer_of, reply_by, reply_in, reply_of};
+ghost use Rattle.v4_client.specs.Awaited.{is_awaited, is_awaited_by};
+ghost use Rattle.v4_client.specs.Messages.{arrival_of};
+ghost use Rattle.v4_client.specs.Settings.{settings_content};
+ghost use Rattle.v4_client.specs.Sound.{FitsState};
+
+use crate::moments::SECOND;
+use crate::options::{address_at, are_there, number_at, terms_granted};
+use crate::settings::Set4;
+use crate::states::{Answer4, Exchange4, State4};
+use lease_text::{INFINITE_LEASE, is_host_address};
+use net_types::{Ip4, Mac, NoMemory};
+use std::alloc::Global;
+use v4_message::{MessageKind, Msg4};
+use v4_options::code;
+
+/// A message as it was heard: from which hardware address, and at which moment.
+#[derive(Clone, Copy)]
+pub(crate) struct Arrival4<'a> {
+    pub message: Msg4<'a>,
+    pub source: Mac,
+    pub at: u64,
+}
+
+/// Whether the message is an answer in an exchange of this client.
+fn is_answer(set: &Set4, xid: u32, arrival: &Arrival4) -> bool
+    ensures { result ≡ is_answer (settings_content set.now) xid (arrival_of arrival.now) }
+{
+    arrival.message.xid == xid && arrival.message.chaddr == set.iface.mac
+}
+
+fn is_blacklisted(set: &Set4, server: Ip4) -> bool
+    ensures { result ≡ is_blacklisted (settings_content set.now) server }
+{
+    set.blacklist.iter().any(|net| net.contains(server))
+}
+
+/// The server that answers in an exchange of this client, where it is listened to.
+fn answering(set: &Set4, xid: u32, arrival: &Arrival4) -> Option<Ip4>
+    ensures { result ≡ answering (settings_content set.now) xid (arrival_of arrival.now) }
+{
+    if !is_answer(set, xid, arrival) {
+        return None;
+    }
+    let server = address_at(&arrival.message.options, code::SERVER_IDENTIFIER)?;
+    if is_blacklisted(set, server) {
+        return None;
+    }
+    Some(server)
+}
+
+/// What the OFFER of a server says.
+fn offer_of(alloc: Global, set: &Set4, arrival: &Arrival4, server: Ip4) -> Result<Answer4, NoMemory>
+    ensures { IfOk result (λ answer. answer ≡ offer_of (settings_content set.now) (arrival_of arrival.now) server MessageKind.Offer) }
+{
+    let message = &arrival.message;
+    if number_at(&message.options, code::LEASE_TIME).is_none() {
+        return Ok(Answer4::Nothing);
+    }
+    if !is_host_address(message.yiaddr) {
+        return Ok(Answer4::Nothing);
+    }
+    if !are_there(alloc, &message.options, &set.required)? {
+        return Ok(Answer4::Nothing);
+    }
+    Ok(Answer4::Offer {
+        address: message.yiaddr,
+        server,
+    })
+}
+
+/// What the message of a server says to a client that waits for an offer.
+fn offer_by(alloc: Global, set: &Set4, arrival: &Arrival4, server: Ip4) -> Result<Answer4, NoMemory>
+    ensures { IfOk result (λ answer. answer ≡ offer_by (settings_content set.now) (arrival_of arrival.now) (Some server)) }
+{
+    match arrival.message.kind {
+        MessageKind::Offer => offer_of(alloc, set, arrival, server),
+        MessageKind::Discover
+        | MessageKind::Request
+        | MessageKind::Decline
+        | MessageKind::Ack
+        | MessageKind::Nak
+        | MessageKind::Release
+        | MessageKind::Inform => Ok(Answer4::Nothing),
+    }
+}
+
+/// Whether it is the chosen server, where one was chosen.
+fn is_chosen(chosen: Option<Ip4>, server: Ip4) -> bool
+    ensures { result ≡ is_chosen chosen server }
+{
+    match chosen {
+        Some(chosen) => server.number == chosen.number,
+        None => true,
+    }
+}
+
+/// Whether a lease of so many seconds, counted from `first`, isn't over.
+fn is_unexpired(first: u64, lease: u32, at: u64) -> bool
+    requires { first < 10 ^ 15 }
+    ensures { result ≡ is_unexpired first lease at }
+{
+    lease == INFINITE_LEASE || at < first + SECOND * u64::from(lease)
+}
+
+/// What the ACK of a server says of the exchange.
+fn ack_by(
+    alloc: Global,
+    set: &Set4,
+    exchange: Exchange4,
+    arrival: &Arrival4,
+    server: Ip4,
+) -> Result<Answer4, NoMemory>
+    requires { exchange.first < 10 ^ 15 }
+    ensures { IfOk result (λ answer. answer ≡ reply_of (settings_content set.now) exchange (arrival_of arrival.now) server MessageKind.Ack) }
+{
+    let message = &arrival.message;
+    let Some(lease) = number_at(&message.options, code::LEASE_TIME) else {
+        return Ok(Answer4::Nothing);
+    };
+    if message.yiaddr.number != exchange.address.number {
+        return Ok(Answer4::Nothing);
+    }
+    if lease == 0 {
+        return Ok(Answer4::Nothing);
+    }
+    if !is_unexpired(exchange.first, lease, arrival.at) {
+        return Ok(Answer4::Nothing);
+    }
+    if !are_there(alloc, &message.options, &set.required)? {
+        return Ok(Answer4::Nothing);
+    }
+    let terms = terms_granted(arrival, &set.refused, exchange, server, lease);
+    Ok(Answer4::Ack(terms))
+}
+
+/// What the message of a server says of the exchange.
+fn reply_by(
+    alloc: Global,
+    set: &Set4,
+    exchange: Exchange4,
+    arrival: &Arrival4,
+    server: Ip4,
+) -> Result<Answer4, NoMemory>
+    requires { exchange.first < 10 ^ 15 }
+    ensures { IfOk result (λ answer. answer ≡ reply_by (settings_content set.now) exchange (arrival_of arrival.now) (Some server)) }
+{
+    if !is_chosen(exchange.server, server) {
+        return Ok(Answer4::Nothing);
+    }
+    match arrival.message.kind {
+        MessageKind::Ack => ack_by(alloc, set, exchange, arrival, server),
+        MessageKind::Nak => Ok(Answer4::Nak),
+        MessageKind::Discover
+        | MessageKind::Offer
+        | MessageKind::Request
+        | MessageKind::Decline
+        | MessageKind::Release
+        | MessageKind::Inform => Ok(Answer4::Nothing),
+    }
+}
+
+/// What the message says to a client that waits for an ACK.
+fn reply_in(
+    alloc: Global,
+    set: &Set4,
+    arrival: &Arrival4,
+    exchange: Exchange4,
+) -> Result<Answer4, NoMemory>
+    requires { exchange.first < 10 ^ 15 }
+    ensures memory { OnErr result (is_awaited_by (settings_content set.now) (arrival_of arrival.now) (Some exchange.xid) ≡ true) }
+    ensures answer { IfOk result (λ answer. answer ≡ reply_in (settings_content set.now) (arrival_of arrival.now) exchange) }
+{
+    match answering(set, exchange.xid, arrival) {
+        Some(server) => reply_by(alloc, set, exchange, arrival, server),
+        None => Ok(Answer4::Nothing),
+    }
+}
+
+/// What the message says to a client in this state. Memory is wanted only where it is an answer that is waited for, and only
+/// for the options that it must have.
+pub(crate) fn answer_of(
+    alloc: Global,
+    set: &Set4,
+    arrival: &Arrival4,
+    state: State4,
+) -> Result<Answer4, NoMemory>
+    requires { FitsState state }
+    ensures memory { OnErr result (is_awaited (settings_content set.now) (arrival_of arrival.now) state ≡ true) }
+    ensures answer { IfOk result (λ answer. answer ≡ answer_of (settings_content set.now) (arrival_of arrival.now) state) }
+{
+    match state {
+        State4::Selecting { xid, .. } => match answering(set, xid, arrival) {
+            Some(server) => offer_by(alloc, set, arrival, server),
+            None => Ok(Answer4::Nothing),
+        },
+        State4::Requesting { exchange, .. }
+        | State4::Rebooting { exchange, .. }
+        | State4::Renewing { exchange, .. }
+        | State4::Rebinding { exchange, .. } => reply_in(alloc, set, arrival, exchange),
+        State4::Off
+        | State4::Init { .. }
+        | State4::Checking { .. }
+        | State4::Waiting { .. }
+        | State4::Bound { .. } => Ok(Answer4::Nothing),
+    }
+}

@@ -1,0 +1,33 @@
+//! What is true of every client. These functions do nothing: their contracts are the laws.
+
+ghost use Rattle.v4_client.specs.Laws.{EndsAtExpiry, HoldsGranted, IgnoresForeign, StaysSound};
+ghost use Rattle.v4_client.specs.Probes.{ProbesFirst};
+
+/// Law: a message of another exchange, to another hardware address, or of another server than the chosen one changes nothing
+/// (RFC 2131, section 4.4.1).
+pub fn ignores_foreign()
+    ensures { IgnoresForeign }
+{}
+
+/// Law: a lease that is held when its expiry has come isn't held after the next tick, and its end is told (RFC 2131,
+/// section 4.4.5).
+pub fn ends_at_expiry()
+    ensures { EndsAtExpiry }
+{}
+
+/// Law: where a client that was off holds a lease, an ACK that was acceptable in its own exchange has granted it (RFC 2131,
+/// section 4.4).
+pub fn holds_granted()
+    ensures { HoldsGranted }
+{}
+
+/// Law: where addresses are probed, a lease is held only after three probes for its address, said since the ACK that granted
+/// it and since the last send that failed (RFC 2131, section 4.4.1; RFC 5227, section 2.1.1).
+pub fn probes_first()
+    ensures { ProbesFirst }
+{}
+
+/// Law: the leases of a client stay within the bounds of their texts, and the lease that it holds is the kept one.
+pub fn stays_sound()
+    ensures { StaysSound }
+{}

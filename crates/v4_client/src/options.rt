@@ -1,0 +1,254 @@
+//! What a client reads of a message's options.
+
+ghost use Rattle.std.specs.Prelude.{◌≡◌, ◌≤◌, ◌<◌, ◌++◌, IfNone, IfOk, IfSome, OnOk, length};
+ghost use Rattle.v4_options.specs.OptionViews.{view_instances};
+ghost use Rattle.lease_text.specs.Leases.{values_content};
+ghost use Rattle.v4_client.specs.Granting.{class_len, kept_of, kept_values, mask_taken, net_len, terms_granted, times_of, times_taken, told_times, unless_refused, usual_times};
+ghost use Rattle.v4_client.specs.Messages.{are_there, arrival_of, bytes_at, is_among, is_there, number_at};
+ghost use Rattle.v4_message.specs.Messages.{address_at};
+
+use crate::answers::Arrival4;
+use crate::states::Exchange4;
+use arrayvec::ArrayVec;
+use lease_text::{INFINITE_LEASE, KEPT_CODES, Terms4, VALUE_LIMIT, Value, is_well_formed};
+use net_types::{Ip4, Net4, NoMemory};
+use std::alloc::Global;
+use v4_options::{OptionView, addr_of, code, pieces_of, u32_of, value};
+
+/// The bytes of an address or of a number of 32 bits.
+const WORD_LEN: usize = 4;
+
+/// The renewal and rebinding times of a lease (T1 and T2), in seconds from its start.
+#[derive(Clone, Copy, Debug, PartialEq, Eq)]
+pub struct Times4 {
+    pub t1: u32,
+    pub t2: u32,
+}
+
+/// The bytes of a code's instances, end to end, where they are at most those of a word.
+fn word_at(view: &OptionView, code: u8) -> Option<ArrayVec<u8, WORD_LEN>>
+    ensures long { IfNone result (4 < length (bytes_at code (view_instances view.now))) }
+    ensures word { IfSome result (λ word. word.items ≡ bytes_at code (view_instances view.now)) }
+{
+    let mut word = ArrayVec::new();
+    'pieces: for piece in pieces_of(view, code) {
+        if word.try_extend_from_slice(piece).is_err() {
+            return None;
+        }
+    }
+    Some(word)
+}
+
+/// The address that a code's value is.
+pub(crate) fn address_at(view: &OptionView, code: u8) -> Option<Ip4>
+    ensures { result ≡ address_at code (view_instances view.now) }
+{
+    let word = word_at(view, code)?;
+    addr_of(word.as_slice())
+}
+
+/// The number that a code's value is.
+pub(crate) fn number_at(view: &OptionView, code: u8) -> Option<u32>
+    ensures { result ≡ number_at code (view_instances view.now) }
+{
+    let word = word_at(view, code)?;
+    u32_of(word.as_slice())
+}
+
+/// Whether an option is there: it has an instance, and its value the form of its code.
+fn is_there(alloc: Global, view: &OptionView, code: u8) -> Result<bool, NoMemory>
+    ensures { IfOk result (λ there. there ≡ is_there (view_instances view.now) code) }
+{
+    match value(alloc, view, code)? {
+        Some(bytes) => is_well_formed(alloc, code, &bytes),
+        None => Ok(false),
+    }
+}
+
+/// Whether all these options are there.
+pub(crate) fn are_there(alloc: Global, view: &OptionView, codes: &[u8]) -> Result<bool, NoMemory>
+    ensures { IfOk result (λ there. there ≡ are_there (view_instances view.now) codes.now) }
+{
+    for code in codes {
+        if !is_there(alloc, view, *code)? {
+            return Ok(false);
+        }
+    }
+    Ok(true)
+}
+
+/// The length of an address by its class (RFC 791, section 3.2).
+fn class_len(address: Ip4) -> u8
+    ensures value { result ≡ class_len address }
+    ensures within { result ≤ 32 }
+{
+    let first = address.number >> 24;
+    if first < 128 {
+        8
+    } else if first < 192 {
+        16
+    } else {
+        24
+    }
+}
+
+/// The length of an address: the leading ones of the mask, where it has some.
+fn net_len(address: Ip4, mask: Option<Ip4>) -> u8
+    ensures value { result ≡ net_len address mask }
+    ensures within { result ≤ 32 }
+{
+    match mask {
+        Some(mask) if mask.mask_len() != 0 => mask.mask_len(),
+        _ => class_len(address),
+    }
+}
+
+/// T1 and T2 by half and seven eighths of the lease time (RFC 2131, section 4.4.5).
+fn usual_times(lease: u32) -> Times4
+    ensures value { result ≡ usual_times lease }
+    ensures ordered { result.t1 ≤ result.t2 }
+    ensures within { result.t2 ≤ lease }
+{
+    let t2 = u64::from(lease) * 7 / 8;
+    Times4 {
+        t1: lease / 2,
+        t2: t2 as u32,
+    }
+}
+
+/// T1 and T2 as the server tells them, where they are in order within the lease.
+fn told_times(lease: u32, t1: Option<u32>, t2: Option<u32>) -> Times4
+    ensures value { result ≡ told_times lease t1 t2 }
+    ensures ordered { result.t1 ≤ result.t2 }
+    ensures within { result.t2 ≤ lease }
+{
+    match (t1, t2) {
+        (Some(t1), Some(t2)) if 0 < t1 && t1 < t2 && t2 < lease => Times4 { t1, t2 },
+        _ => usual_times(lease),
+    }
+}
+
+/// T1 and T2 of a lease.
+fn times_of(lease: u32, t1: Option<u32>, t2: Option<u32>) -> Times4
+    ensures value { result ≡ times_of lease t1 t2 }
+    ensures ordered { result.t1 ≤ result.t2 }
+    ensures within { result.t2 ≤ lease }
+    ensures endless { lease ≡ INFINITE_LEASE → result.t1 ≡ INFINITE_LEASE }
+{
+    if lease == INFINITE_LEASE {
+        Times4 {
+            t1: INFINITE_LEASE,
+            t2: INFINITE_LEASE,
+        }
+    } else {
+        told_times(lease, t1, t2)
+    }
+}
+
+fn is_among(codes: &[u8], code: u8) -> bool
+    ensures { result ≡ is_among codes.now code }
+{
+    codes.contains(&code)
+}
+
+/// The number that a code's value is, unless the code is refused.
+fn number_taken(view: &OptionView, refused: &[u8], code: u8) -> Option<u32>
+    ensures { result ≡ unless_refused refused.now code (number_at code (view_instances view.now)) }
+{
+    if is_among(refused, code) {
+        return None;
+    }
+    number_at(view, code)
+}
+
+/// The mask of the network, unless it is refused.
+fn mask_taken(view: &OptionView, refused: &[u8]) -> Option<Ip4>
+    ensures { result ≡ mask_taken refused.now (view_instances view.now) }
+{
+    if is_among(refused, code::SUBNET_MASK) {
+        return None;
+    }
+    address_at(view, code::SUBNET_MASK)
+}
+
+/// T1 and T2 of a lease of so many seconds.
+fn times_taken(view: &OptionView, refused: &[u8], lease: u32) -> Times4
+    ensures value { result ≡ times_taken refused.now (view_instances view.now) lease }
+    ensures ordered { result.t1 ≤ result.t2 }
+    ensures within { result.t2 ≤ lease }
+    ensures endless { lease ≡ INFINITE_LEASE → result.t1 ≡ INFINITE_LEASE }
+{
+    let t1 = number_taken(view, refused, code::RENEWAL_TIME);
+    let t2 = number_taken(view, refused, code::REBINDING_TIME);
+    times_of(lease, t1, t2)
+}
+
+/// The terms of the lease that an exchange is granted.
+pub(crate) fn terms_granted(
+    arrival: &Arrival4,
+    refused: &[u8],
+    exchange: Exchange4,
+    server: Ip4,
+    lease: u32,
+) -> Terms4
+    ensures value { result ≡ terms_granted refused.now (arrival_of arrival.now) exchange server lease }
+{
+    let options = &arrival.message.options;
+    let times = times_taken(options, refused, lease);
+    Terms4 {
+        net: Net4 {
+            ip: exchange.address,
+            len: net_len(exchange.address, mask_taken(options, refused)),
+        },
+        server,
+        server_mac: arrival.source,
+        first: exchange.first,
+        lease,
+        t1: times.t1,
+        t2: times.t2,
+    }
+}
+
+/// Keeps the value of a code, where it is there, of the form of its code, not too long, and not refused.
+fn push_kept(
+    alloc: Global,
+    kept: &mut Vec<Value>,
+    code: u8,
+    view: &OptionView,
+    refused: &[u8],
+) -> Result<(), NoMemory>
+    ensures { OnOk result (values_content kept.new.items ≡ values_content kept.old.items ++ kept_of refused.now (view_instances view.now) code) }
+{
+    if is_among(refused, code) {
+        return Ok(());
+    }
+    let Some(bytes) = value(alloc, view, code)? else {
+        return Ok(());
+    };
+    if bytes.len() > VALUE_LIMIT {
+        return Ok(());
+    }
+    if !is_well_formed(alloc, code, &bytes)? {
+        return Ok(());
+    }
+    kept.push(Value {
+        code: u16::from(code),
+        bytes,
+    })?;
+    Ok(())
+}
+
+/// The values that a lease keeps.
+pub(crate) fn kept_values(
+    alloc: Global,
+    view: &OptionView,
+    refused: &[u8],
+) -> Result<Vec<Value>, NoMemory>
+    ensures { IfOk result (λ values. values_content values.items ≡ kept_values refused.now (view_instances view.now)) }
+{
+    let mut values = Vec::new(alloc);
+    for code in KEPT_CODES {
+        push_kept(alloc, &mut values, code, view, refused)?;
+    }
+    Ok(values)
+}

@@ -1,0 +1,4 @@
+pub mod Options
+pub mod MessageBack
+pub mod FramesBack
+pub mod OtherKinds

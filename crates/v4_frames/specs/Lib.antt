@@ -1,0 +1,5 @@
+pub mod Spelled
+pub mod InRange
+pub mod Laws
+pub mod Heard
+pub mod Ours

@@ -1,0 +1,6 @@
+pub mod OptionLists
+pub mod Lengths
+pub mod Wide
+pub mod SpelledOptions
+pub mod ReadFields
+pub mod MessageBack

@@ -1,0 +1,5 @@
+pub mod Kinds
+pub mod Replies
+pub mod Shown
+pub mod Requests
+pub mod ReadBack

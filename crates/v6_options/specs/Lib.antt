@@ -1,0 +1,12 @@
+pub mod Codes
+pub mod Layout
+pub mod OptionArea
+pub mod Nesting
+pub mod AreaSteps
+pub mod OptionWalk
+pub mod Statuses
+pub mod Ias
+pub mod IaViews
+pub mod Readers
+pub mod Duids
+pub mod OptionGrammar
