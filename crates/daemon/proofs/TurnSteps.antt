@@ -1,5 +1,6 @@
 -- What a turn and an opening asked and printed.
 use Rattle.std.proofs.Common.{ℕ, ◌≡◌, List, [], ◌∷◌, Option, None, ap, subst, ◌∙◌}
+use Rattle.net_types.specs.declared.interface.IfSpec.{IfSpec}
 use Rattle.world.specs.declared.rows.HostRow.{HostRow}
 use Rattle.world.specs.declared.wakes.Begin.{Begin}
 use Rattle.world.specs.declared.wakes.Wake.{Wake}
@@ -62,29 +63,29 @@ turn_made managed life wake bytes turn client asked moment stop unsent known ask
 
 -- ---- the opening
 
-opens_as : (managed : List Managed) (begin : Begin) (names : List (List ℕ)) (client : Client) (asked : Asked) (moment unsent : ℕ) (known : Option (List HostRow)) (old one two three new : Seen) (t u v w x : List ℕ) (read : List FileRead) (done : Unit {0})
-    → names ≡ file_names managed → Steps (opening_step managed begin) client asked → moment ≡ moment_of begin.at
+opens_as : (managed : List Managed) (specs : List IfSpec) (begin : Begin) (names : List (List ℕ)) (client : Client) (asked : Asked) (moment unsent : ℕ) (known : Option (List HostRow)) (old one two three new : Seen) (t u v w x : List ℕ) (read : List FileRead) (done : Unit {0})
+    → names ≡ file_names managed → Steps (opening_step managed specs begin) client asked → moment ≡ moment_of begin.at
     → Does clearing done old one t u → Does (reading [] names) read one two u v → Does (offering asked.sends 0) unsent two three v w → Does (hosting managed (rows_of client) None) known three new w x
-    → Does (opening_asks managed begin) (left client known moment None unsent) old new t x
+    → Does (opening_asks managed specs begin) (left client known moment None unsent) old new t x
 unfolding opening_asks
-opens_as managed begin names client asked moment unsent known old one two three new t u v w x read done names_are steps moment_is p q o r =
+opens_as managed specs begin names client asked moment unsent known old one two three new t u v w x read done names_are steps moment_is p q o r =
     let acts : Does (acting managed None (step_with client asked.sends) moment None) (left client known moment None unsent) two new v x =
     acted managed None client asked.sends moment None unsent known two three new v w x o r in
-    let acts_here : Does (acting managed None (opening_step managed begin) (moment_of begin.at) None) (left client known moment None unsent) two new v x =
+    let acts_here : Does (acting managed None (opening_step managed specs begin) (moment_of begin.at) None) (left client known moment None unsent) two new v x =
     subst (λ (asks : Asks Life). Does asks (left client known moment None unsent) two new v x) (λ i. acting managed None (step_with (steps.goes_on i) (steps.offers i)) (moment_is i) None) acts in
-    does_after clearing (λ _. after (reading [] (file_names managed)) (λ files. acting managed None (opening_step managed begin) (moment_of begin.at) None)) done (left client known moment None unsent) old one new t u x p
-    (does_after (reading [] (file_names managed)) (λ files. acting managed None (opening_step managed begin) (moment_of begin.at) None) read (left client known moment None unsent) one two new u v x (subst (λ (ns : List (List ℕ)). Does (reading [] ns) read one two u v) names_are q) acts_here)
+    does_after clearing (λ _. after (reading [] (file_names managed)) (λ files. acting managed None (opening_step managed specs begin) (moment_of begin.at) None)) done (left client known moment None unsent) old one new t u x p
+    (does_after (reading [] (file_names managed)) (λ files. acting managed None (opening_step managed specs begin) (moment_of begin.at) None) read (left client known moment None unsent) one two new u v x (subst (λ (ns : List (List ℕ)). Does (reading [] ns) read one two u v) names_are q) acts_here)
 
-pub opening_made : (managed : List Managed) (begin : Begin) (names : List (List ℕ)) (client : Client) (asked : Asked) (moment unsent : ℕ) (known : Option (List HostRow)) (asked_until : Option ℕ) (read : List FileRead) (done : Unit {0})
+pub opening_made : (managed : List Managed) (specs : List IfSpec) (begin : Begin) (names : List (List ℕ)) (client : Client) (asked : Asked) (moment unsent : ℕ) (known : Option (List HostRow)) (asked_until : Option ℕ) (read : List FileRead) (done : Unit {0})
     (old one two three new : Seen) (s t u v w x y : List ℕ)
-    → names ≡ file_names managed → Steps (opening_step managed begin) client asked → moment ≡ moment_of begin.at
+    → names ≡ file_names managed → Steps (opening_step managed specs begin) client asked → moment ≡ moment_of begin.at
     → Prints s t (lines.Start begin ∷ [])
     → Does clearing done old one t u → Does (reading [] names) read one two u v → Does (offering asked.sends 0) unsent two three v w → Does (hosting managed (rows_of client) None) known three new w x
     → Prints x y (lines.Until asked_until ∷ []) → asked_until ≡ until (left client known moment None unsent)
-    → MakesOpening managed begin (left client known moment None unsent) old new s y
-opening_made managed begin names client asked moment unsent known asked_until read done old one two three new s t u v w x y names_are steps moment_is line p q o r last until_is =
-    let does : Does (opening_asks managed begin) (left client known moment None unsent) old new t x =
-    opens_as managed begin names client asked moment unsent known old one two three new t u v w x read done names_are steps moment_is p q o r in
+    → MakesOpening managed specs begin (left client known moment None unsent) old new s y
+opening_made managed specs begin names client asked moment unsent known asked_until read done old one two three new s t u v w x y names_are steps moment_is line p q o r last until_is =
+    let does : Does (opening_asks managed specs begin) (left client known moment None unsent) old new t x =
+    opens_as managed specs begin names client asked moment unsent known old one two three new t u v w x read done names_are steps moment_is p q o r in
     record {
       calls = does.calls;
       did = does.did;

@@ -1,6 +1,7 @@
 -- A whole life.
 use Rattle.std.proofs.Common.{ℕ, ◌≡◌, ◌≤◌, List, [], ◌++◌, length, inl, inr, Option, Some, None, refl, sym, ap, subst, ◌∙◌, arith}
 use Rattle.std.specs.Prelude.{IfSome, flat_map}
+use Rattle.net_types.specs.declared.interface.IfSpec.{IfSpec}
 use Rattle.world.specs.declared.wakes.Begin.{Begin}
 use Rattle.world.specs.LinkCalls.{Given}
 use Rattle.settings.specs.declared.interfaces.Managed.{Managed}
@@ -31,41 +32,41 @@ use Rattle.daemon.proofs.CutOffs.{front_some, front_after, told_left, left_whole
 abbrev lived : OpeningMet → List Met → ForetoldLife
 lived opening mets = record { opening = opening; mets = mets }
 
-opens_foretold : (managed : List Managed) (begin : Begin) (calls : List Call) (life : Life) (mets : List Met) (old mid opened : Option World)
+opens_foretold : (managed : List Managed) (specs : List IfSpec) (begin : Begin) (calls : List Call) (life : Life) (mets : List Met) (old mid opened : Option World)
     → IfSome old (λ world. (begin ≡ world.link.told.begin) × (mid ≡ Some world))
-    → IfSome mid (λ world. IsRun (run (opening_asks managed begin) world) calls life opened)
+    → IfSome mid (λ world. IsRun (run (opening_asks managed specs begin) world) calls life opened)
     → IfSome opened (λ world. foretold_turns managed life world ≡ mets)
-    → IfSome old (λ world. foretold_life managed world ≡ lived (opening_with begin calls life) mets)
-opens_foretold managed begin calls life mets None mid opened p q r = tt
-opens_foretold managed begin calls life mets (Some world) mid opened p q r =
-    let ran : IsRun (run (opening_asks managed begin) world) calls life opened = subst (λ (m : Option World). IfSome m (λ world. IsRun (run (opening_asks managed begin) world) calls life opened)) p.1 q in
-    let rest : foretold_turns managed life (run (opening_asks managed begin) world).world ≡ mets = subst (λ (m : Option World). IfSome m (λ world. foretold_turns managed life world ≡ mets)) ran.world_is r in
-    (λ i. lived (opening_with (sym p.0 i) (run (opening_asks managed (sym p.0 i)) world).calls (run (opening_asks managed (sym p.0 i)) world).result) (foretold_turns managed (run (opening_asks managed (sym p.0 i)) world).result (run (opening_asks managed (sym p.0 i)) world).world))
-    ∙ (λ i. lived (opening_with begin (sym ran.calls_are i) (sym ran.result_is i)) (foretold_turns managed (sym ran.result_is i) (run (opening_asks managed begin) world).world))
+    → IfSome old (λ world. foretold_life managed specs world ≡ lived (opening_with begin calls life) mets)
+opens_foretold managed specs begin calls life mets None mid opened p q r = tt
+opens_foretold managed specs begin calls life mets (Some world) mid opened p q r =
+    let ran : IsRun (run (opening_asks managed specs begin) world) calls life opened = subst (λ (m : Option World). IfSome m (λ world. IsRun (run (opening_asks managed specs begin) world) calls life opened)) p.1 q in
+    let rest : foretold_turns managed life (run (opening_asks managed specs begin) world).world ≡ mets = subst (λ (m : Option World). IfSome m (λ world. foretold_turns managed life world ≡ mets)) ran.world_is r in
+    (λ i. lived (opening_with (sym p.0 i) (run (opening_asks managed specs (sym p.0 i)) world).calls (run (opening_asks managed specs (sym p.0 i)) world).result) (foretold_turns managed (run (opening_asks managed specs (sym p.0 i)) world).result (run (opening_asks managed specs (sym p.0 i)) world).world))
+    ∙ (λ i. lived (opening_with begin (sym ran.calls_are i) (sym ran.result_is i)) (foretold_turns managed (sym ran.result_is i) (run (opening_asks managed specs begin) world).world))
     ∙ ap (lived (opening_with begin calls life)) rest
 
-many_from : (managed : List Managed) (begin : Begin) (calls : List Call) (life : Life) (turns : ℕ) (old mid opened : Option World)
+many_from : (managed : List Managed) (specs : List IfSpec) (begin : Begin) (calls : List Call) (life : Life) (turns : ℕ) (old mid opened : Option World)
     → IfSome old (λ world. (begin ≡ world.link.told.begin) × (mid ≡ Some world))
-    → IfSome mid (λ world. IsRun (run (opening_asks managed begin) world) calls life opened)
+    → IfSome mid (λ world. IsRun (run (opening_asks managed specs begin) world) calls life opened)
     → IfSome opened (λ world. turns ≤ length world.link.told.coming) → IfSome old (λ world. turns ≤ length world.link.told.coming)
-many_from managed begin calls life turns None mid opened p q r = tt
-many_from managed begin calls life turns (Some world) mid opened p q r =
-    let ran : IsRun (run (opening_asks managed begin) world) calls life opened = subst (λ (m : Option World). IfSome m (λ world. IsRun (run (opening_asks managed begin) world) calls life opened)) p.1 q in
-    let here : turns ≤ length (run (opening_asks managed begin) world).world.link.told.coming = subst (λ (m : Option World). IfSome m (λ world. turns ≤ length world.link.told.coming)) ran.world_is r in
-    subst (λ (c : List Given). turns ≤ length c) (run_coming (opening_asks managed begin) world) here
+many_from managed specs begin calls life turns None mid opened p q r = tt
+many_from managed specs begin calls life turns (Some world) mid opened p q r =
+    let ran : IsRun (run (opening_asks managed specs begin) world) calls life opened = subst (λ (m : Option World). IfSome m (λ world. IsRun (run (opening_asks managed specs begin) world) calls life opened)) p.1 q in
+    let here : turns ≤ length (run (opening_asks managed specs begin) world).world.link.told.coming = subst (λ (m : Option World). IfSome m (λ world. turns ≤ length world.link.told.coming)) ran.world_is r in
+    subst (λ (c : List Given). turns ≤ length c) (run_coming (opening_asks managed specs begin) world) here
 
 -- as many wakes come as were allowed, from the beginning on
-pub many_before : (managed : List Managed) (begin : Begin) (life : Life) (turns : ℕ) (old mid opened : Seen) (text_old text : List ℕ)
-    → BeginsThere old mid (began begin) → MakesOpening managed begin life mid opened text_old text → AreManyTurns opened turns → AreManyTurns old turns
-many_before managed begin life turns old mid opened text_old text begins made many =
-    many_from managed begin made.calls life turns (world_of old) (world_of mid) (world_of opened) (begun_world begin old mid begins) made.did.foretold many
+pub many_before : (managed : List Managed) (specs : List IfSpec) (begin : Begin) (life : Life) (turns : ℕ) (old mid opened : Seen) (text_old text : List ℕ)
+    → BeginsThere old mid (began begin) → MakesOpening managed specs begin life mid opened text_old text → AreManyTurns opened turns → AreManyTurns old turns
+many_before managed specs begin life turns old mid opened text_old text begins made many =
+    many_from managed specs begin made.calls life turns (world_of old) (world_of mid) (world_of opened) (begun_world begin old mid begins) made.did.foretold many
 
 opening_written : (old new : Option (List ℕ)) (text : List ℕ) (lines : List Line) → WritesBytes old new text → Prints [] text lines → WritesLines old new lines
 opening_written None new text lines w p = w
 opening_written (Some written) new text lines w p = w ∙ ap (λ (x : List ℕ). Some (written ++ x)) p.appended
 
-module _ (managed : List Managed) (begin : Begin) (life : Life) (old mid opened : Seen) (text_old text written : List ℕ) (out out_one : Option (List ℕ))
-    (begins : BeginsThere old mid (began begin)) (made : MakesOpening managed begin life mid opened text_old text) (empty : text_old ≡ []) (same : written ≡ text) where
+module _ (managed : List Managed) (specs : List IfSpec) (begin : Begin) (life : Life) (old mid opened : Seen) (text_old text written : List ℕ) (out out_one : Option (List ℕ))
+    (begins : BeginsThere old mid (began begin)) (made : MakesOpening managed specs begin life mid opened text_old text) (empty : text_old ≡ []) (same : written ≡ text) where
   lines_written : WritesBytes out out_one written → WritesLines out out_one (opening_lines (opening_with begin made.calls life))
   lines_written wrote =
       opening_written out out_one text (opening_lines (opening_with begin made.calls life)) (subst (λ (t : List ℕ). WritesBytes out out_one t) same wrote)
@@ -73,7 +74,7 @@ module _ (managed : List Managed) (begin : Begin) (life : Life) (old mid opened 
 
   -- it was lived to its end
   pub serves : (last : Life) (new : Seen) (out_two out_three : Option (List ℕ)) → WritesBytes out out_one written → Ends managed life opened out_one last new out_two
-      → WritesLines out_two out_three (closing_lines last) → Served managed old new out out_three
+      → WritesLines out_two out_three (closing_lines last) → Served managed specs old new out out_three
   serves last new out_two out_three wrote ends closes = record {
     begun = record { begin = begin; seen = mid; begins = begins };
     opening = opening_with begin made.calls life;
@@ -87,11 +88,11 @@ module _ (managed : List Managed) (begin : Begin) (life : Life) (old mid opened 
     written = lines_then out out_one out_three (opening_lines (opening_with begin made.calls life)) (flat_map turn_lines ends.mets ++ closing_lines (life_after life ends.mets)) (lines_written wrote)
         (lines_then out_one out_two out_three (flat_map turn_lines ends.mets) (closing_lines (life_after life ends.mets)) ends.written
         (subst (λ (l : Life). WritesLines out_two out_three (closing_lines l)) ends.after closes));
-    foretold = opens_foretold managed begin made.calls life ends.mets (world_of old) (world_of mid) (world_of opened) (begun_world begin old mid begins) made.did.foretold ends.whole;
+    foretold = opens_foretold managed specs begin made.calls life ends.mets (world_of old) (world_of mid) (world_of opened) (begun_world begin old mid begins) made.did.foretold ends.whole;
   }
 
   -- the lines of the opening were not all written
-  cut_opening : (end : ServeEnd) (out_to : Option (List ℕ)) → WritesSome out out_to written → TellsUnlessMemory end mid opened made.calls → CutOpening end managed old opened out out_to
+  cut_opening : (end : ServeEnd) (out_to : Option (List ℕ)) → WritesSome out out_to written → TellsUnlessMemory end mid opened made.calls → CutOpening end managed specs old opened out out_to
   cut_opening end out_to some tells = record {
     begun = record { begin = begin; seen = mid; begins = begins };
     opening = opening_with begin made.calls life;
@@ -100,10 +101,10 @@ module _ (managed : List Managed) (begin : Begin) (life : Life) (old mid opened 
     opens = made.did.makes;
     written = front_some out out_to text_old written text (opening_lines (opening_with begin made.calls life)) empty made.lines same some;
     tells = tells;
-    foretold = opens_foretold managed begin made.calls life (told_left managed life (world_of opened)) (world_of old) (world_of mid) (world_of opened) (begun_world begin old mid begins) made.did.foretold (left_whole managed life (world_of opened));
+    foretold = opens_foretold managed specs begin made.calls life (told_left managed life (world_of opened)) (world_of old) (world_of mid) (world_of opened) (begun_world begin old mid begins) made.did.foretold (left_whole managed life (world_of opened));
   }
 
-  pub leaves_opening : (end : ServeEnd) (out_to : Option (List ℕ)) (a b : ℕ) → WritesSome out out_to written → HasServeCause end a b 0 0 → Leaves end managed old opened out out_to
+  pub leaves_opening : (end : ServeEnd) (out_to : Option (List ℕ)) (a b : ℕ) → WritesSome out out_to written → HasServeCause end a b 0 0 → Leaves end managed specs old opened out out_to
   leaves_opening ends.End out_to a b some cause = absurd cause
   leaves_opening ends.TurnsOver out_to a b some cause = absurd cause
   leaves_opening ends.LinkFault out_to a b some cause = absurd (omega (arith, cause.1))
@@ -111,7 +112,7 @@ module _ (managed : List Managed) (begin : Begin) (life : Life) (old mid opened 
   leaves_opening ends.NoMemory out_to a b some cause = inr (inl (cut_opening ends.NoMemory out_to some tt))
 
   -- it was cut off later
-  cut_life : (end : ServeEnd) (new : Seen) (out_to : Option (List ℕ)) → WritesBytes out out_one written → BreaksOff end managed life opened new out_one out_to → CutLife end managed old new out out_to
+  cut_life : (end : ServeEnd) (new : Seen) (out_to : Option (List ℕ)) → WritesBytes out out_one written → BreaksOff end managed life opened new out_one out_to → CutLife end managed specs old new out out_to
   cut_life end new out_to wrote breaks = record {
     begun = record { begin = begin; seen = mid; begins = begins };
     opening = opening_with begin made.calls life;
@@ -124,10 +125,10 @@ module _ (managed : List Managed) (begin : Begin) (life : Life) (old mid opened 
     turns = breaks.turns;
     written = front_after out out_one out_to (opening_lines (opening_with begin made.calls life)) (flat_map turn_lines breaks.mets) (cut_lines (life_after life breaks.mets) breaks.at) (lines_written wrote) breaks.written;
     tells = tells_unless end mid opened new made.calls (turns_calls life breaks.mets ++ breaks.calls) made.did.tells breaks.tells;
-    foretold = opens_foretold managed begin made.calls life (breaks.mets ++ turns_left breaks.at) (world_of old) (world_of mid) (world_of opened) (begun_world begin old mid begins) made.did.foretold breaks.whole;
+    foretold = opens_foretold managed specs begin made.calls life (breaks.mets ++ turns_left breaks.at) (world_of old) (world_of mid) (world_of opened) (begun_world begin old mid begins) made.did.foretold breaks.whole;
   }
 
-  pub leaves_life : (end : ServeEnd) (new : Seen) (out_to : Option (List ℕ)) → WritesBytes out out_one written → BreaksOff end managed life opened new out_one out_to → Leaves end managed old new out out_to
+  pub leaves_life : (end : ServeEnd) (new : Seen) (out_to : Option (List ℕ)) → WritesBytes out out_one written → BreaksOff end managed life opened new out_one out_to → Leaves end managed specs old new out out_to
   leaves_life ends.End new out_to wrote breaks = tt
   leaves_life ends.TurnsOver new out_to wrote breaks = cut_life ends.TurnsOver new out_to wrote breaks
   leaves_life ends.LinkFault new out_to wrote breaks = inr (cut_life ends.LinkFault new out_to wrote breaks)
@@ -135,9 +136,9 @@ module _ (managed : List Managed) (begin : Begin) (life : Life) (old mid opened 
   leaves_life ends.NoMemory new out_to wrote breaks = inr (inr (cut_life ends.NoMemory new out_to wrote breaks))
 
 -- it could not begin
-pub leaves_unbegun : (end : ServeEnd) (managed : List Managed) (old new : Seen) (out : Option (List ℕ)) → BeginFails end old new → Leaves end managed old new out out
-leaves_unbegun ends.End managed old new out fails = absurd fails
-leaves_unbegun ends.TurnsOver managed old new out fails = absurd fails
-leaves_unbegun ends.LinkFault managed old new out fails = inl (refl, fails)
-leaves_unbegun ends.WriteFault managed old new out fails = absurd fails
-leaves_unbegun ends.NoMemory managed old new out fails = absurd fails
+pub leaves_unbegun : (end : ServeEnd) (managed : List Managed) (specs : List IfSpec) (old new : Seen) (out : Option (List ℕ)) → BeginFails end old new → Leaves end managed specs old new out out
+leaves_unbegun ends.End managed specs old new out fails = absurd fails
+leaves_unbegun ends.TurnsOver managed specs old new out fails = absurd fails
+leaves_unbegun ends.LinkFault managed specs old new out fails = inl (refl, fails)
+leaves_unbegun ends.WriteFault managed specs old new out fails = absurd fails
+leaves_unbegun ends.NoMemory managed specs old new out fails = absurd fails

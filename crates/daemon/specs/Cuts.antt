@@ -1,5 +1,6 @@
 -- What stands written where a life was cut off, and what was asked then.
 use Rattle.std.specs.Prelude.{ℕ, ◌≡◌, ◌⊎◌, false, List, [], ◌∷◌, ◌++◌, flat_map, Option, Some, None, IfSome, Err}
+use Rattle.net_types.specs.declared.interface.IfSpec.{IfSpec}
 use Rattle.net_types.specs.declared.fault.Failed.{Failed}
 use Rattle.world.specs.LinkCalls.{Waited}
 use Rattle.settings.specs.declared.interfaces.Managed.{Managed}
@@ -73,30 +74,30 @@ pub record BreaksOff (end : ServeEnd) (managed : List Managed) (from : Life) (ol
   pub whole : AreWhole managed from old (mets ++ turns_left at)
 
 -- a life was cut off in the lines of its opening
-pub record CutOpening (end : ServeEnd) (managed : List Managed) (old new : Seen) (out_from out_to : Option (List ℕ)) : Type 0 where
+pub record CutOpening (end : ServeEnd) (managed : List Managed) (specs : List IfSpec) (old new : Seen) (out_from out_to : Option (List ℕ)) : Type 0 where
   pub begun : Begun old
   pub opening : OpeningMet
   pub rest : List Met
   pub begins : opening.begin ≡ begun.begin
-  pub opens : IsOpening managed opening
+  pub opens : IsOpening managed specs opening
   pub written : WritesFront out_from out_to [] (opening_lines opening)
   pub tells : TellsUnlessMemory end begun.seen new opening.calls
-  pub foretold : IsForetold managed old opening rest
+  pub foretold : IsForetold managed specs old opening rest
 
 -- a life was cut off after its opening and some turns, whose lines stand written whole
-pub record CutLife (end : ServeEnd) (managed : List Managed) (old new : Seen) (out_from out_to : Option (List ℕ)) : Type 0 where
+pub record CutLife (end : ServeEnd) (managed : List Managed) (specs : List IfSpec) (old new : Seen) (out_from out_to : Option (List ℕ)) : Type 0 where
   pub begun : Begun old
   pub opening : OpeningMet
   pub mets : List Met
   pub at : CutAt
   pub calls : List Call
   pub begins : opening.begin ≡ begun.begin
-  pub opens : IsOpening managed opening
+  pub opens : IsOpening managed specs opening
   pub cuts : CutsAt end (life_after opening.life mets) at calls
   pub turns : AreTurns managed opening.life (mets ++ cut_turns at)
   pub written : WritesFront out_from out_to (opening_lines opening ++ flat_map turn_lines mets) (cut_lines (life_after opening.life mets) at)
   pub tells : TellsUnlessMemory end begun.seen new (opening.calls ++ (turns_calls opening.life mets ++ calls))
-  pub foretold : IsForetold managed old opening (mets ++ turns_left at)
+  pub foretold : IsForetold managed specs old opening (mets ++ turns_left at)
 
 -- a wait that failed, or wanted memory
 abbrev pub WaitFails : ServeEnd → (until : Option ℕ) → Seen → Seen → Type 0
@@ -113,10 +114,10 @@ BeginFails ends.LinkFault old new = FailsToBegin old new
 BeginFails other old new = ⊥
 
 -- What stands written. Where beginning failed, or memory was wanted before the opening's lines were written, nothing was.
-abbrev pub Leaves : ServeEnd → List Managed → Seen → Seen → Option (List ℕ) → Option (List ℕ) → Type 0
-Leaves ends.End managed old new out_from out_to = Unit {0}
-Leaves ends.TurnsOver managed old new out_from out_to = CutLife ends.TurnsOver managed old new out_from out_to
-Leaves ends.LinkFault managed old new out_from out_to = ((out_to ≡ out_from) × FailsToBegin old new) ⊎ CutLife ends.LinkFault managed old new out_from out_to
-Leaves ends.WriteFault managed old new out_from out_to = CutOpening ends.WriteFault managed old new out_from out_to ⊎ CutLife ends.WriteFault managed old new out_from out_to
-Leaves ends.NoMemory managed old new out_from out_to =
-    (out_to ≡ out_from) ⊎ (CutOpening ends.NoMemory managed old new out_from out_to ⊎ CutLife ends.NoMemory managed old new out_from out_to)
+abbrev pub Leaves : ServeEnd → List Managed → List IfSpec → Seen → Seen → Option (List ℕ) → Option (List ℕ) → Type 0
+Leaves ends.End managed specs old new out_from out_to = Unit {0}
+Leaves ends.TurnsOver managed specs old new out_from out_to = CutLife ends.TurnsOver managed specs old new out_from out_to
+Leaves ends.LinkFault managed specs old new out_from out_to = ((out_to ≡ out_from) × FailsToBegin old new) ⊎ CutLife ends.LinkFault managed specs old new out_from out_to
+Leaves ends.WriteFault managed specs old new out_from out_to = CutOpening ends.WriteFault managed specs old new out_from out_to ⊎ CutLife ends.WriteFault managed specs old new out_from out_to
+Leaves ends.NoMemory managed specs old new out_from out_to =
+    (out_to ≡ out_from) ⊎ (CutOpening ends.NoMemory managed specs old new out_from out_to ⊎ CutLife ends.NoMemory managed specs old new out_from out_to)

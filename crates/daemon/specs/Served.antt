@@ -1,5 +1,6 @@
 -- A whole life, from its opening to its end.
 use Rattle.std.specs.Prelude.{ℕ, ◌≡◌, List, ◌++◌, Option, Some, IfSome, Ok}
+use Rattle.net_types.specs.declared.interface.IfSpec.{IfSpec}
 use Rattle.world.specs.declared.wakes.Begin.{Begin}
 use Rattle.settings.specs.declared.interfaces.Managed.{Managed}
 use Rattle.device_calls.specs.Calls.{Call}
@@ -17,21 +18,21 @@ pub record Begun (old : Seen) : Type 0 where
   pub begins : BeginsThere old seen (Ok begin)
 
 -- where all devices tell, the opening and the turns are those that they foretold
-abbrev pub IsForetold : List Managed → Seen → OpeningMet → List Met → Type 0
-IsForetold managed old opening mets =
-    IfSome (world_of old) (λ world. foretold_life managed world ≡ record { opening = opening; mets = mets })
+abbrev pub IsForetold : List Managed → List IfSpec → Seen → OpeningMet → List Met → Type 0
+IsForetold managed specs old opening mets =
+    IfSome (world_of old) (λ world. foretold_life managed specs world ≡ record { opening = opening; mets = mets })
 
 -- A life was lived to its end: it was begun once, its opening and turns asked what they are to ask, the devices that tell their
 -- calls tell these and no other, and its lines were written.
-pub record Served (managed : List Managed) (old new : Seen) (out_from out_to : Option (List ℕ)) : Type 0 where
+pub record Served (managed : List Managed) (specs : List IfSpec) (old new : Seen) (out_from out_to : Option (List ℕ)) : Type 0 where
   pub begun : Begun old
   pub opening : OpeningMet
   pub mets : List Met
   pub last : List Call
   pub begins : opening.begin ≡ begun.begin
-  pub opens : IsOpening managed opening
+  pub opens : IsOpening managed specs opening
   pub turns : AreTurns managed opening.life mets
   pub last_is : IsLast (life_after opening.life mets) last
   pub tells : Tells begun.seen new (opening.calls ++ (turns_calls opening.life mets ++ last))
   pub written : WritesLines out_from out_to (life_lines opening mets)
-  pub foretold : IsForetold managed old opening mets
+  pub foretold : IsForetold managed specs old opening mets

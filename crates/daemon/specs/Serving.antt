@@ -1,5 +1,6 @@
 -- A stretch of turns, as the loop meets them.
 use Rattle.std.specs.Prelude.{ℕ, ◌≡◌, ◌<◌, ◌≤◌, ◌+◌, List, [], ◌∷◌, ◌++◌, length, flat_map, Option, Some, IfSome}
+use Rattle.net_types.specs.declared.interface.IfSpec.{IfSpec}
 use Rattle.world.specs.declared.wakes.Begin.{Begin}
 use Rattle.world.specs.declared.wakes.Wake.{Wake}
 use Rattle.settings.specs.declared.interfaces.Managed.{Managed}
@@ -20,9 +21,9 @@ abbrev pub opening_with : Begin → List Call → Life → OpeningMet
 opening_with begin calls life = record { begin = begin; calls = calls; life = life }
 
 -- a life was opened: the calls of its opening were made, and its lines were appended
-pub record MakesOpening (managed : List Managed) (begin : Begin) (to : Life) (old new : Seen) (text_old text_new : List ℕ) : Type 0 where
+pub record MakesOpening (managed : List Managed) (specs : List IfSpec) (begin : Begin) (to : Life) (old new : Seen) (text_old text_new : List ℕ) : Type 0 where
   pub calls : List Call
-  pub did : Did (opening_asks managed begin) calls to old new
+  pub did : Did (opening_asks managed specs begin) calls to old new
   pub lines : Prints text_old text_new (opening_lines (opening_with begin calls to))
 
 -- a wake was handled: the calls of its turn were made, and its lines were appended

@@ -1,4 +1,4 @@
-ghost use Rattle.std.specs.Prelude.{◌≡◌, ◌≤◌, OnOk, IfOk, IfErr, [], ◌∷◌};
+ghost use Rattle.std.specs.Prelude.{◌≡◌, ◌≤◌, true, OnOk, IfOk, IfErr, [], ◌∷◌};
 ghost use Rattle.client_model.specs.Clients.{rows_of};
 ghost use Rattle.turn_model.specs.Lives.{hold_lines, closing_lines};
 ghost use Rattle.daemon.specs.Lives.{life_of};
@@ -52,6 +52,8 @@ pub fn close<O: Sink>(
     ensures ok { IfOk result (λ _. (O.faults out.old ≤ O.faults out.new) × WritesLines (O.written out.old) (O.written out.new) (closing_lines (life_of life.now))) }
     ensures front { IfErr result (λ _. WritesFront (O.written out.old) (O.written out.new) [] (closing_lines (life_of life.now))) }
     ensures cause { IfErr result (λ end. HasServeCause end (O.faults out.old) (O.faults out.new) 0 0) }
+    ensures steady { O.never_fails out.old ≡ true → O.faults out.new ≡ O.faults out.old }
+    ensures stays { O.never_fails out.new ≡ O.never_fails out.old }
 {
     text.clear();
     say_closing(alloc, life, text)?;

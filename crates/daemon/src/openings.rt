@@ -29,7 +29,7 @@ use client_core::{Core, Outs, core_open, rows};
 use lease_file::Got;
 use net_types::IfSpec;
 use settings::Managed;
-use std::alloc::{AllocError, Global};
+use std::alloc::Global;
 use transcript_text::{Reading, TranscriptLine};
 use world::{Begin, NoMemory};
 
@@ -178,28 +178,26 @@ fn read_all<W: Outside>(
     Ok(files)
 }
 
-/// The interfaces that are managed.
-fn managed_specs(alloc: Global, managed: &[Managed]) -> Result<Vec<IfSpec>, AllocError>
-    ensures { IfOk result (λ specs. specs.items ≡ map (λ m. m.spec) managed.now) }
-{
-    managed.iter().map(|m| m.spec).collect(alloc)
-}
-
 /// Opens the client, which may offer frames at once.
-fn open_client(alloc: Global, managed: &[Managed], begin: Begin) -> Result<(Core, Outs), NoMemory>
+fn open_client(
+    alloc: Global,
+    managed: &[Managed],
+    specs: &[IfSpec],
+    begin: Begin,
+) -> Result<(Core, Outs), NoMemory>
     requires { AreManaged managed.now }
-    ensures steps { IfOk result (λ done. Steps (opening_step managed.now begin) done.0 (asked_in done.1)) }
+    ensures steps { IfOk result (λ done. Steps (opening_step managed.now specs.now begin) done.0 (asked_in done.1)) }
     ensures on_interfaces { IfOk result (λ done. AllByRecursion IsOnInterface (sends_in done.1)) }
 {
-    let specs = managed_specs(alloc, managed)?;
-    core_open(alloc, managed, &specs, begin)
+    core_open(alloc, managed, specs, begin)
 }
 
 /// Opens a life: clears the asides, reads the files, and then does what the client's opening asks.
-/// Appends the opening's lines to `text`.
+/// Appends the opening's lines to `text`. `specs` are all interfaces of the host, managed or not.
 pub fn open<W: Outside>(
     alloc: Global,
     managed: &[Managed],
+    specs: &[IfSpec],
     begin: Begin,
     outside: &mut W,
     text: &mut Vec<u8>,
@@ -208,13 +206,13 @@ pub fn open<W: Outside>(
     ensures waiting { (W.seen outside.new).waiting ≡ (W.seen outside.old).waiting }
     ensures timely { IfOk result IsTimely }
     ensures going { IfOk result (λ life. is_over (life_of life) ≡ false) }
-    ensures made { IfOk result (λ life. MakesOpening managed.now begin (life_of life) (W.seen outside.old) (W.seen outside.new) text.old.items text.new.items) }
+    ensures made { IfOk result (λ life. MakesOpening managed.now specs.now begin (life_of life) (W.seen outside.old) (W.seen outside.new) text.old.items text.new.items) }
 {
     say(&TranscriptLine::Start(begin), text)?;
     clear(alloc, outside, text)?;
     let names = names_to_read(alloc, managed)?;
     let _files = read_all(alloc, outside, names, text)?;
-    let (core, outs) = open_client(alloc, managed, begin)?;
+    let (core, outs) = open_client(alloc, managed, specs, begin)?;
     let unsent = offer_all(outside, &outs.sends, 0, text)?;
     let known = host_turn(alloc, outside, managed, None, rows(&core), text)?;
     let life = Life {

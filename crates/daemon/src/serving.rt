@@ -1,4 +1,4 @@
-ghost use Rattle.std.specs.Prelude.{◌≡◌, ◌≢◌, ◌≤◌, [], Some, false, Ok, Err, IfOk, IfErr, length};
+ghost use Rattle.std.specs.Prelude.{◌≡◌, ◌≢◌, ◌≤◌, [], Some, true, false, Ok, Err, IfOk, IfErr, length};
 ghost use Rattle.settings.specs.Fitting.{AreManaged};
 ghost use Rattle.turn_model.specs.Turns.{is_over};
 ghost use Rattle.daemon.specs.declared.serving.ServeEnd.TheVariants.{NoMemory as no_memory};
@@ -13,6 +13,7 @@ use crate::lives::Life;
 use crate::openings::open;
 use crate::outside::Outside;
 use crate::waking::{Woken, one_turn, write_all};
+use net_types::IfSpec;
 use settings::Managed;
 use std::alloc::Global;
 use world::{Begin, Failed, NoMemory, Sink};
@@ -65,6 +66,8 @@ fn take_turns<O: Sink, W: Outside>(
     ensures cause { IfErr result (λ end. HasLifeCause end (O.faults out.old) (O.faults out.new) (W.seen outside.old).waiting.faults (W.seen outside.new).waiting.faults) }
     ensures foretold { (W.seen outside.old).waiting.failing ≡ Some [] → result ≢ Err ServeEnd.LinkFault }
     ensures many { result ≡ Err ServeEnd.TurnsOver → AreManyTurns (W.seen outside.old) turns }
+    ensures steady { O.never_fails out.old ≡ true → O.faults out.new ≡ O.faults out.old }
+    ensures stays { O.never_fails out.new ≡ O.never_fails out.old }
 {
     let mut buf = frame_buffer(alloc)?;
     let mut life = life;
@@ -93,21 +96,24 @@ fn begin<W: Outside>(outside: &mut W) -> Result<Begin, ServeEnd>
 fn live_on<O: Sink, W: Outside>(
     alloc: Global,
     managed: &[Managed],
+    specs: &[IfSpec],
     outside: &mut W,
     out: &mut O,
     turns: u64,
 ) -> Result<(), ServeEnd>
     requires { AreManaged managed.now }
-    ensures ok { IfOk result (λ _. Served managed.now (W.seen outside.old) (W.seen outside.new) (O.written out.old) (O.written out.new)) }
-    ensures cut { IfErr result (λ end. Leaves end managed.now (W.seen outside.old) (W.seen outside.new) (O.written out.old) (O.written out.new)) }
+    ensures ok { IfOk result (λ _. Served managed.now specs.now (W.seen outside.old) (W.seen outside.new) (O.written out.old) (O.written out.new)) }
+    ensures cut { IfErr result (λ end. Leaves end managed.now specs.now (W.seen outside.old) (W.seen outside.new) (O.written out.old) (O.written out.new)) }
     ensures later { IfOk result (λ _. (O.faults out.old ≤ O.faults out.new) × ((W.seen outside.old).waiting.faults ≤ (W.seen outside.new).waiting.faults)) }
     ensures cause { IfErr result (λ end. HasLifeCause end (O.faults out.old) (O.faults out.new) (W.seen outside.old).waiting.faults (W.seen outside.new).waiting.faults) }
     ensures foretold { (W.seen outside.old).waiting.failing ≡ Some [] → result ≢ Err ServeEnd.LinkFault }
     ensures many { result ≡ Err ServeEnd.TurnsOver → AreManyTurns (W.seen outside.old) turns }
+    ensures steady { O.never_fails out.old ≡ true → O.faults out.new ≡ O.faults out.old }
+    ensures stays { O.never_fails out.new ≡ O.never_fails out.old }
 {
     let start = begin(outside)?;
     let mut text = Vec::new(alloc);
-    let life = open(alloc, managed, start, outside, &mut text)?;
+    let life = open(alloc, managed, specs, start, outside, &mut text)?;
     write_all(out, &text)?;
     let last = take_turns(alloc, managed, life, outside, out, turns, &mut text)?;
     close(alloc, &last, out, &mut text)?;
@@ -115,21 +121,25 @@ fn live_on<O: Sink, W: Outside>(
 }
 
 /// Runs one life over the devices, from its start line to its end line, with at most so many wakes.
+/// `specs` are all interfaces of the host, managed or not.
 pub fn serve<O: Sink, W: Outside>(
     alloc: Global,
     managed: &[Managed],
+    specs: &[IfSpec],
     live: &mut W,
     out: &mut O,
     turns: u64,
 ) -> ServeEnd
     requires { AreManaged managed.now }
-    ensures served { result ≡ ServeEnd.End → Served managed.now (W.seen live.old) (W.seen live.new) (O.written out.old) (O.written out.new) }
-    ensures cut { Leaves result managed.now (W.seen live.old) (W.seen live.new) (O.written out.old) (O.written out.new) }
+    ensures served { result ≡ ServeEnd.End → Served managed.now specs.now (W.seen live.old) (W.seen live.new) (O.written out.old) (O.written out.new) }
+    ensures cut { Leaves result managed.now specs.now (W.seen live.old) (W.seen live.new) (O.written out.old) (O.written out.new) }
     ensures cause { HasEndCause result (O.faults out.old) (O.faults out.new) (W.seen live.old).waiting.faults (W.seen live.new).waiting.faults }
     ensures foretold { (W.seen live.old).waiting.failing ≡ Some [] → result ≢ ServeEnd.LinkFault }
     ensures many { result ≡ ServeEnd.TurnsOver → AreManyTurns (W.seen live.old) turns }
+    ensures steady { O.never_fails out.old ≡ true → O.faults out.new ≡ O.faults out.old }
+    ensures stays { O.never_fails out.new ≡ O.never_fails out.old }
 {
-    match live_on(alloc, managed, live, out, turns) {
+    match live_on(alloc, managed, specs, live, out, turns) {
         Ok(()) => ServeEnd::End,
         Err(end) => end,
     }

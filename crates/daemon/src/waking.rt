@@ -22,6 +22,8 @@ pub fn write_all<O: Sink>(out: &mut O, bytes: &[u8]) -> Result<(), ServeEnd>
     ensures some { IfErr result (λ _. WritesSome (O.written out.old) (O.written out.new) bytes.now) }
     ensures cause { IfErr result (λ end. HasServeCause end (O.faults out.old) (O.faults out.new) 0 0) }
     ensures memory { result ≡ Err ServeEnd.NoMemory → O.faults out.new ≡ O.faults out.old }
+    ensures steady { O.never_fails out.old ≡ true → O.faults out.new ≡ O.faults out.old }
+    ensures stays { O.never_fails out.new ≡ O.never_fails out.old }
 {
     match out.write(bytes) {
         Ok(()) => Ok(()),
@@ -115,6 +117,8 @@ pub fn one_turn<O: Sink, W: Outside>(
     ensures cause { IfErr result (λ end. HasServeCause end (O.faults out.old) (O.faults out.new) (W.seen outside.old).waiting.faults (W.seen outside.new).waiting.faults) }
     ensures foretold { (W.seen outside.old).waiting.failing ≡ Some [] → result ≢ Err ServeEnd.LinkFault }
     ensures failing { (W.seen outside.new).waiting.failing ≡ (W.seen outside.old).waiting.failing }
+    ensures steady { O.never_fails out.old ≡ true → O.faults out.new ≡ O.faults out.old }
+    ensures stays { O.never_fails out.new ≡ O.never_fails out.old }
 {
     let wake = wait(outside, life.until(), buf)?;
     if ends_life(wake.event) {

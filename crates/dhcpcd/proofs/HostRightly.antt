@@ -69,10 +69,10 @@ module _ (bytes : List ℕ) (script : ScriptLines) (managed : List Managed) (is 
     world = world_in failing (at_first rows) life
 
     abbrev begun : Running
-    begun = opened_in managed failing (at_first rows) life
+    begun = opened_in managed script.ifaces failing (at_first rows) life
 
     abbrev all_mets : List Met
-    all_mets = mets_in managed failing (at_first rows) life
+    all_mets = mets_in managed script.ifaces failing (at_first rows) life
 
     -- ---- the turns that the evidence speaks of are those of the transcript
 
@@ -80,33 +80,33 @@ module _ (bytes : List ℕ) (script : ScriptLines) (managed : List Managed) (is 
     mets_length running [] = refl
     mets_length running (given ∷ turns) = ap (λ (n : ℕ). suc n) (mets_length (running_turned managed running given) turns)
 
-    handled_mets : (earlier : List Given) (given : Given) (coming : List Given) → IsTurn managed failing (at_first rows) life earlier given coming
+    handled_mets : (earlier : List Given) (given : Given) (coming : List Given) → IsTurn managed script.ifaces failing (at_first rows) life earlier given coming
         → mets_of managed begun (earlier ++ given ∷ []) ≡ take (length earlier + 1) all_mets
     handled_mets earlier given coming turn =
         let met : List Met = mets_of managed begun (earlier ++ given ∷ []) in
         let after : Running = running_after managed (earlier ++ given ∷ []) begun in
         let later : List Met = told_turns managed after.life after.world coming in
-        let comes : begun.world.link.told.coming ≡ life.turns = run_coming (opening_asks managed life.begin) (world_in failing (at_first rows) life) in
+        let comes : begun.world.link.told.coming ≡ life.turns = run_coming (opening_asks managed script.ifaces life.begin) (world_in failing (at_first rows) life) in
         let all : all_mets ≡ told_turns managed begun.life begun.world (earlier ++ given ∷ coming) = ap (told_turns managed begun.life begun.world) (comes ∙ turn.stands) in
         let parts : all_mets ≡ met ++ later =
         all ∙ foretold managed begun earlier given coming (subst (λ (ms : List Met). length earlier < length ms) all turn.handled) in
         let count : length met ≡ length earlier + 1 = mets_length begun (earlier ++ given ∷ []) ∙ length-append earlier (given ∷ []) in
         sym (take-append_seam met later) ∙ ap (λ (n : ℕ). take n (met ++ later)) count ∙ ap (take (length earlier + 1)) (sym parts)
 
-    first_holds : HoldsRightly managed failing (at_first rows) life
+    first_holds : HoldsRightly managed script.ifaces failing (at_first rows) life
     first_holds = record {
-      opening_holds = opening_holds managed (world_in failing (at_first rows) life) (in_order_sorted rows);
-      turns_hold = λ earlier given. turn_in_life managed (world_in failing (at_first rows) life) (in_order_sorted rows) earlier given;
-      opening_rests = λ well. opening_rests managed (world_in failing (at_first rows) life) numbered (in_order_sorted rows) well;
+      opening_holds = opening_holds managed script.ifaces (world_in failing (at_first rows) life) (in_order_sorted rows);
+      turns_hold = λ earlier given. turn_in_life managed script.ifaces (world_in failing (at_first rows) life) (in_order_sorted rows) earlier given;
+      opening_rests = λ well. opening_rests managed script.ifaces (world_in failing (at_first rows) life) numbered (in_order_sorted rows) well;
       turns_rest = λ earlier given coming turn well.
-          subst (λ (ms : List Met). RestOnEvidence managed (opening_in managed failing (at_first rows) life) ms (lived_on managed failing (at_first rows) life earlier given).world.host.told.rows) (handled_mets earlier given coming turn)
-          (turns_rest managed (world_in failing (at_first rows) life) earlier given numbered (in_order_sorted rows) well);
+          subst (λ (ms : List Met). RestOnEvidence managed script.ifaces (opening_in managed script.ifaces failing (at_first rows) life) ms (lived_on managed script.ifaces failing (at_first rows) life earlier given).world.host.told.rows) (handled_mets earlier given coming turn)
+          (turns_rest managed script.ifaces (world_in failing (at_first rows) life) earlier given numbered (in_order_sorted rows) well);
     }
 
-  only_first : (failing : Failing) (rows : List HostRow) (lives : List LifeScript) → length lives ≡ 1 → AllHoldRightly managed failing (at_first rows) lives
+  only_first : (failing : Failing) (rows : List HostRow) (lives : List LifeScript) → length lives ≡ 1 → AllHoldRightly managed script.ifaces failing (at_first rows) lives
   only_first failing rows [] one = absurd (omega (arith, one))
   only_first failing rows (life ∷ []) one = (first_holds failing rows life, tt)
   only_first failing rows (life ∷ next ∷ lives) one = absurd (omega (arith, one))
 
-  pub holds_rightly : AllHoldRightly managed (failing_in script.fails) (at_first script.rows) script.lives
+  pub holds_rightly : AllHoldRightly managed script.ifaces (failing_in script.fails) (at_first script.rows) script.lives
   holds_rightly = only_first (failing_in script.fails) script.rows script.lives (let fits = is.fits in fits.one)

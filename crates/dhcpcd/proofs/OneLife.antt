@@ -1,5 +1,6 @@
 -- The lives of a script that has one.
 use Rattle.std.proofs.Common.{ℕ, ◌≡◌, ◌+◌, List, [], ◌∷◌, ◌++◌, map, length, Option, refl, sym, ap, subst, ◌∙◌, append-nil, arith}
+use Rattle.net_types.specs.declared.interface.IfSpec.{IfSpec}
 use Rattle.settings.specs.declared.interfaces.Managed.{Managed}
 use Rattle.script_model.specs.Lines.{Line}
 use Rattle.script_model.specs.Lines as lines
@@ -18,18 +19,18 @@ only lives [] life is one = ap (map life_of) is
 only lives (first ∷ []) life is one = absurd (omega (arith, sym (ap (λ (ls : List LifeLines). length (map life_of ls)) is) ∙ one))
 only lives (first ∷ next ∷ before) life is one = absurd (omega (arith, sym (ap (λ (ls : List LifeLines). length (map life_of ls)) is) ∙ one))
 
-module _ (managed : List Managed) (failing : Failing) (between : Between) (lives before : List LifeLines) (life : LifeLines) (is : lives ≡ before ++ life ∷ []) (one : length (map life_of lives) ≡ 1) where
+module _ (managed : List Managed) (specs : List IfSpec) (failing : Failing) (between : Between) (lives before : List LifeLines) (life : LifeLines) (is : lives ≡ before ++ life ∷ []) (one : length (map life_of lives) ≡ 1) where
   abbrev number : List Line
   number = lines.Life (between.lives + 1) ∷ []
 
   abbrev lived : List Line
-  lived = lines_in managed failing between (life_of life)
+  lived = lines_in managed specs failing between (life_of life)
 
   abbrev all : List Line
-  all = lives_lines managed failing between (map life_of lives)
+  all = lives_lines managed specs failing between (map life_of lives)
 
   same : number ++ lived ≡ all
-  same = sym (append-nil (number ++ lived)) ∙ ap (lives_lines managed failing between) (sym (only lives before life is one))
+  same = sym (append-nil (number ++ lived)) ∙ ap (lives_lines managed specs failing between) (sym (only lives before life is one))
 
   pub lived_one : (old mid new : Option (List ℕ)) → WritesLines old mid number → WritesLines mid new lived → WritesLines old new all
   lived_one old mid new begun written = subst (WritesLines old new) same (lines_then old mid new number lived begun written)

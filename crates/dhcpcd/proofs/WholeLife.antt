@@ -19,6 +19,7 @@ use Rattle.daemon.specs.Streams.{WritesBytes, WritesSome, WritesLines, WritesFro
 use Rattle.world.specs.declared.rows.HostRow.{HostRow}
 use Rattle.std.specs.List.{AllByRecursion}
 use Rattle.std.proofs.lemmas.List.Elements.{recursion_from_All}
+use Rattle.net_types.specs.declared.interface.IfSpec.{IfSpec}
 use Rattle.daemon.specs.Served.{IsForetold, Served}
 use Rattle.device_calls.specs.Printing.{Prints}
 use Rattle.daemon.specs.declared.serving.ServeEnd.{ServeEnd}
@@ -33,9 +34,9 @@ use Rattle.world_mem.specs.HostRecord.{HostState}
 use Rattle.dhcpcd.specs.Memory.{link_of, store_of, first_host, host_of}
 use Rattle.dhcpcd.specs.Replays.{failing_in, at_first, world_in, lines_in}
 
-module _ (managed : List Managed) (rows : List HostRow) (fails : List FailLine) (life : LifeScript) where
+module _ (managed : List Managed) (specs : List IfSpec) (rows : List HostRow) (fails : List FailLine) (life : LifeScript) where
   abbrev lines : List Line
-  lines = lines_in managed (failing_in fails) (at_first rows) life
+  lines = lines_in managed specs (failing_in fails) (at_first rows) life
 
   -- the devices of a script's first life, as the loop sees them
   abbrev pub IsFirst : Seen → Type 0
@@ -46,23 +47,23 @@ module _ (managed : List Managed) (rows : List HostRow) (fails : List FailLine) 
   is_first link store host l s h =
       λ i. world_from (told_from (Some (l i).told) (Some (l i).failing_sends)) (told_from (Some (h i).told) (Some (h i).failing)) (told_from (Some (s i).told) (Some (s i).failing))
 
-  told_lines : (seen : Seen) (opening : OpeningMet) (mets : List Met) → IsFirst seen → IsForetold managed seen opening mets → life_lines opening mets ≡ lines
+  told_lines : (seen : Seen) (opening : OpeningMet) (mets : List Met) → IsFirst seen → IsForetold managed specs seen opening mets → life_lines opening mets ≡ lines
   unfolding lines_in
   told_lines seen opening mets first told =
-      let here : foretold_life managed (world_in (failing_in fails) (at_first rows) life) ≡ record { opening = opening; mets = mets } =
-      subst (λ (w : Option World). IfSome w (λ world. foretold_life managed world ≡ record { opening = opening; mets = mets })) first told in
+      let here : foretold_life managed specs (world_in (failing_in fails) (at_first rows) life) ≡ record { opening = opening; mets = mets } =
+      subst (λ (w : Option World). IfSome w (λ world. foretold_life managed specs world ≡ record { opening = opening; mets = mets })) first told in
       ap (λ (f : ForetoldLife). life_lines f.opening f.mets) (sym here)
 
-  pub lived : (seen new_seen : Seen) (old new : Option (List ℕ)) → IsFirst seen → Served managed seen new_seen old new → WritesLines old new lines
+  pub lived : (seen new_seen : Seen) (old new : Option (List ℕ)) → IsFirst seen → Served managed specs seen new_seen old new → WritesLines old new lines
   lived seen new_seen old new first served = subst (λ (l : List Line). WritesLines old new l) (told_lines seen served.opening served.mets first served.foretold) served.written
 
   module _ (seen new_seen : Seen) (first : IsFirst seen) (old new : Option (List ℕ)) where
-    cut_in_opening : (end : ServeEnd) → CutOpening end managed seen new_seen old new → WritesFront old new [] lines
+    cut_in_opening : (end : ServeEnd) → CutOpening end managed specs seen new_seen old new → WritesFront old new [] lines
     cut_in_opening end cut =
         subst (λ (l : List Line). WritesFront old new [] l) (told_lines seen cut.opening cut.rest first cut.foretold)
         (front_wider old new [] (opening_lines cut.opening) (flat_map turn_lines cut.rest ++ closing_lines (life_after cut.opening.life cut.rest)) cut.written)
 
-    cut_later : (end : ServeEnd) → CutLife end managed seen new_seen old new → WritesFront old new [] lines
+    cut_later : (end : ServeEnd) → CutLife end managed specs seen new_seen old new → WritesFront old new [] lines
     cut_later end cut =
         subst (λ (l : List Line). WritesFront old new [] l) (told_lines seen cut.opening (cut.mets ++ turns_left cut.at) first cut.foretold)
         (front_of_life cut.opening cut.mets cut.at old new cut.written)
@@ -71,7 +72,7 @@ module _ (managed : List Managed) (rows : List HostRow) (fails : List FailLine) 
     untouched same = subst (λ (o : Option (List ℕ)). WritesFront old o [] lines) (sym same) (front_none old lines)
 
     -- a write failed in the life, or memory was wanted
-    pub stops_life : (end : ServeEnd) → (end ≡ ends.WriteFault) ⊎ (end ≡ ends.NoMemory) → Leaves end managed seen new_seen old new → WritesFront old new [] lines
+    pub stops_life : (end : ServeEnd) → (end ≡ ends.WriteFault) ⊎ (end ≡ ends.NoMemory) → Leaves end managed specs seen new_seen old new → WritesFront old new [] lines
     stops_life ends.End is leaves = ⊎_elim (λ e. absurd cc) (λ e. absurd cc) is
     stops_life ends.TurnsOver is cut = cut_later ends.TurnsOver cut
     stops_life ends.LinkFault is leaves = ⊎_elim (λ unbegun. untouched unbegun.0) (cut_later ends.LinkFault) leaves

@@ -1,5 +1,6 @@
 -- The transcript of a script: its head, and its lives one after another.
 use Rattle.std.specs.Prelude.{ℕ, ◌≡◌, ◌+◌, List, [], ◌∷◌, ◌++◌, map, flat_map, take, length, Some, None}
+use Rattle.net_types.specs.declared.interface.IfSpec.{IfSpec}
 use Rattle.settings.specs.declared.interfaces.Managed.{Managed}
 use Rattle.world.specs.HostCalls.{HostTold}
 use Rattle.world.specs.StoreCalls.{StoreTold}
@@ -52,39 +53,39 @@ world_in failing between life = record {
 }
 
 -- the opening that the devices foretell
-abbrev pub opening_in : List Managed → Failing → Between → LifeScript → OpeningMet
-opening_in managed failing between life = opening_of managed (world_in failing between life)
+abbrev pub opening_in : List Managed → List IfSpec → Failing → Between → LifeScript → OpeningMet
+opening_in managed specs failing between life = opening_of managed specs (world_in failing between life)
 
 -- a life after its opening
-abbrev pub opened_in : List Managed → Failing → Between → LifeScript → Running
-opened_in managed failing between life = running_opened managed (world_in failing between life)
+abbrev pub opened_in : List Managed → List IfSpec → Failing → Between → LifeScript → Running
+opened_in managed specs failing between life = running_opened managed specs (world_in failing between life)
 
 -- the turns that the devices foretell
-abbrev pub mets_in : List Managed → Failing → Between → LifeScript → List Met
-mets_in managed failing between life = (foretold_life managed (world_in failing between life)).mets
+abbrev pub mets_in : List Managed → List IfSpec → Failing → Between → LifeScript → List Met
+mets_in managed specs failing between life = (foretold_life managed specs (world_in failing between life)).mets
 
 -- what a life leaves to the next one: its turns up to the one that ended it were handled
-abbrev pub after_life : List Managed → Failing → Between → LifeScript → Between
-after_life managed failing between life =
-    let handled = take (length (mets_in managed failing between life)) life.turns in
-    let over = running_after managed handled (opened_in managed failing between life) in
+abbrev pub after_life : List Managed → List IfSpec → Failing → Between → LifeScript → Between
+after_life managed specs failing between life =
+    let handled = take (length (mets_in managed specs failing between life)) life.turns in
+    let over = running_after managed handled (opened_in managed specs failing between life) in
     record { lives = between.lives + 1; sent = over.world.link.told.sends; host = over.world.host.told; store = over.world.store.told }
 
 -- the life of the abstract client over these devices
-unfoldable pub lines_in : List Managed → Failing → Between → LifeScript → List Line
-lines_in managed failing between life = life_lines (opening_in managed failing between life) (mets_in managed failing between life)
+unfoldable pub lines_in : List Managed → List IfSpec → Failing → Between → LifeScript → List Line
+lines_in managed specs failing between life = life_lines (opening_in managed specs failing between life) (mets_in managed specs failing between life)
 
 -- lives one after another, each with its number
-abbrev pub lives_lines : List Managed → Failing → Between → List LifeScript → List Line
-lives_lines managed failing between [] = []
-lives_lines managed failing between (life ∷ lives) =
-    (lines.Life (between.lives + 1) ∷ lines_in managed failing between life) ++ lives_lines managed failing (after_life managed failing between life) lives
+abbrev pub lives_lines : List Managed → List IfSpec → Failing → Between → List LifeScript → List Line
+lives_lines managed specs failing between [] = []
+lives_lines managed specs failing between (life ∷ lives) =
+    (lines.Life (between.lives + 1) ∷ lines_in managed specs failing between life) ++ lives_lines managed specs failing (after_life managed specs failing between life) lives
 
 unfoldable pub head_lines : ScriptLines → List Line
 head_lines script = lines.Head ∷ (map lines.Conf script.conf ++ map lines.Interface script.ifaces)
 
 abbrev pub lives_of_script : List Managed → ScriptLines → List Line
-lives_of_script managed script = lives_lines managed (failing_in script.fails) (at_first script.rows) script.lives
+lives_of_script managed script = lives_lines managed script.ifaces (failing_in script.fails) (at_first script.rows) script.lives
 
 abbrev pub transcript : List Managed → ScriptLines → List Line
 transcript managed script = head_lines script ++ lives_of_script managed script

@@ -33,7 +33,7 @@ pub record IsReplayed (input : Option (List ℕ)) (old new : Option (List ℕ)) 
   pub in_limit : length bytes ≤ limit
   pub is_script : IsScript bytes script managed
   pub written : WritesLines old new (transcript managed script)
-  pub host : AllHoldRightly managed (failing_in script.fails) (at_first script.rows) script.lives
+  pub host : AllHoldRightly managed script.ifaces (failing_in script.fails) (at_first script.rows) script.lives
 
 -- the input was a script, and a front of the bytes of its transcript was written
 pub record IsStopped (input : Option (List ℕ)) (old new : Option (List ℕ)) : Type 0 where

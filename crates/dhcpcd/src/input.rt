@@ -1,4 +1,4 @@
-ghost use Rattle.std.specs.Prelude.{◌≡◌, ◌≢◌, ◌≤◌, ◌<◌, ◌+◌, Ok, Err, IfOk, IfErr, length, vec_len};
+ghost use Rattle.std.specs.Prelude.{◌≡◌, ◌≢◌, ◌≤◌, ◌<◌, ◌+◌, true, Ok, Err, IfOk, IfErr, length, vec_len};
 ghost use Rattle.dhcpcd.specs.Input.{CountsTaken, Moves, TakesSome, ReadsWithin, IsInput, IsTooLong, input_told, limit};
 ghost use Rattle.dhcpcd.specs.Statuses.{HasStatusCause, StopsReading};
 
@@ -22,6 +22,8 @@ fn read_some<I: Source>(input: &mut I, piece: &mut [u8], all: &mut Vec<u8>) -> R
     ensures counted { IfOk result (λ n. CountsTaken n (I.taken input.old) (I.taken input.new)) }
     ensures taken { IfErr result (λ _. TakesSome (length piece.old) (input_told (I.left input.old) (I.taken input.old) (I.reads input.old)) (input_told (I.left input.new) (I.taken input.new) (I.reads input.new))) }
     ensures reads { I.reads input.new ≤ I.reads input.old + 1 }
+    ensures steady { I.never_fails input.old ≡ true → I.faults input.new ≡ I.faults input.old }
+    ensures stays { I.never_fails input.new ≡ I.never_fails input.old }
     ensures any_length { result ≢ Err Status.TooLong }
 {
     match input.read(piece) {
@@ -48,6 +50,8 @@ pub fn read_all<I: Source>(alloc: Global, input: &mut I) -> Result<Vec<u8>, Stat
     ensures cause { IfErr result (λ status. HasStatusCause status (I.faults input.old) (I.faults input.new) 0 0 × StopsReading status) }
     ensures too_long { result ≡ Err Status.TooLong → IsTooLong (I.left input.old) }
     ensures reads { ReadsWithin (input_told (I.left input.old) (I.taken input.old) (I.reads input.old)) (input_told (I.left input.new) (I.taken input.new) (I.reads input.new)) }
+    ensures steady { I.never_fails input.old ≡ true → I.faults input.new ≡ I.faults input.old }
+    ensures stays { I.never_fails input.new ≡ I.never_fails input.old }
 {
     let mut all = Vec::new(alloc);
     let mut buf = piece_buffer(alloc)?;

@@ -1,5 +1,5 @@
 //! The lives of a script.
-ghost use Rattle.std.specs.Prelude.{◌≤◌, [], IfOk, IfErr, All};
+ghost use Rattle.std.specs.Prelude.{◌≡◌, ◌≤◌, [], true, IfOk, IfErr, All};
 ghost use Rattle.world.specs.Rows.{IsRow};
 ghost use Rattle.settings.specs.Fitting.{AreManaged};
 ghost use Rattle.script_model.specs.FailingCalls.{FitsFail};
@@ -13,17 +13,20 @@ use crate::memory::devices;
 use crate::status::Status;
 use crate::writing::begin_life;
 use daemon::{ServeEnd, serve};
+use net_types::IfSpec;
 use replay_text::{LifeLines, Script};
 use script_model::FailLine;
 use settings::Managed;
 use std::alloc::Global;
 use world::{HostRow, Sink};
 
-/// Lives a life over devices in memory, which begin with these rows, and writes its lines.
+/// Lives a life over devices in memory, which begin with these rows, and writes its lines. `specs` are all interfaces of
+/// the host, managed or not.
 #[tactic(auto, using(daemon::proofs::CutOffs::front_none))]
 fn replay_life<O: Sink>(
     alloc: Global,
     managed: &[Managed],
+    specs: &[IfSpec],
     rows: Vec<HostRow>,
     fails: &[FailLine],
     life: LifeLines,
@@ -32,13 +35,15 @@ fn replay_life<O: Sink>(
     requires managed { AreManaged managed.now }
     requires rows { All IsRow rows.items }
     requires fails { All FitsFail fails.now }
-    ensures ok { IfOk result (λ _. (O.faults out.old ≤ O.faults out.new) × WritesLines (O.written out.old) (O.written out.new) (lines_in managed.now (failing_in fails.now) (at_first rows.items) (content.life_of life))) }
-    ensures front { IfErr result (λ _. WritesFront (O.written out.old) (O.written out.new) [] (lines_in managed.now (failing_in fails.now) (at_first rows.items) (content.life_of life))) }
+    ensures ok { IfOk result (λ _. (O.faults out.old ≤ O.faults out.new) × WritesLines (O.written out.old) (O.written out.new) (lines_in managed.now specs.now (failing_in fails.now) (at_first rows.items) (content.life_of life))) }
+    ensures front { IfErr result (λ _. WritesFront (O.written out.old) (O.written out.new) [] (lines_in managed.now specs.now (failing_in fails.now) (at_first rows.items) (content.life_of life))) }
     ensures cause { IfErr result (λ status. HasStatusCause status 0 0 (O.faults out.old) (O.faults out.new) × StopsWriting status) }
+    ensures steady { O.never_fails out.old ≡ true → O.faults out.new ≡ O.faults out.old }
+    ensures stays { O.never_fails out.new ≡ O.never_fails out.old }
 {
     let turns = life.turns.len() as u64 + 1;
     let mut live = devices(alloc, rows, fails, life)?;
-    match serve(alloc, managed, &mut live, out, turns) {
+    match serve(alloc, managed, specs, &mut live, out, turns) {
         ServeEnd::End => Ok(()),
         ServeEnd::WriteFault => Err(Status::WriteFault),
         ServeEnd::NoMemory => Err(Status::NoMemory),
@@ -60,10 +65,12 @@ pub fn replay_lives<O: Sink>(
     ensures ok { IfOk result (λ _. (O.faults out.old ≤ O.faults out.new) × WritesLines (O.written out.old) (O.written out.new) (lives_of_script managed.now (content.script_of script))) }
     ensures front { IfErr result (λ _. WritesFront (O.written out.old) (O.written out.new) [] (lives_of_script managed.now (content.script_of script))) }
     ensures cause { IfErr result (λ status. HasStatusCause status 0 0 (O.faults out.old) (O.faults out.new) × StopsWriting status) }
+    ensures steady { O.never_fails out.old ≡ true → O.faults out.new ≡ O.faults out.old }
+    ensures stays { O.never_fails out.new ≡ O.never_fails out.old }
 {
     let Script {
         conf: _,
-        ifaces: _,
+        ifaces,
         rows,
         fails,
         mut lives,
@@ -71,7 +78,7 @@ pub fn replay_lives<O: Sink>(
     match lives.pop() {
         Some(life) => {
             begin_life(alloc, 1, out)?;
-            replay_life(alloc, managed, rows, &fails, life, out)?;
+            replay_life(alloc, managed, &ifaces, rows, &fails, life, out)?;
             Ok(())
         }
         None => Ok(()),

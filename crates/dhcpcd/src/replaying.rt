@@ -1,4 +1,4 @@
-ghost use Rattle.std.specs.Prelude.{◌≢◌, ◌≤◌, [], Err, IfOk, IfErr};
+ghost use Rattle.std.specs.Prelude.{◌≡◌, ◌≢◌, ◌≤◌, [], true, Err, IfOk, IfErr};
 ghost use Rattle.settings.specs.Fitting.{AreManaged};
 ghost use Rattle.script_model.specs.Scripts.{FitsScript};
 ghost use Rattle.replay_text.specs.ScriptContent as content;
@@ -23,6 +23,8 @@ fn write_transcript<O: Sink>(alloc: Global, settled: Settled, out: &mut O) -> Re
     ensures ok { IfOk result (λ _. (O.faults out.old ≤ O.faults out.new) × WritesLines (O.written out.old) (O.written out.new) (transcript settled.managed.items (content.script_of settled.script))) }
     ensures front { IfErr result (λ _. WritesFront (O.written out.old) (O.written out.new) [] (transcript settled.managed.items (content.script_of settled.script))) }
     ensures cause { IfErr result (λ status. HasStatusCause status 0 0 (O.faults out.old) (O.faults out.new) × StopsWriting status) }
+    ensures steady { O.never_fails out.old ≡ true → O.faults out.new ≡ O.faults out.old }
+    ensures stays { O.never_fails out.new ≡ O.never_fails out.old }
 {
     let Settled { script, managed } = settled;
     write_head(alloc, &script, out)?;
@@ -38,6 +40,8 @@ pub fn replay<I: Source, O: Sink>(alloc: Global, input: &mut I, out: &mut O) -> 
     ensures cause { IfErr result (λ status. HasStatusCause status (I.faults input.old) (I.faults input.new) (O.faults out.old) (O.faults out.new)) }
     ensures not_done { result ≢ Err Status.Done }
     ensures reads { ReadsWithin (input_told (I.left input.old) (I.taken input.old) (I.reads input.old)) (input_told (I.left input.new) (I.taken input.new) (I.reads input.new)) }
+    ensures input_steady { I.never_fails input.old ≡ true → I.faults input.new ≡ I.faults input.old }
+    ensures out_steady { O.never_fails out.old ≡ true → O.faults out.new ≡ O.faults out.old }
 {
     let bytes = read_all(alloc, input)?;
     let settled = settle(alloc, &bytes)?;

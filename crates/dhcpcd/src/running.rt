@@ -41,6 +41,7 @@ pub fn run<I: Source, O: Sink>(
     ensures usage { (AskReplay (map string_bytes words.now) → ⊥) → (result ≡ Status.Usage) × (I.reads input.new ≡ I.reads input.old) × (I.left input.new ≡ I.left input.old) × (O.written out.new ≡ O.written out.old) }
     ensures cause { HasStatusCause result (I.faults input.old) (I.faults input.new) (O.faults out.old) (O.faults out.new) }
     ensures complete { AskReplay (map string_bytes words.now) → SpellsScript (I.left input.old) → I.faults input.new ≡ I.faults input.old → O.faults out.new ≡ O.faults out.old → CompletesScript result }
+    ensures replays { AskReplay (map string_bytes words.now) → SpellsScript (I.left input.old) → I.never_fails input.old ≡ true → O.never_fails out.old ≡ true → CompletesScript result }
     ensures reads { AskReplay (map string_bytes words.now) → ReadsWithin (input_told (I.left input.old) (I.taken input.old) (I.reads input.old)) (input_told (I.left input.new) (I.taken input.new) (I.reads input.new)) }
 {
     if !is_alone(words, "replay") {

@@ -1,5 +1,5 @@
 //! Writing to a stream, a few lines in one call.
-ghost use Rattle.std.specs.Prelude.{◌≤◌, [], ◌∷◌, IfOk, IfErr};
+ghost use Rattle.std.specs.Prelude.{◌≡◌, ◌≤◌, [], ◌∷◌, true, IfOk, IfErr};
 ghost use Rattle.script_model.specs.Lines as lines;
 ghost use Rattle.replay_text.specs.ScriptContent as content;
 ghost use Rattle.daemon.specs.Streams.{WritesFront};
@@ -20,6 +20,8 @@ pub fn write_text<O: Sink>(out: &mut O, text: &[u8]) -> Result<(), Status>
     ensures ok { IfOk result (λ _. (O.faults out.old ≤ O.faults out.new) × WritesBytes (O.written out.old) (O.written out.new) text.now) }
     ensures some { IfErr result (λ _. WritesSome (O.written out.old) (O.written out.new) text.now) }
     ensures cause { IfErr result (λ status. HasStatusCause status 0 0 (O.faults out.old) (O.faults out.new) × StopsWriting status) }
+    ensures steady { O.never_fails out.old ≡ true → O.faults out.new ≡ O.faults out.old }
+    ensures stays { O.never_fails out.new ≡ O.never_fails out.old }
 {
     match out.write(text) {
         Ok(()) => Ok(()),
@@ -34,6 +36,8 @@ pub fn write_head<O: Sink>(alloc: Global, script: &Script, out: &mut O) -> Resul
     ensures ok { IfOk result (λ _. (O.faults out.old ≤ O.faults out.new) × WritesLines (O.written out.old) (O.written out.new) (head_lines (content.script_of script.now))) }
     ensures front { IfErr result (λ _. WritesFront (O.written out.old) (O.written out.new) [] (head_lines (content.script_of script.now))) }
     ensures cause { IfErr result (λ status. HasStatusCause status 0 0 (O.faults out.old) (O.faults out.new) × StopsWriting status) }
+    ensures steady { O.never_fails out.old ≡ true → O.faults out.new ≡ O.faults out.old }
+    ensures stays { O.never_fails out.new ≡ O.never_fails out.old }
 {
     let mut text = Vec::new(alloc);
     say_head(script, &mut text)?;
@@ -47,6 +51,8 @@ pub fn begin_life<O: Sink>(alloc: Global, number: u64, out: &mut O) -> Result<()
     ensures ok { IfOk result (λ _. (O.faults out.old ≤ O.faults out.new) × WritesLines (O.written out.old) (O.written out.new) (lines.Life number ∷ [])) }
     ensures front { IfErr result (λ _. WritesFront (O.written out.old) (O.written out.new) [] (lines.Life number ∷ [])) }
     ensures cause { IfErr result (λ status. HasStatusCause status 0 0 (O.faults out.old) (O.faults out.new) × StopsWriting status) }
+    ensures steady { O.never_fails out.old ≡ true → O.faults out.new ≡ O.faults out.old }
+    ensures stays { O.never_fails out.new ≡ O.never_fails out.old }
 {
     let mut text = Vec::new(alloc);
     say(&TranscriptLine::Life(number), &mut text)?;

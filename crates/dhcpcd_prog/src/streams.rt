@@ -1,4 +1,4 @@
-ghost use Rattle.std.specs.Prelude.{◌≡◌, None, Ok};
+ghost use Rattle.std.specs.Prelude.{◌≡◌, false, None, Ok};
 ghost use Rattle.world.specs.Streams.{taken_after};
 
 use std::io::{Read, Write};
@@ -37,6 +37,8 @@ impl StdSource {
 impl Source for StdSource {
     ghost faults = { λ source. source.faults };
 
+    ghost never_fails = { λ source. false };
+
     ghost reads = { λ source. source.reads };
 
     ghost taken = { λ source. source.taken };
@@ -73,6 +75,8 @@ impl StdSink {
 
 impl Sink for StdSink {
     ghost faults = { λ sink. sink.faults };
+
+    ghost never_fails = { λ sink. false };
 
     ghost written = { λ sink. None };
 

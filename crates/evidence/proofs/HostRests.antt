@@ -1,5 +1,6 @@
 -- The host's addresses are wanted ones, and what is wanted has its basis.
 use Rattle.std.proofs.Common.{◌≡◌, Bool, true, false, ◌&&◌, List, [], ◌∷◌, ◌++◌, refl, sym, ap, subst, ◌∙◌}
+use Rattle.net_types.specs.declared.interface.IfSpec.{IfSpec}
 use Rattle.world.specs.declared.rows.HostRow.{HostRow}
 use Rattle.world.specs.declared.rows.HostRow.TheVariants.{Addr}
 use Rattle.world.specs.LinkCalls.{Given}
@@ -30,8 +31,8 @@ module _ (managed : List Managed) where
     are_made coming (running_turned managed running given),
   )
 
-  pub is_opening : (world : World) → IsOpening managed (opening_of managed world)
-  is_opening world = run_makes (opening_asks managed world.link.told.begin) world
+  pub is_opening : (specs : List IfSpec) (world : World) → IsOpening managed specs (opening_of managed specs world)
+  is_opening specs world = run_makes (opening_asks managed specs world.link.told.begin) world
 
   life_met : (turns : List Given) (running : Running)
       → (running_after managed turns running).life ≡ life_after running.life (mets_of managed running turns)
@@ -49,27 +50,27 @@ module _ (managed : List Managed) where
   both true b p q = q
   both false b p q = cc
 
-  rest : (world : World) (turns : List Given) (after : Running) → AreNumbered managed
-      → running_after managed turns (running_opened managed world) ≡ after
+  rest : (specs : List IfSpec) (world : World) (turns : List Given) (after : Running) → AreNumbered managed
+      → running_after managed turns (running_opened managed specs world) ≡ after
       → managed_rows managed after.world.host.told.rows ≡ rows_of after.life.client
-      → RestOnEvidence managed (opening_of managed world) (mets_of managed (running_opened managed world) turns) after.world.host.told.rows
-  rest world turns after numbered reached as_wanted index net on_managed has =
-      let first : Running = running_opened managed world in
+      → RestOnEvidence managed specs (opening_of managed specs world) (mets_of managed (running_opened managed specs world) turns) after.world.host.told.rows
+  rest specs world turns after numbered reached as_wanted index net on_managed has =
+      let first : Running = running_opened managed specs world in
       let held : has_row (managed_rows managed after.world.host.told.rows) (Addr index net) ≡ true =
       has_filter (is_managed managed) after.world.host.told.rows (Addr index net) ∙ both _ _ on_managed has in
       let wanted : has_row (rows_of after.life.client) (Addr index net) ≡ true =
       subst (λ rows. has_row rows (Addr index net) ≡ true) as_wanted held in
       let same : after.life ≡ life_after first.life (mets_of managed first turns) =
       sym (ap (λ (running : Running). running.life) reached) ∙ life_met turns first in
-      have_basis managed (opening_of managed world) (mets_of managed first turns) numbered (is_opening world) (are_made turns first) index net
+      have_basis managed specs (opening_of managed specs world) (mets_of managed first turns) numbered (is_opening specs world) (are_made turns first) index net
       (subst (λ (life : Life). has_row (rows_of life.client) (Addr index net) ≡ true) same wanted)
 
 pub opening_rests : OpeningRests
-opening_rests managed world numbered in_order none =
-    rest managed world [] (running_opened managed world) numbered refl (opening_holds managed world in_order none).as_wanted
+opening_rests managed specs world numbered in_order none =
+    rest managed specs world [] (running_opened managed specs world) numbered refl (opening_holds managed specs world in_order none).as_wanted
 
 pub turns_rest : TurnsRest
-turns_rest managed world earlier given numbered in_order none =
-    rest managed world (earlier ++ given ∷ []) (running_turned managed (life_run managed world earlier) given) numbered
-    (one_more managed earlier (running_opened managed world) given)
-    (turn_in_life managed world in_order earlier given none).as_wanted
+turns_rest managed specs world earlier given numbered in_order none =
+    rest managed specs world (earlier ++ given ∷ []) (running_turned managed (life_run managed specs world earlier) given) numbered
+    (one_more managed earlier (running_opened managed specs world) given)
+    (turn_in_life managed specs world in_order earlier given none).as_wanted

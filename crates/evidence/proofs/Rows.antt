@@ -195,12 +195,12 @@ all_managed ifaces managed same =
 
 -- a link-local address was undisturbed from the turn of its first probe on
 pub have_strong_basis : AddressesHave StrongestBasis
-have_strong_basis managed opening mets numbered is made index net has =
+have_strong_basis managed specs opening mets numbered is made index net has =
     let start : ℕ → Bool = λ number. is_up opening.begin.up number in
     let life : Life = life_after opening.life mets in
     let shown : List Entry = shown_of opening mets in
     let all : KeptAfter start managed life shown =
-    turns_kept start managed numbered mets opening.life (opening_entry opening ∷ []) (opening_kept managed opening is) made in
+    turns_kept start managed numbered mets opening.life (opening_entry opening ∷ []) (opening_kept managed specs opening is) made in
     let rows : List HostRow = flat_map iface_rows life.client.ifaces in
     let kept : has_row (filter (is_kept rows) rows) (Addr index net) ≡ true = sym (in_order_has (filter (is_kept rows) rows) (Addr index net)) ∙ has in
     let g = giver (λ iface. KeptOne start life.client.own life.unsent shown iface × Contains managed iface.managed) (Addr index net) life.client.ifaces
@@ -212,7 +212,7 @@ have_strong_basis managed opening mets numbered is made index net has =
       among = g.is_such.1;
       is_here = b.0;
       basis = subst (λ own. StrongestBasis (at_site own (start (number_of g.iface.managed)) g.iface.managed) net shown)
-          (own_stays managed mets opening.life made ∙ opened_own managed opening is) b.1;
+          (own_stays managed mets opening.life made ∙ opened_own managed specs opening is) b.1;
     }
 
 weaker : (site : Site) (net : Net) (past : List Entry) → StrongestBasis site net past → Basis site net past
@@ -220,11 +220,11 @@ weaker site net past (inl static) = inl static
 weaker site net past (inr local) = inr (local_weaker site net past local)
 
 pub have_basis : AddressesHaveBasis
-have_basis managed opening mets numbered is made index net has =
-    let strong = have_strong_basis managed opening mets numbered is made index net has in
+have_basis managed specs opening mets numbered is made index net has =
+    let strong = have_strong_basis managed specs opening mets numbered is made index net has in
     record {
       holder = strong.holder;
       among = strong.among;
       is_here = strong.is_here;
-      basis = weaker (site_of managed opening strong.holder) net (shown_of opening mets) strong.basis;
+      basis = weaker (site_of managed specs opening strong.holder) net (shown_of opening mets) strong.basis;
     }

@@ -3,6 +3,7 @@ use Rattle.std.proofs.Common.{◌≡◌, ℕ, Bool, false, List, [], ◌∷◌, 
 use Rattle.std.specs.Prelude.{map}
 use Rattle.std.specs.List.{AllByRecursion, IsDistinct}
 use Rattle.net_types.specs.declared.address.Mac.{Mac}
+use Rattle.net_types.specs.declared.interface.IfSpec.{IfSpec}
 use Rattle.machine.specs.Moment.{moment_of}
 use Rattle.world.specs.declared.wakes.Event.TheVariants.{Quiet}
 use Rattle.settings.specs.declared.interfaces.Managed.{Managed}
@@ -113,17 +114,17 @@ each_opened own up at unsent moment offers (m ∷ managed) = (
   each_opened own up at unsent moment offers managed,
 )
 
-pub opening_kept : (managed : List Managed) (opening : OpeningMet) → IsOpening managed opening
+pub opening_kept : (managed : List Managed) (specs : List IfSpec) (opening : OpeningMet) → IsOpening managed specs opening
     → KeptAfter (λ index. is_up opening.begin.up index) managed opening.life (opening_entry opening ∷ [])
-opening_kept managed opening is =
-    let made = opening_shows managed opening.begin opening.calls opening.life is in
+opening_kept managed specs opening is =
+    let made = opening_shows managed specs opening.begin opening.calls opening.life is in
     record {
       of_managed = ap (λ (client : Client). managed_in client.ifaces) made.client ∙ all_opened opening.begin.up (moment_of opening.begin.at) managed;
-      kept = kept_same (λ index. is_up opening.begin.up index) opening.life.client (opening_step managed opening.begin).client opening.life.unsent opening.life.unsent
+      kept = kept_same (λ index. is_up opening.begin.up index) opening.life.client (opening_step managed specs opening.begin).client opening.life.unsent opening.life.unsent
           (opening_entry opening) (opening_entry opening) [] made.client refl refl
-          (each_opened (opening_step managed opening.begin).client.own opening.begin.up (moment_of opening.begin.at) opening.life.unsent _ _ managed);
+          (each_opened (opening_step managed specs opening.begin).client.own opening.begin.up (moment_of opening.begin.at) opening.life.unsent _ _ managed);
     }
 
-pub opened_own : (managed : List Managed) (opening : OpeningMet) → IsOpening managed opening
-    → opening.life.client.own ≡ map (λ spec. spec.mac) (map (λ m. m.spec) managed)
-opened_own managed opening is = ap (λ (client : Client). client.own) (opening_shows managed opening.begin opening.calls opening.life is).client
+pub opened_own : (managed : List Managed) (specs : List IfSpec) (opening : OpeningMet) → IsOpening managed specs opening
+    → opening.life.client.own ≡ map (λ spec. spec.mac) specs
+opened_own managed specs opening is = ap (λ (client : Client). client.own) (opening_shows managed specs opening.begin opening.calls opening.life is).client

@@ -2,6 +2,7 @@
 -- their calls fail.
 use Rattle.std.specs.Prelude.{◌≡◌, ◌<◌, true, List, [], ◌∷◌, ◌++◌, length}
 use Rattle.net_types.specs.declared.address.Net.{Net}
+use Rattle.net_types.specs.declared.interface.IfSpec.{IfSpec}
 use Rattle.net_types.specs.declared.interface.IfIndex.{IfIndex}
 use Rattle.world.specs.declared.rows.HostRow.{HostRow}
 use Rattle.world.specs.declared.rows.HostRow.TheVariants.{Addr}
@@ -24,24 +25,24 @@ mets_of managed running (given ∷ coming) =
     met_of given (ran_turn managed running.life running.world given) ∷ mets_of managed (running_turned managed running given) coming
 
 -- Each address among the rows of managed interfaces has its basis.
-abbrev pub RestOnEvidence : List Managed → OpeningMet → List Met → List HostRow → Type 0
-RestOnEvidence managed opening mets rows = (index : IfIndex) (net : Net) → is_managed managed (Addr index net) ≡ true
-    → has_row rows (Addr index net) ≡ true → HasBasis managed opening mets index net
+abbrev pub RestOnEvidence : List Managed → List IfSpec → OpeningMet → List Met → List HostRow → Type 0
+RestOnEvidence managed specs opening mets rows = (index : IfIndex) (net : Net) → is_managed managed (Addr index net) ≡ true
+    → has_row rows (Addr index net) ≡ true → HasBasis managed specs opening mets index net
 
 -- so after an opening in which no host call failed
 abbrev pub OpeningRests : Type 0
-OpeningRests = (managed : List Managed) (world : World) → AreNumbered managed → InRowOrder world.host.told.rows
-    → let after = running_opened managed world in
+OpeningRests = (managed : List Managed) (specs : List IfSpec) (world : World) → AreNumbered managed → InRowOrder world.host.told.rows
+    → let after = running_opened managed specs world in
     NoneFails managed world.host.failing (rows_of after.life.client) (unknown_table world.host.told)
-    → RestOnEvidence managed (opening_of managed world) [] after.world.host.told.rows
+    → RestOnEvidence managed specs (opening_of managed specs world) [] after.world.host.told.rows
 
 -- and after each turn in which none failed
 abbrev pub TurnsRest : Type 0
-TurnsRest = (managed : List Managed) (world : World) (earlier : List Given) (given : Given) → AreNumbered managed → InRowOrder world.host.told.rows
-    → let before = life_run managed world earlier in
+TurnsRest = (managed : List Managed) (specs : List IfSpec) (world : World) (earlier : List Given) (given : Given) → AreNumbered managed → InRowOrder world.host.told.rows
+    → let before = life_run managed specs world earlier in
     let after = running_turned managed before given in
     NoneFails managed world.host.failing (rows_of after.life.client) (table_of before)
-    → RestOnEvidence managed (opening_of managed world) (mets_of managed (running_opened managed world) (earlier ++ given ∷ [])) after.world.host.told.rows
+    → RestOnEvidence managed specs (opening_of managed specs world) (mets_of managed (running_opened managed specs world) (earlier ++ given ∷ [])) after.world.host.told.rows
 
 -- What the devices foretell is what these turns meet, as far as the life goes on, and then the turns to come.
 abbrev pub ForetoldAreMet : Type 0

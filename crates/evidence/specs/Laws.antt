@@ -4,6 +4,7 @@ use Rattle.std.specs.List.{Contains, IsDistinct}
 use Rattle.net_types.specs.declared.address.Ip4.{Ip4}
 use Rattle.net_types.specs.declared.address.Net.{Net}
 use Rattle.net_types.specs.declared.address.Net.TheVariants.{V4}
+use Rattle.net_types.specs.declared.interface.IfSpec.{IfSpec}
 use Rattle.net_types.specs.declared.interface.IfIndex.{IfIndex}
 use Rattle.world.specs.declared.rows.HostRow.TheVariants.{Addr}
 use Rattle.world.specs.RowOrder.{has_row}
@@ -29,22 +30,23 @@ Basis site net past = StaticBasis site net past ⊎ LinkLocalBasis site net past
 abbrev pub StrongestBasis : Site → Net → List Entry → Type 0
 StrongestBasis site net past = StaticBasis site net past ⊎ StrongBasis site net past
 
-abbrev pub site_of : List Managed → OpeningMet → Managed → Site
-site_of managed opening m = record {
+-- `specs` are all interfaces of the host
+abbrev pub site_of : List Managed → List IfSpec → OpeningMet → Managed → Site
+site_of managed specs opening m = record {
   managed = m;
-  own = map (λ spec. spec.mac) (map (λ m. m.spec) managed);
+  own = map (λ spec. spec.mac) specs;
   up = is_up opening.begin.up m.spec.index.number;
 }
 
 -- The address is on a managed interface and has a basis of this kind there.
-pub record HasBasisOf (Kind : Site → Net → List Entry → Type 0) (managed : List Managed) (opening : OpeningMet) (mets : List Met) (index : IfIndex) (net : Net) : Type 0 where
+pub record HasBasisOf (Kind : Site → Net → List Entry → Type 0) (managed : List Managed) (specs : List IfSpec) (opening : OpeningMet) (mets : List Met) (index : IfIndex) (net : Net) : Type 0 where
   pub holder : Managed
   pub among : Contains managed holder
   pub is_here : index ≡ holder.spec.index
-  pub basis : Kind (site_of managed opening holder) net (shown_of opening mets)
+  pub basis : Kind (site_of managed specs opening holder) net (shown_of opening mets)
 
-abbrev pub HasBasis : List Managed → OpeningMet → List Met → IfIndex → Net → Type 0
-HasBasis managed opening mets index net = HasBasisOf Basis managed opening mets index net
+abbrev pub HasBasis : List Managed → List IfSpec → OpeningMet → List Met → IfIndex → Net → Type 0
+HasBasis managed specs opening mets index net = HasBasisOf Basis managed specs opening mets index net
 
 -- no two interfaces have one number
 abbrev pub AreNumbered : List Managed → Type 0
@@ -57,10 +59,10 @@ AreMade managed from (met ∷ mets) = Makes (turn_asks managed from met.wake met
 
 -- Each address that the client wants after an opening and some turns has a basis of this kind in them.
 abbrev pub AddressesHave : (Site → Net → List Entry → Type 0) → Type 0
-AddressesHave Kind = (managed : List Managed) (opening : OpeningMet) (mets : List Met)
-    → AreNumbered managed → IsOpening managed opening → AreMade managed opening.life mets → (index : IfIndex) (net : Net)
+AddressesHave Kind = (managed : List Managed) (specs : List IfSpec) (opening : OpeningMet) (mets : List Met)
+    → AreNumbered managed → IsOpening managed specs opening → AreMade managed opening.life mets → (index : IfIndex) (net : Net)
     → has_row (rows_of (life_after opening.life mets).client) (Addr index net) ≡ true
-    → HasBasisOf Kind managed opening mets index net
+    → HasBasisOf Kind managed specs opening mets index net
 
 abbrev pub AddressesHaveBasis : Type 0
 AddressesHaveBasis = AddressesHave Basis

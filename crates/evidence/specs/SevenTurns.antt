@@ -66,10 +66,10 @@ devices = record {
 }
 
 abbrev pub opens : OpeningMet
-opens = opening_of (interface ∷ []) devices
+opens = opening_of (interface ∷ []) (interface.spec ∷ []) devices
 
 abbrev pub seven_turns : List Met
-seven_turns = mets_of (interface ∷ []) (running_opened (interface ∷ []) devices) seven_given
+seven_turns = mets_of (interface ∷ []) (running_opened (interface ∷ []) (interface.spec ∷ []) devices) seven_given
 
 abbrev shows : ℕ → Event → List ℕ → List ℕ → Entry
 shows at event bytes frame = record { moment = at; event = event; bytes = bytes; offers = record { iface = 1; bytes = frame; taken = true } ∷ [] }

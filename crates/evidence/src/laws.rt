@@ -31,9 +31,9 @@ pub fn counted_interfaces_are_numbered()
 
 /// Law: a run of seven turns in which the client wants a link-local address, with its basis written out.
 pub fn seven_turns_give_a_basis()
-    ensures opened { IsOpening (interface ∷ []) opens }
+    ensures opened { IsOpening (interface ∷ []) (interface.spec ∷ []) opens }
     ensures made { AreMade (interface ∷ []) opens.life seven_turns }
     ensures wanted { has_row (rows_of (life_after opens.life seven_turns).client) (Addr interface.spec.index chosen_net) ≡ true }
     ensures shown { shown_of opens seven_turns ≡ seven_shown }
-    ensures basis { LinkLocalBasis (site_of (interface ∷ []) opens interface) chosen_net seven_shown }
+    ensures basis { LinkLocalBasis (site_of (interface ∷ []) (interface.spec ∷ []) opens interface) chosen_net seven_shown }
 {}

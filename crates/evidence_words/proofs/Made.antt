@@ -2,6 +2,7 @@
 use Rattle.std.proofs.Common.{◌≡◌, ℕ, suc, Bool, List, [], ◌∷◌, ◌++◌, length, Option, Some, None, refl, ap, ◌∙◌, append-nil}
 use Rattle.std.proofs.lemmas.Grind.{flat_map-append}
 use Rattle.std.specs.Prelude.{flat_map}
+use Rattle.net_types.specs.declared.interface.IfSpec.{IfSpec}
 use Rattle.world.specs.declared.rows.HostRow.{HostRow}
 use Rattle.world.specs.declared.wakes.Begin.{Begin}
 use Rattle.world.specs.declared.wakes.Wake.{Wake}
@@ -136,14 +137,14 @@ turn_shows managed life wake bytes calls next makes =
     acting_shows managed life.known (step_of life wake bytes) (turn_moment life wake) (stop_after life.stop wake.event (turn_moment life wake)) calls next makes
 
 -- and of an opening
-pub opening_shows : (managed : List Managed) (begin : Begin) (calls : List Call) (life : Life)
-    → Makes (opening_asks managed begin) calls life → Shown (opening_step managed begin) (moment_of begin.at) calls life
+pub opening_shows : (managed : List Managed) (specs : List IfSpec) (begin : Begin) (calls : List Call) (life : Life)
+    → Makes (opening_asks managed specs begin) calls life → Shown (opening_step managed specs begin) (moment_of begin.at) calls life
 unfolding opening_asks
-opening_shows managed begin calls life makes =
-    let acts : Asks Life = acting managed None (opening_step managed begin) (moment_of begin.at) None in
+opening_shows managed specs begin calls life makes =
+    let acts : Asks Life = acting managed None (opening_step managed specs begin) (moment_of begin.at) None in
     let one = makes_both clearing (λ _. after (reading [] (file_names managed)) (λ files. acts)) calls life makes in
     let two = makes_both (reading [] (file_names managed)) (λ files. acts) one.later life one.makes_later in
-    let shown = acting_shows managed None (opening_step managed begin) (moment_of begin.at) None two.later life two.makes_later in
+    let shown = acting_shows managed None (opening_step managed specs begin) (moment_of begin.at) None two.later life two.makes_later in
     record {
       taken = shown.taken;
       answered = shown.answered;

@@ -1,5 +1,6 @@
 -- What a turn and an opening leave of the client and of the host.
 use Rattle.std.proofs.Common.{ℕ, ◌≡◌, List, [], ◌∷◌, ◌++◌, Option, Some, None, refl, ap, ◌∙◌}
+use Rattle.net_types.specs.declared.interface.IfSpec.{IfSpec}
 use Rattle.world.specs.declared.rows.HostRow.{HostRow}
 use Rattle.world.specs.declared.wakes.Begin.{Begin}
 use Rattle.world.specs.declared.wakes.Wake.{Wake}
@@ -88,31 +89,31 @@ pub turn_acts : (managed : List Managed) (life : Life) (wake : Wake) (bytes : Li
 unfolding turn_asks
 turn_acts managed life wake bytes world = acts managed life.known (step_of life wake bytes) (turn_moment life wake) (stop_after life.stop wake.event (turn_moment life wake)) world
 
-module _ (managed : List Managed) (begin : Begin) where
+module _ (managed : List Managed) (specs : List IfSpec) (begin : Begin) where
   abbrev step_asks : Asks Life
-  step_asks = acting managed None (opening_step managed begin) (moment_of begin.at) None
+  step_asks = acting managed None (opening_step managed specs begin) (moment_of begin.at) None
 
   abbrev read_asks : Asks Life
-  read_asks = after (reading [] (file_names managed)) (λ files. acting managed None (opening_step managed begin) (moment_of begin.at) None)
+  read_asks = after (reading [] (file_names managed)) (λ files. acting managed None (opening_step managed specs begin) (moment_of begin.at) None)
 
-  opening_ran : (world : World) → run (opening_asks managed begin) world
+  opening_ran : (world : World) → run (opening_asks managed specs begin) world
       ≡ ran_both (run clearing world) (ran_both (run (reading [] (file_names managed)) (run clearing world).world) (run step_asks (run (reading [] (file_names managed)) (run clearing world).world).world))
   unfolding opening_asks
   opening_ran world =
       run_after clearing (λ _. read_asks) world
       ∙ ap (λ (ran : Ran Life). ran_both (run clearing world) ran) (run_after (reading [] (file_names managed)) (λ files. step_asks) (run clearing world).world)
 
-  pub opening_acts : (world : World) → Acts managed None (opening_step managed begin).client world.host (run (opening_asks managed begin) world)
+  pub opening_acts : (world : World) → Acts managed None (opening_step managed specs begin).client world.host (run (opening_asks managed specs begin) world)
   opening_acts world =
       let at : World = (run (reading [] (file_names managed)) (run clearing world).world).world in
       let same : (run (reading [] (file_names managed)) (run clearing world).world).world.host ≡ world.host = reading_leaves_host [] (file_names managed) (run clearing world).world ∙ clearing_leaves_host world in
-      let client : Client = (opening_step managed begin).client in
-      let it = acts managed None (opening_step managed begin) (moment_of begin.at) None (run (reading [] (file_names managed)) (run clearing world).world).world in
+      let client : Client = (opening_step managed specs begin).client in
+      let it = acts managed None (opening_step managed specs begin) (moment_of begin.at) None (run (reading [] (file_names managed)) (run clearing world).world).world in
       record {
         client_is = ap (λ (ran : Ran Life). ran.result.client) (opening_ran world) ∙ it.client_is;
         known_is = ap (λ (ran : Ran Life). ran.result.known) (opening_ran world) ∙ it.known_is
-            ∙ ap (λ (host : Told HostTold (List ℕ)). known_after managed None (rows_of (opening_step managed begin).client) (told_host managed host.failing None (rows_of (opening_step managed begin).client) host.told).answer) same;
+            ∙ ap (λ (host : Told HostTold (List ℕ)). known_after managed None (rows_of (opening_step managed specs begin).client) (told_host managed host.failing None (rows_of (opening_step managed specs begin).client) host.told).answer) same;
         told_is = ap (λ (ran : Ran Life). ran.world.host.told) (opening_ran world) ∙ it.told_is
-            ∙ ap (λ (host : Told HostTold (List ℕ)). (told_host managed host.failing None (rows_of (opening_step managed begin).client) host.told).told) same;
+            ∙ ap (λ (host : Told HostTold (List ℕ)). (told_host managed host.failing None (rows_of (opening_step managed specs begin).client) host.told).told) same;
         failing_is = ap (λ (ran : Ran Life). ran.world.host.failing) (opening_ran world) ∙ it.failing_is ∙ ap (λ (host : Told HostTold (List ℕ)). host.failing) same;
       }

@@ -1,5 +1,6 @@
 -- A life's turns bring about the rows that the client wants.
 use Rattle.std.proofs.Common.{ℕ, ◌≡◌, List, [], ◌∷◌, None, refl, sym, ap, subst, ◌∙◌}
+use Rattle.net_types.specs.declared.interface.IfSpec.{IfSpec}
 use Rattle.world.specs.LinkCalls.{Given}
 use Rattle.world.specs.declared.rows.HostRow.{HostRow}
 use Rattle.settings.specs.declared.interfaces.Managed.{Managed}
@@ -51,11 +52,11 @@ turned_holds managed failing before after turned true_before none =
 
 -- ---- by an opening, and by a turn
 
-opening_turned : (managed : List Managed) (world : World) → Turned managed world.host.failing (unknown_table world.host.told) (running_opened managed world)
-opening_turned managed world =
-    let it : Acts managed None (opening_step managed world.link.told.begin).client world.host (ran_opening managed world) = opening_acts managed world.link.told.begin world in
-    let same : managed_in (opening_step managed world.link.told.begin).client.ifaces ≡ managed = all_opened world.link.told.begin.up (moment_of world.link.told.begin.at) managed in
-    let turned : Table = table_turned managed world.host.failing (rows_of (opening_step managed world.link.told.begin).client) (unknown_table world.host.told) in
+opening_turned : (managed : List Managed) (specs : List IfSpec) (world : World) → Turned managed world.host.failing (unknown_table world.host.told) (running_opened managed specs world)
+opening_turned managed specs world =
+    let it : Acts managed None (opening_step managed specs world.link.told.begin).client world.host (ran_opening managed specs world) = opening_acts managed specs world.link.told.begin world in
+    let same : managed_in (opening_step managed specs world.link.told.begin).client.ifaces ≡ managed = all_opened world.link.told.begin.up (moment_of world.link.told.begin.at) managed in
+    let turned : Table = table_turned managed world.host.failing (rows_of (opening_step managed specs world.link.told.begin).client) (unknown_table world.host.told) in
     record {
       same = ap (λ (c : Client). managed_in c.ifaces) it.client_is ∙ same;
       table = (λ i. record { known = it.known_is i; told = it.told_is i })
@@ -94,28 +95,28 @@ after_others managed failing (given ∷ coming) running sound =
     after_others managed failing coming (running_turned managed running given) (turned_sound managed failing (table_of running) (running_turned managed running given) (turn_here managed failing running given sound) sound.table)
     ∙ turned_others managed failing (table_of running) (running_turned managed running given) (turn_here managed failing running given sound) sound.table
 
-module _ (managed : List Managed) (world : World) (s : InRowOrder world.host.told.rows) where
+module _ (managed : List Managed) (specs : List IfSpec) (world : World) (s : InRowOrder world.host.told.rows) where
   first_table : TrueTable managed (unknown_table world.host.told)
   first_table = record { in_order = s; known = tt }
 
-  pub opening_holds : HoldsUnlessFailed managed world.host.failing world.host.told.rows (unknown_table world.host.told) (running_opened managed world)
-  opening_holds none = turned_holds managed world.host.failing (unknown_table world.host.told) (running_opened managed world) (opening_turned managed world) first_table none
+  pub opening_holds : HoldsUnlessFailed managed world.host.failing world.host.told.rows (unknown_table world.host.told) (running_opened managed specs world)
+  opening_holds none = turned_holds managed world.host.failing (unknown_table world.host.told) (running_opened managed specs world) (opening_turned managed specs world) first_table none
 
-  opening_sound : Sound managed world.host.failing (running_opened managed world)
-  opening_sound = turned_sound managed world.host.failing (unknown_table world.host.told) (running_opened managed world) (opening_turned managed world) first_table
+  opening_sound : Sound managed world.host.failing (running_opened managed specs world)
+  opening_sound = turned_sound managed world.host.failing (unknown_table world.host.told) (running_opened managed specs world) (opening_turned managed specs world) first_table
 
-  pub lived_sound : (turns : List Given) → Sound managed world.host.failing (life_run managed world turns)
-  lived_sound turns = after_sound managed world.host.failing turns (running_opened managed world) opening_sound
+  pub lived_sound : (turns : List Given) → Sound managed world.host.failing (life_run managed specs world turns)
+  lived_sound turns = after_sound managed world.host.failing turns (running_opened managed specs world) opening_sound
 
-  pub others_in_life : (turns : List Given) → other_rows managed (life_run managed world turns).world.host.told.rows ≡ other_rows managed world.host.told.rows
+  pub others_in_life : (turns : List Given) → other_rows managed (life_run managed specs world turns).world.host.told.rows ≡ other_rows managed world.host.told.rows
   others_in_life turns =
-      after_others managed world.host.failing turns (running_opened managed world) opening_sound
-      ∙ turned_others managed world.host.failing (unknown_table world.host.told) (running_opened managed world) (opening_turned managed world) first_table
+      after_others managed world.host.failing turns (running_opened managed specs world) opening_sound
+      ∙ turned_others managed world.host.failing (unknown_table world.host.told) (running_opened managed specs world) (opening_turned managed specs world) first_table
 
   pub turn_in_life : (earlier : List Given) (given : Given)
-      → HoldsUnlessFailed managed world.host.failing world.host.told.rows (table_of (life_run managed world earlier)) (running_turned managed (life_run managed world earlier) given)
+      → HoldsUnlessFailed managed world.host.failing world.host.told.rows (table_of (life_run managed specs world earlier)) (running_turned managed (life_run managed specs world earlier) given)
   turn_in_life earlier given none =
-      let before : Running = life_run managed world earlier in
-      let sound : Sound managed world.host.failing (life_run managed world earlier) = lived_sound earlier in
+      let before : Running = life_run managed specs world earlier in
+      let sound : Sound managed world.host.failing (life_run managed specs world earlier) = lived_sound earlier in
       let holds = turned_holds managed world.host.failing (table_of before) (running_turned managed before given) (turn_here managed world.host.failing before given sound) sound.table none in
       record { as_wanted = holds.as_wanted; others_stay = holds.others_stay ∙ others_in_life earlier }

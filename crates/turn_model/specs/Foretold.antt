@@ -1,5 +1,6 @@
 -- The life that devices foretell which tell what they hold and which of their calls fail: it is determined.
 use Rattle.std.specs.Prelude.{ℕ, ◌||◌, if◌then◌else◌, List, [], ◌∷◌, take, drop, Option, Some}
+use Rattle.net_types.specs.declared.interface.IfSpec.{IfSpec}
 use Rattle.world.specs.declared.wakes.Wake.{Wake}
 use Rattle.world.specs.LinkCalls.{Given, frame_len, cut_wake, waited}
 use Rattle.settings.specs.declared.interfaces.Managed.{Managed}
@@ -38,12 +39,12 @@ told_turns managed life world (given ∷ coming) =
 abbrev pub foretold_turns : List Managed → Life → World → List Met
 foretold_turns managed life world = told_turns managed life world world.link.told.coming
 
-abbrev pub ran_opening : List Managed → World → Ran Life
-ran_opening managed world = run (opening_asks managed world.link.told.begin) world
+abbrev pub ran_opening : List Managed → List IfSpec → World → Ran Life
+ran_opening managed specs world = run (opening_asks managed specs world.link.told.begin) world
 
-abbrev pub opening_of : List Managed → World → OpeningMet
-opening_of managed world =
-    let ran = ran_opening managed world in
+abbrev pub opening_of : List Managed → List IfSpec → World → OpeningMet
+opening_of managed specs world =
+    let ran = ran_opening managed specs world in
     record { begin = world.link.told.begin; calls = ran.calls; life = ran.result }
 
 -- a life that devices foretell
@@ -51,6 +52,6 @@ pub record ForetoldLife : Type 0 where
   pub opening : OpeningMet
   pub mets : List Met
 
-abbrev pub foretold_life : List Managed → World → ForetoldLife
-foretold_life managed world =
-    record { opening = opening_of managed world; mets = foretold_turns managed (ran_opening managed world).result (ran_opening managed world).world }
+abbrev pub foretold_life : List Managed → List IfSpec → World → ForetoldLife
+foretold_life managed specs world =
+    record { opening = opening_of managed specs world; mets = foretold_turns managed (ran_opening managed specs world).result (ran_opening managed specs world).world }

@@ -1,5 +1,6 @@
 -- The host in a life over devices that tell what they hold and which of their calls fail.
 use Rattle.std.specs.Prelude.{ℕ, List, [], ◌∷◌}
+use Rattle.net_types.specs.declared.interface.IfSpec.{IfSpec}
 use Rattle.world.specs.declared.rows.HostRow.{HostRow}
 use Rattle.world.specs.LinkCalls.{Given}
 use Rattle.settings.specs.declared.interfaces.Managed.{Managed}
@@ -14,8 +15,8 @@ pub record Running : Type 0 where
   pub life : Life
   pub world : World
 
-abbrev pub running_opened : List Managed → World → Running
-running_opened managed world = record { life = (ran_opening managed world).result; world = (ran_opening managed world).world }
+abbrev pub running_opened : List Managed → List IfSpec → World → Running
+running_opened managed specs world = record { life = (ran_opening managed specs world).result; world = (ran_opening managed specs world).world }
 
 abbrev pub running_turned : List Managed → Running → Given → Running
 running_turned managed running given =
@@ -26,8 +27,8 @@ running_after managed [] running = running
 running_after managed (given ∷ coming) running = running_after managed coming (running_turned managed running given)
 
 -- a life after its opening and some turns
-abbrev pub life_run : List Managed → World → List Given → Running
-life_run managed world turns = running_after managed turns (running_opened managed world)
+abbrev pub life_run : List Managed → List IfSpec → World → List Given → Running
+life_run managed specs world turns = running_after managed turns (running_opened managed specs world)
 
 abbrev pub table_of : Running → Table
 table_of running = record { known = running.life.known; told = running.world.host.told }

@@ -1,5 +1,6 @@
 -- A life: what its opening and its turns may be, its calls, and the lines of its transcript.
 use Rattle.std.specs.Prelude.{ℕ, ◌≡◌, true, false, List, [], ◌∷◌, ◌++◌, flat_map, Option, Some}
+use Rattle.net_types.specs.declared.interface.IfSpec.{IfSpec}
 use Rattle.world.specs.declared.wakes.Begin.{Begin}
 use Rattle.world.specs.declared.wakes.Wake.{Wake}
 use Rattle.world.specs.declared.rows.HostRow.{HostRow}
@@ -32,8 +33,8 @@ abbrev pub met_with : Wake → List ℕ → List Call → Life → Met
 met_with wake bytes calls life = record { wake = wake; bytes = bytes; calls = calls; life = life }
 
 -- it asked what an opening is to ask, and each question was answered
-abbrev pub IsOpening : List Managed → OpeningMet → Type 0
-IsOpening managed opening = Makes (opening_asks managed opening.begin) opening.calls opening.life
+abbrev pub IsOpening : List Managed → List IfSpec → OpeningMet → Type 0
+IsOpening managed specs opening = Makes (opening_asks managed specs opening.begin) opening.calls opening.life
 
 -- A turn comes of a wake in a life that isn't over.
 pub record IsTurn (managed : List Managed) (from : Life) (met : Met) : Type 0 where

@@ -1,5 +1,6 @@
 -- The opening of a life: asides are cleared, the files read, and then what the client's opening asks, by the parts of a turn.
-use Rattle.std.specs.Prelude.{ℕ, Bool, List, [], ◌∷◌, ◌++◌, map, codes, Option, Some, None}
+use Rattle.std.specs.Prelude.{ℕ, Bool, List, [], ◌∷◌, ◌++◌, codes, Option, Some, None}
+use Rattle.net_types.specs.declared.interface.IfSpec.{IfSpec}
 use Rattle.world.specs.declared.wakes.Begin.{Begin}
 use Rattle.world.specs.StoreCalls.{Reading}
 use Rattle.settings.specs.declared.interfaces.Managed.{Managed}
@@ -37,12 +38,12 @@ reading files (name ∷ names) = Then (Read name) (λ found. reading (files ++ r
 abbrev pub file_names : List Managed → List (List ℕ)
 file_names managed = codes "resolv.conf" ∷ []
 
--- the client's opening
-abbrev pub opening_step : List Managed → Begin → ClientStep
-opening_step managed begin = opening managed (map (λ m. m.spec) managed) begin
+-- the client's opening: `specs` are all interfaces of the host, `managed` those that the client manages
+abbrev pub opening_step : List Managed → List IfSpec → Begin → ClientStep
+opening_step managed specs begin = opening managed specs begin
 
-unfoldable pub opening_asks : List Managed → Begin → Asks Life
-opening_asks managed begin =
+unfoldable pub opening_asks : List Managed → List IfSpec → Begin → Asks Life
+opening_asks managed specs begin =
     after clearing (λ _.
     after (reading [] (file_names managed)) (λ files.
-    acting managed None (opening_step managed begin) (moment_of begin.at) None))
+    acting managed None (opening_step managed specs begin) (moment_of begin.at) None))

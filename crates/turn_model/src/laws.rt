@@ -1,4 +1,5 @@
 ghost use Rattle.std.specs.Prelude.{◌≡◌, List};
+ghost use Rattle.net_types.specs.declared.interface.IfSpec.{IfSpec};
 ghost use Rattle.world.specs.LinkCalls.{Given};
 ghost use Rattle.settings.specs.declared.interfaces.Managed.{Managed};
 ghost use Rattle.host_model.specs.HostTable.{InRowOrder, other_rows, unknown_table};
@@ -9,7 +10,7 @@ ghost use Rattle.turn_model.specs.HostInLife.{running_opened, running_turned, li
 /// the opening, and after every turn, in which no host call failed, whatever failed before, the host has exactly the rows that
 /// the client then wants on managed interfaces; and the rows of others are as at the beginning, whatever fails.
 pub fn a_life_holds_the_wanted_rows()
-    ensures opening { (managed : List Managed) (world : World) → InRowOrder world.host.told.rows → HoldsUnlessFailed managed world.host.failing world.host.told.rows (unknown_table world.host.told) (running_opened managed world) }
-    ensures turns { (managed : List Managed) (world : World) (earlier : List Given) (given : Given) → InRowOrder world.host.told.rows → HoldsUnlessFailed managed world.host.failing world.host.told.rows (table_of (life_run managed world earlier)) (running_turned managed (life_run managed world earlier) given) }
-    ensures others_stay { (managed : List Managed) (world : World) (turns : List Given) → InRowOrder world.host.told.rows → other_rows managed (life_run managed world turns).world.host.told.rows ≡ other_rows managed world.host.told.rows }
+    ensures opening { (managed : List Managed) (specs : List IfSpec) (world : World) → InRowOrder world.host.told.rows → HoldsUnlessFailed managed world.host.failing world.host.told.rows (unknown_table world.host.told) (running_opened managed specs world) }
+    ensures turns { (managed : List Managed) (specs : List IfSpec) (world : World) (earlier : List Given) (given : Given) → InRowOrder world.host.told.rows → HoldsUnlessFailed managed world.host.failing world.host.told.rows (table_of (life_run managed specs world earlier)) (running_turned managed (life_run managed specs world earlier) given) }
+    ensures others_stay { (managed : List Managed) (specs : List IfSpec) (world : World) (turns : List Given) → InRowOrder world.host.told.rows → other_rows managed (life_run managed specs world turns).world.host.told.rows ≡ other_rows managed world.host.told.rows }
 {}

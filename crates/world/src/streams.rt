@@ -1,4 +1,4 @@
-ghost use Rattle.std.specs.Prelude.{◌≡◌, ◌≤◌, ℕ, Option, List, length, IfOk};
+ghost use Rattle.std.specs.Prelude.{◌≡◌, ◌≤◌, ℕ, Bool, true, Option, List, length, IfOk};
 ghost use Rattle.world.specs.Causes.{HasCause, HasDeviceCause};
 ghost use Rattle.world.specs.Streams.{Reads, Writes, count_after, taken_after};
 
@@ -9,6 +9,9 @@ use net_types::Failed;
 pub trait Source {
     /// How many calls failed.
     ghost faults: { Self → ℕ };
+
+    /// Whether it is told that no call fails from now on.
+    ghost never_fails: { Self → Bool };
 
     /// How many calls were made, counted up to 2^64 - 1.
     ghost reads: { Self → ℕ };
@@ -22,6 +25,8 @@ pub trait Source {
     /// Puts the next bytes at the front of `buf` and says how many; 0 for a buffer with room is the end of input.
     fn read(&mut self, buf: &mut [u8]) -> Result<usize, Failed>
         ensures cause { HasCause (faults self.old) (faults self.new) result }
+        ensures steady { never_fails self.old ≡ true → faults self.new ≡ faults self.old }
+        ensures stays { never_fails self.new ≡ never_fails self.old }
         ensures counted { reads self.new ≡ count_after (reads self.old) }
         ensures taken { taken self.new ≡ taken_after (taken self.old) result }
         ensures room { IfOk result (λ n. n ≤ length buf.new) }
@@ -33,11 +38,16 @@ pub trait Sink {
     /// How many calls failed.
     ghost faults: { Self → ℕ };
 
+    /// Whether it is told that no call fails from now on.
+    ghost never_fails: { Self → Bool };
+
     /// The bytes written, where these are told.
     ghost written: { Self → Option (List ℕ) };
 
     /// Appends all the bytes, or on a refusal some of the first of them.
     fn write(&mut self, bytes: &[u8]) -> Result<(), DeviceAnswer>
         ensures cause { HasDeviceCause (faults self.old) (faults self.new) result }
+        ensures steady { never_fails self.old ≡ true → faults self.new ≡ faults self.old }
+        ensures stays { never_fails self.new ≡ never_fails self.old }
         ensures told { Writes (written self.old) (written self.new) bytes.now result };
 }

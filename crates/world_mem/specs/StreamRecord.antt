@@ -1,5 +1,5 @@
 -- What input and output in memory hold, and which of their calls fail.
-use Rattle.std.specs.Prelude.{ℕ, Bool, true, false, ◌≡◌, ◌+◌, ◌-◌, ◌<◌, ◌^◌, nat_lt, List, Option, Some, None, Result, Ok, Err, if◌then◌else◌}
+use Rattle.std.specs.Prelude.{ℕ, Bool, true, false, ◌≡◌, ◌+◌, ◌-◌, ◌<◌, ◌^◌, nat_lt, List, [], ◌∷◌, Option, Some, None, Result, Ok, Err, if◌then◌else◌}
 use Rattle.world.specs.Causes.{has_number}
 use Rattle.net_types.specs.declared.fault.Failed.{Failed}
 use Rattle.world.specs.declared.faults.DeviceAnswer.{DeviceAnswer}
@@ -25,6 +25,11 @@ pub record SinkState : Type 0 where
 abbrev pub call_fails : Option ℕ → List ℕ → Bool
 call_fails None failing = false
 call_fails (Some number) failing = has_number failing number
+
+-- whether no call fails
+abbrev pub none_fails : List ℕ → Bool
+none_fails [] = true
+none_fails (number ∷ failing) = false
 
 abbrev pub next_call : Option ℕ → Option ℕ
 next_call None = None

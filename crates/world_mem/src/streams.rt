@@ -1,7 +1,7 @@
-ghost use Rattle.std.specs.Prelude.{◌≡◌, ◌≤◌, [], Some, length, IfOk};
+ghost use Rattle.std.specs.Prelude.{◌≡◌, ◌≤◌, [], true, Some, length, IfOk};
 ghost use Rattle.world.specs.Causes.{HasCause, HasDeviceCause};
 ghost use Rattle.world.specs.Streams.{Reads, Writes, count_after, taken_after};
-ghost use Rattle.world_mem.specs.StreamRecord.{SourceState, SinkState, call_fails, next_call, calls_before, Counts, CountsWrite};
+ghost use Rattle.world_mem.specs.StreamRecord.{SourceState, SinkState, call_fails, none_fails, next_call, calls_before, Counts, CountsWrite};
 
 use crate::record::{Numbers, fill_front};
 use net_types::Failed;
@@ -69,6 +69,8 @@ impl MemSource {
 impl Source for MemSource {
     ghost faults = { λ source. source.failed };
 
+    ghost never_fails = { λ source. none_fails source.failing };
+
     ghost reads = { λ source. calls_before source.next };
 
     ghost taken = { λ source. source.taken };
@@ -76,9 +78,11 @@ impl Source for MemSource {
     ghost left = { λ source. Some source.left };
 
     /// Fails exactly at the calls that it is told.
-    #[tactic(auto, using(crate::proofs::CallCounts::counted_once))]
+    #[tactic(auto, using(crate::proofs::CallCounts::counted_once, crate::proofs::CallCounts::no_call_fails))]
     fn read(&mut self, buf: &mut [u8]) -> Result<usize, Failed>
         ensures cause { HasCause self.old.failed self.new.failed result }
+        ensures steady { none_fails self.old.failing ≡ true → self.new.failed ≡ self.old.failed }
+        ensures stays { none_fails self.new.failing ≡ none_fails self.old.failing }
         ensures counted { calls_before self.new.next ≡ count_after (calls_before self.old.next) }
         ensures taken { self.new.taken ≡ taken_after self.old.taken result }
         ensures room { IfOk result (λ n. n ≤ length buf.new) }
@@ -140,11 +144,16 @@ impl MemSink {
 impl Sink for MemSink {
     ghost faults = { λ sink. sink.failed };
 
+    ghost never_fails = { λ sink. none_fails sink.failing };
+
     ghost written = { λ sink. Some sink.written };
 
     /// Fails exactly at the calls that it is told, and then writes nothing.
+    #[tactic(auto, using(crate::proofs::CallCounts::no_call_fails))]
     fn write(&mut self, bytes: &[u8]) -> Result<(), DeviceAnswer>
         ensures cause { HasDeviceCause self.old.failed self.new.failed result }
+        ensures steady { none_fails self.old.failing ≡ true → self.new.failed ≡ self.old.failed }
+        ensures stays { none_fails self.new.failing ≡ none_fails self.old.failing }
         ensures told { Writes (Some self.old.written) (Some self.new.written) bytes.now result }
         ensures counts { CountsWrite self.old self.new result }
     {

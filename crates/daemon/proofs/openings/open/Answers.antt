@@ -15,7 +15,7 @@ use Rattle.daemon.proofs.openings.open.Goals as goal
 
 pub returns-clause-made : goal.returns-clause-made
 returns-clause-made g c =
-    opening_made c.args.managed.now c.args.begin (map string_bytes c.in_ok-names.names.items) c.in_ok-core.core (asked_in c.in_ok-core.outs) c.cut.result c.in_ok-unsent.unsent (keys_of c.in_ok-known.known) c.until.result (map file_of c.in_ok-_files._files.items) c.in_ok-clear.field-0
+    opening_made c.args.managed.now c.args.specs.now c.args.begin (map string_bytes c.in_ok-names.names.items) c.in_ok-core.core (asked_in c.in_ok-core.outs) c.cut.result c.in_ok-unsent.unsent (keys_of c.in_ok-known.known) c.until.result (map file_of c.in_ok-_files._files.items) c.in_ok-clear.field-0
     _ _ _ _ _ _ _ _ _ _ _ _
     c.in_ok-names.ensures.names c.in_ok-core.ensures.steps c.cut.ensures.value
     c.in_ok-say.ensures c.in_ok-clear.ensures.does c.in_ok-_files.ensures.does

@@ -14,6 +14,8 @@ wakes-init g c = record {
   going = c.requires.going;
   out = omega arith;
   link = omega arith;
+  steady = λ _. refl;
+  stays = refl;
   waits = refl;
 }
 
@@ -26,6 +28,8 @@ wakes-preserved g c =
       going = woken.1.going;
       out = omega (arith, c.wakes.invariant.out, c.in_ok-last.ensures.later.0);
       link = omega (arith, c.wakes.invariant.link, c.in_ok-last.ensures.later.1);
+      steady = λ never. c.in_ok-last.ensures.steady (c.wakes.invariant.stays ∙ never) ∙ c.wakes.invariant.steady never;
+      stays = c.in_ok-last.ensures.stays ∙ c.wakes.invariant.stays;
       waits = c.in_ok-last.ensures.failing ∙ c.wakes.invariant.waits;
     }
 

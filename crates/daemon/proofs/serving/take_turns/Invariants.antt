@@ -1,4 +1,4 @@
-use Rattle.std.proofs.Common.{◌≡◌, ◌≤◌, false}
+use Rattle.std.proofs.Common.{◌≡◌, ◌≤◌, true, false}
 use Rattle.turn_model.specs.Turns.{is_over}
 use Rattle.daemon.specs.Lives.{life_of, IsTimely}
 use Rattle.daemon.proofs.Wakings.{TakesTurns}
@@ -11,5 +11,7 @@ invariant-wakes g l = record {
   going : is_over (life_of l.life) ≡ false;
   out : g.O.Sink.faults l.fn.out ≤ g.O.Sink.faults l.out;
   link : (g.W.Outside.seen l.fn.outside).waiting.faults ≤ (g.W.Outside.seen l.outside).waiting.faults;
+  steady : g.O.Sink.never_fails l.fn.out ≡ true → g.O.Sink.faults l.out ≡ g.O.Sink.faults l.fn.out;
+  stays : g.O.Sink.never_fails l.out ≡ g.O.Sink.never_fails l.fn.out;
   waits : (g.W.Outside.seen l.outside).waiting.failing ≡ (g.W.Outside.seen l.fn.outside).waiting.failing;
 }

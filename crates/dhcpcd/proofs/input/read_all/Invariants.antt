@@ -1,4 +1,4 @@
-use Rattle.std.proofs.Common.{◌≡◌, ◌≤◌, ◌+◌, ◌-◌, vec_len}
+use Rattle.std.proofs.Common.{◌≡◌, ◌≤◌, ◌+◌, ◌-◌, true, vec_len}
 use Rattle.dhcpcd.specs.Input.{CountsTaken, HasRead}
 use Rattle.dhcpcd.proofs.input.read_all.Given as goal
 
@@ -9,6 +9,8 @@ invariant-pieces g l = record {
   room : vec_len l.buf ≡ 65536;
   counted : CountsTaken (vec_len l.all) (g.I.Source.taken l.fn.input) (g.I.Source.taken l.input);
   reads : g.I.Source.reads l.input ≤ g.I.Source.reads l.fn.input + vec_len l.all;
+  steady : g.I.Source.never_fails l.fn.input ≡ true → g.I.Source.faults l.input ≡ g.I.Source.faults l.fn.input;
+  stays : g.I.Source.never_fails l.input ≡ g.I.Source.never_fails l.fn.input;
   faults : g.I.Source.faults l.fn.input ≤ g.I.Source.faults l.input;
 }
 

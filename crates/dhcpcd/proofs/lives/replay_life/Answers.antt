@@ -8,21 +8,21 @@ use Rattle.dhcpcd.proofs.lives.replay_life.Goals as goal
 pub returns-in-End-clause-ok : goal.returns-in-End-clause-ok
 returns-in-End-clause-ok g c = (
   c.in-End.ensures.cause.0,
-  lived c.args.managed.now c.args.rows.items c.args.fails.now (content.life_of c.args.life) _ _ _ _
-      (is_first c.args.managed.now c.args.rows.items c.args.fails.now (content.life_of c.args.life) c.in_ok-live.live.link c.in_ok-live.live.store c.in_ok-live.live.host c.in_ok-live.ensures.link c.in_ok-live.ensures.store c.in_ok-live.ensures.host)
+  lived c.args.managed.now c.args.specs.now c.args.rows.items c.args.fails.now (content.life_of c.args.life) _ _ _ _
+      (is_first c.args.managed.now c.args.specs.now c.args.rows.items c.args.fails.now (content.life_of c.args.life) c.in_ok-live.live.link c.in_ok-live.live.store c.in_ok-live.live.host c.in_ok-live.ensures.link c.in_ok-live.ensures.store c.in_ok-live.ensures.host)
       (c.in-End.ensures.served refl),
 )
 
 pub returns-in-WriteFault-clause-front : goal.returns-in-WriteFault-clause-front
 returns-in-WriteFault-clause-front g c =
-    stops_life c.args.managed.now c.args.rows.items c.args.fails.now (content.life_of c.args.life) _ _
-    (is_first c.args.managed.now c.args.rows.items c.args.fails.now (content.life_of c.args.life) c.in_ok-live.live.link c.in_ok-live.live.store c.in_ok-live.live.host c.in_ok-live.ensures.link c.in_ok-live.ensures.store c.in_ok-live.ensures.host)
+    stops_life c.args.managed.now c.args.specs.now c.args.rows.items c.args.fails.now (content.life_of c.args.life) _ _
+    (is_first c.args.managed.now c.args.specs.now c.args.rows.items c.args.fails.now (content.life_of c.args.life) c.in_ok-live.live.link c.in_ok-live.live.store c.in_ok-live.live.host c.in_ok-live.ensures.link c.in_ok-live.ensures.store c.in_ok-live.ensures.host)
     _ _ ends.WriteFault (inl refl) c.in-WriteFault.ensures.cut
 
 pub returns-in-NoMemory-clause-front : goal.returns-in-NoMemory-clause-front
 returns-in-NoMemory-clause-front g c =
-    stops_life c.args.managed.now c.args.rows.items c.args.fails.now (content.life_of c.args.life) _ _
-    (is_first c.args.managed.now c.args.rows.items c.args.fails.now (content.life_of c.args.life) c.in_ok-live.live.link c.in_ok-live.live.store c.in_ok-live.live.host c.in_ok-live.ensures.link c.in_ok-live.ensures.store c.in_ok-live.ensures.host)
+    stops_life c.args.managed.now c.args.specs.now c.args.rows.items c.args.fails.now (content.life_of c.args.life) _ _
+    (is_first c.args.managed.now c.args.specs.now c.args.rows.items c.args.fails.now (content.life_of c.args.life) c.in_ok-live.live.link c.in_ok-live.live.store c.in_ok-live.live.host c.in_ok-live.ensures.link c.in_ok-live.ensures.store c.in_ok-live.ensures.host)
     _ _ ends.NoMemory (inr refl) c.in-NoMemory.ensures.cut
 
 pub unreachable-requires-in-TurnsOver : goal.unreachable-requires-in-TurnsOver

@@ -13,10 +13,10 @@ use Rattle.local_evidence.proofs.Announced.{one_address}
 use Rattle.evidence.proofs.laws.seven_turns_give_a_basis.Goals as goal
 
 pub returns-clause-opened : goal.returns-clause-opened
-returns-clause-opened c = is_opening (interface ∷ []) devices
+returns-clause-opened c = is_opening (interface ∷ []) (interface.spec ∷ []) devices
 
 pub returns-clause-made : goal.returns-clause-made
-returns-clause-made c = are_made (interface ∷ []) seven_given (running_opened (interface ∷ []) devices)
+returns-clause-made c = are_made (interface ∷ []) seven_given (running_opened (interface ∷ []) (interface.spec ∷ []) devices)
 
 pub returns-clause-wanted : goal.returns-clause-wanted
 unfolding frame_in arp_in outranks turn_asks opening_asks

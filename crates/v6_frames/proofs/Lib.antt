@@ -1,0 +1,3 @@
+pub mod FramesBack
+pub mod OtherKinds
+pub mod ServersHeard

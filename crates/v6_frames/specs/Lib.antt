@@ -1,0 +1,4 @@
+pub mod Spelled
+pub mod InRange
+pub mod Laws
+pub mod Heard
