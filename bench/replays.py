@@ -1,24 +1,36 @@
 #!/usr/bin/env python3
 """Times the program on long scripts.
 
-    bench/replays.py [--program PATH] [--kinds quiet carrier local] [--sizes 4 16]
+    bench/replays.py [--program PATH] [--kinds quiet carrier local lease renew busy] [--sizes 4 16] [--renewals 100 200]
 
-For each kind of script and each size in MiB: the time, the time over that of the size before, the time of sha256sum of
-the same script, and the peak memory, also over the size of the script. `rt run` in crates/dhcpcd_prog builds the
-program.
+For each kind of script and each size in MiB (of `renew`, each number of renewals): the time, the time over that of the
+size before, the time of sha256sum of the same script, and the peak memory, also over the size of the script. Beside
+`lease` stands the time in which tcpdump prints its frames, where there is a tcpdump. `busy` has the time of one turn on
+an interface among 64, and alone. `rt run` in crates/dhcpcd_prog builds the program.
 """
 
 import argparse
+import itertools
 import os
+import shutil
+import struct
 import subprocess
 import sys
 import tempfile
 import time
 
 TOP = os.path.dirname(os.path.dirname(os.path.abspath(__file__)))
+sys.path.insert(0, os.path.join(TOP, "tests"))
+import frames  # noqa: E402 (it stands in another folder)
+
 BUILT = os.path.join(TOP, "crates", "dhcpcd_prog", "out", "dhcpcd_prog")
 MIB = 1 << 20
 IFACES = 64
+START = 1000  # the moment of the start
+BUSY_ROUNDS = 2000
+# What an ACK has beside the least: a further server of names, a name, a broadcast address, a time server, a search list.
+MORE = {"6": "10.0.0.1,10.0.0.2", "15": "6578616d706c652e6f7267", "28": "10.255.255.255", "42": "10.0.0.1"}
+MORE["119"] = "076578616d706c65036f726700"
 
 
 def static_lines(ifaces):
@@ -38,17 +50,31 @@ def local_lines(ifaces):
     return ["c:nodhcp"]
 
 
+def leased_lines(ifaces):
+    """Each interface asks for a lease at once, and probes its address."""
+    return ["c:nodelay"]
+
+
+def unprobed_lines(ifaces):
+    """Each interface asks for a lease at once, and uses its address at once."""
+    return ["c:nodelay", "c:noarp"]
+
+
+def mac(iface):
+    return f"02:00:00:00:00:{iface:02x}"
+
+
 def head(conf_lines, ifaces):
     """The lines before the turns: the configuration, and interfaces that all have carrier."""
     lines = ["dhcpcd-script 1", "c:script /dev/null"] + conf_lines(ifaces)
-    lines += [f"if {i} eth{i} 02:00:00:00:00:{i:02x}" for i in range(1, ifaces + 1)]
-    lines.append("start 1000 0 up " + ",".join(str(i) for i in range(1, ifaces + 1)))
+    lines += [f"if {i} eth{i} {mac(i)}" for i in range(1, ifaces + 1)]
+    lines.append(f"start {START} 0 up " + ",".join(str(i) for i in range(1, ifaces + 1)))
     return "".join(line + "\n" for line in lines)
 
 
 def quiet_turns():
     """Turns in which nothing comes, one each second."""
-    at = 1000
+    at = START
     while True:
         at += 1000
         yield f"turn {at} {at % 10} quiet\n"
@@ -56,7 +82,7 @@ def quiet_turns():
 
 def carrier_turns():
     """One interface after another loses its carrier, and then one after another has it again."""
-    at = 1000
+    at = START
     while True:
         for state in ("down", "up"):
             for i in range(1, IFACES + 1):
@@ -75,7 +101,7 @@ def arp_reply(sender):
 def local_turns():
     """A turn each quarter of a second. Every second turn brings an ARP frame, whose sender now and then has the very
     address of the interface; at every 16th an interface loses its carrier, and eight turns later has it again."""
-    at, n = 1000, 0
+    at, n = START, 0
     while True:
         at, n = at + 250, n + 1
         iface, hearer = n // 16 % IFACES + 1, n % 59 + 1
@@ -90,25 +116,108 @@ def local_turns():
         yield f"turn {at} {at % 7} {event}\n"
 
 
-KINDS = {
-    "quiet": (static_lines, 1, quiet_turns),
-    "carrier": (static_lines, IFACES, carrier_turns),
-    "local": (local_lines, IFACES, local_turns),
-}
+class Turns:
+    """The turns of interfaces with DHCPv4. The salt of the N-th has N in its upper half, so that an exchange which an
+    interface begins in it has the transaction number N plus that of the interface."""
+
+    def __init__(self):
+        self.at, self.count, self.frames = START, 0, []
+
+    def turn(self, later, event):
+        self.at, self.count = self.at + later, self.count + 1
+        return f"turn {self.at} {self.count << 32} {event}\n"
+
+    def quiet(self, later):
+        return self.turn(later, "quiet")
+
+    def answer(self, kind, iface, began, options):
+        """A server's answer a millisecond later, in the exchange that the interface began in the turn of that number."""
+        words = {"xid": str(began + iface), "yiaddr": f"10.0.{iface}.2", **options}
+        frame = frames.frame(kind, mac(iface), words)
+        self.frames.append(frame)
+        return self.turn(1, f"frame {iface} {frame.hex()}")
+
+    def acquire(self, ifaces, lease):
+        """The interfaces, which are to say a DISCOVER in the next millisecond, are offered a lease and granted it."""
+        yield self.quiet(1)
+        began = self.count
+        for i in ifaces:
+            yield self.answer("offer", i, began, {"51": str(lease)})
+        for i in ifaces:
+            yield self.answer("ack", i, began, {"51": str(lease), **MORE})
+
+    def probe(self):
+        """Three probes, and two announcements."""
+        for _ in range(5):
+            yield self.quiet(2001)
 
 
-def write_script(path, kind, size):
-    """Writes a script of at most so many bytes, as long as whole lines allow."""
-    conf_lines, ifaces, turns = KINDS[kind]
-    text = head(conf_lines, ifaces)
+def lease_turns(turns):
+    """All interfaces acquire leases of a minute, which end, and begin anew."""
+    while True:
+        yield from turns.acquire(range(1, IFACES + 1), 60)
+        yield from turns.probe()
+        yield turns.quiet(60_000)
+
+
+def renewed_turns(turns, times):
+    """All interfaces acquire leases of an hour, and renew them so many times."""
+    yield from turns.acquire(range(1, IFACES + 1), 3600)
+    yield from turns.probe()
+    for _ in range(times):
+        yield turns.quiet(1_801_000)
+        began = turns.count
+        for i in range(1, IFACES + 1):
+            yield turns.answer("ack", i, began, {"51": "3600", **MORE})
+
+
+def busy_turns(turns, ifaces):
+    """The first interface acquires a lease of ten seconds, again and again. The others hold leases without end."""
+    yield from turns.acquire(range(2, ifaces + 1), 4294967295)
+    for state in ("down", "up"):
+        yield turns.turn(1, f"carrier 1 {state}")
+    for _ in range(BUSY_ROUNDS):
+        yield from turns.acquire([1], 10)
+        yield turns.quiet(10_000)
+
+
+def sized(text, lines, size):
+    """As many whole lines as a script of at most so many bytes has."""
     left = size - len(text)
+    for line in lines:
+        left -= len(line)
+        if left < 0:
+            return
+        yield line
+
+
+def script_of(conf_lines, ifaces, lines, size=None):
+    """The lines of a script, at most so many bytes of them where that is said."""
+    text = head(conf_lines, ifaces)
+    return itertools.chain([text], lines if size is None else sized(text, lines, size))
+
+
+# The kinds of scripts that are made of a size, each with its turns and how many interfaces they need.
+SIZED = {
+    "quiet": (static_lines, 1, lambda turns: quiet_turns()),
+    "carrier": (static_lines, IFACES, lambda turns: carrier_turns()),
+    "local": (local_lines, IFACES, lambda turns: local_turns()),
+    "lease": (leased_lines, IFACES, lease_turns),
+}
+KINDS = [*SIZED, "renew", "busy"]
+
+
+def write_lines(path, lines):
     with open(path, "w", encoding="ascii") as script:
-        script.write(text)
-        for line in turns():
-            left -= len(line)
-            if left < 0:
-                return
-            script.write(line)
+        script.writelines(lines)
+
+
+def write_pcap(path, packets):
+    """Writes frames as a capture of Ethernet, one each millisecond."""
+    with open(path, "wb") as capture:
+        capture.write(struct.pack("<IHHiIII", 0xA1B2C3D4, 2, 4, 0, 0, 65535, 1))
+        for at, packet in enumerate(packets):
+            capture.write(struct.pack("<IIII", at // 1000, at % 1000 * 1000, len(packet), len(packet)) + packet)
 
 
 def timed(words, path):
@@ -124,32 +233,78 @@ def timed(words, path):
     return seconds, usage.ru_maxrss * 1024
 
 
+def run_one(program, path, kind, size, before):
+    """Runs the program on a script, prints its row, and gives its seconds."""
+    seconds, peak = timed([program, "replay"], path)
+    sum_seconds, _ = timed(["sha256sum"], path)
+    ratio = f"{seconds / before:5.1f}" if before else "    -"
+    print(
+        f"{kind:8} {size:4}  {seconds:8.2f}  {ratio}  {sum_seconds:9.2f}"
+        f"  {peak / MIB:8.0f}  {peak / os.path.getsize(path):10.1f}",
+        flush=True,
+    )
+    return seconds
+
+
+def run_sized(program, room, kind, sizes):
+    conf_lines, ifaces, lines = SIZED[kind]
+    path, before = os.path.join(room, "script"), None
+    for size in sizes:
+        turns = Turns()
+        write_lines(path, script_of(conf_lines, ifaces, lines(turns), size * MIB))
+        before = run_one(program, path, kind, size, before)
+        if turns.frames:
+            run_tcpdump(room, turns.frames)
+
+
+def run_tcpdump(room, packets):
+    """The time in which tcpdump reads and prints the same frames."""
+    if shutil.which("tcpdump") is None:
+        print(f"         {len(packets)} frames; there is no tcpdump", flush=True)
+        return
+    path = os.path.join(room, "capture")
+    write_pcap(path, packets)
+    seconds, _ = timed(["tcpdump", "-n", "-v", "-r", "-"], path)
+    print(f"         {len(packets)} frames, which tcpdump -n -v prints in {seconds:.2f} s", flush=True)
+
+
+def run_renewals(program, room, numbers):
+    path, before = os.path.join(room, "script"), None
+    for times in numbers:
+        write_lines(path, script_of(leased_lines, IFACES, renewed_turns(Turns(), times)))
+        before = run_one(program, path, "renew", times, before)
+
+
+def run_busy(program, room):
+    """The time of a turn on an interface among others that rest, and alone."""
+    path = os.path.join(room, "script")
+    for ifaces in (1, IFACES):
+        turns = Turns()
+        write_lines(path, script_of(unprobed_lines, ifaces, busy_turns(turns, ifaces)))
+        seconds, _ = timed([program, "replay"], path)
+        print(f"busy     1 of {ifaces:2}: {seconds / turns.count * 1e6:6.1f} microseconds a turn", flush=True)
+
+
 def main():
     parser = argparse.ArgumentParser(
         description=__doc__, formatter_class=argparse.RawDescriptionHelpFormatter
     )
     parser.add_argument("--program", default=BUILT)
-    parser.add_argument("--kinds", nargs="+", choices=KINDS, default=list(KINDS))
+    parser.add_argument("--kinds", nargs="+", choices=KINDS, default=KINDS)
     parser.add_argument("--sizes", nargs="+", type=int, default=[4, 16], metavar="MIB")
+    parser.add_argument("--renewals", nargs="+", type=int, default=[100, 200], metavar="TIMES")
     options = parser.parse_args()
     if not os.access(options.program, os.X_OK):
         sys.exit(f"{options.program} isn't built: cd crates/dhcpcd_prog && rt run -- replay < stdin")
-    print("kind      MiB   seconds  ratio  sha256sum  peak MiB  peak/input", flush=True)
+    print("kind     size   seconds  ratio  sha256sum  peak MiB  peak/input", flush=True)
     with tempfile.TemporaryDirectory() as room:
         for kind in options.kinds:
-            before = None
-            for size in options.sizes:
-                path = os.path.join(room, "script")
-                write_script(path, kind, size * MIB)
-                seconds, peak = timed([options.program, "replay"], path)
-                sum_seconds, _ = timed(["sha256sum"], path)
-                ratio = f"{seconds / before:5.1f}" if before else "    -"
-                print(
-                    f"{kind:8} {size:4}  {seconds:8.2f}  {ratio}  {sum_seconds:9.2f}"
-                    f"  {peak / MIB:8.0f}  {peak / os.path.getsize(path):10.1f}",
-                    flush=True,
-                )
-                before = seconds
+            if kind == "renew":
+                run_renewals(options.program, room, options.renewals)
+            elif kind == "busy":
+                run_busy(options.program, room)
+            else:
+                run_sized(options.program, room, kind, options.sizes)
 
 
 if __name__ == "__main__":

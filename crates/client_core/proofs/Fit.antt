@@ -1,11 +1,12 @@
 -- Interfaces that fit go on to fit.
-use Rattle.std.proofs.Common.{ℕ, ◌≡◌, ◌+◌, ◌<◌, List, [], ◌∷◌, ◌++◌, length, get_or, take, refl, sym, ap, subst, ◌∙◌}
+use Rattle.std.proofs.Common.{ℕ, ◌≡◌, ◌+◌, ◌<◌, List, [], ◌∷◌, ◌++◌, length, get_or, take, sym, ap, ◌∙◌}
 use Rattle.std.specs.Prelude.{map, flat_map}
 use Rattle.std.specs.List.{AllByRecursion}
 use Rattle.std.proofs.lemmas.List.{take_more, map-append, flat_map_more}
 use Rattle.net_types.proofs.AllLaws.{all_join}
 use Rattle.net_types.specs.declared.address.Mac.{Mac}
 use Rattle.net_types.specs.declared.interface.IfSpec.{IfSpec}
+use Rattle.v4_message.specs.Requests.{AskContent}
 use Rattle.world.specs.Rows.{IsInterface}
 use Rattle.settings.specs.declared.interfaces.Managed.{Managed}
 use Rattle.settings.specs.Fitting.{AreManaged}
@@ -20,9 +21,9 @@ use Rattle.iface_core.specs.Outcomes.{Asked, Goes}
 use Rattle.iface_core.proofs.Staying.{turn_stays, stays_fit, opened_fits}
 use Rattle.client_core.specs.Stepping.{IsOnInterface, GoAll}
 
-pub opened_fit : (up at : ℕ) (managed : List Managed) → AreManaged managed → AreIfaces (map (λ m. (opened up at m).iface) managed)
-opened_fit up at [] fit = tt
-opened_fit up at (m ∷ managed) fit = (opened_fits up at m fit.0, opened_fit up at managed fit.1)
+pub opened_fit : (up at salt : ℕ) (managed : List Managed) → AreManaged managed → AreIfaces (map (λ m. (opened up at salt m).iface) managed)
+opened_fit up at salt [] fit = tt
+opened_fit up at salt (m ∷ managed) fit = (opened_fits up at salt m fit.0, opened_fit up at salt managed fit.1)
 
 pub turned_fit : (own : List Mac) (turn : Turn) (ifaces : List Iface) → AreIfaces ifaces → AreIfaces (map (λ iface. (iface_turned own turn iface).iface) ifaces)
 turned_fit own turn [] fit = tt
@@ -30,16 +31,16 @@ turned_fit own turn (iface ∷ ifaces) fit = (stays_fit iface (iface_turned own 
 
 -- ---- the frames that interfaces offer
 
-spelled_on : (spec : IfSpec) (said : List Said) → IsInterface spec.index.number → AllByRecursion IsOnInterface (map (spelled spec) said)
-spelled_on spec [] index = tt
-spelled_on spec (message ∷ said) index = (index, spelled_on spec said index)
+spelled_on : (spec : IfSpec) (ask : AskContent) (said : List Said) → IsInterface spec.index.number → AllByRecursion IsOnInterface (map (spelled spec ask) said)
+spelled_on spec ask [] index = tt
+spelled_on spec ask (message ∷ said) index = (index, spelled_on spec ask said index)
 
 pub steps_on : {X : Type 0} (step : X → IfaceStep) (xs : List X) → AreIfaces (map (λ x. (step x).iface) xs)
     → AllByRecursion IsOnInterface (flat_map (λ x. sends_of (step x)) xs)
 steps_on step [] fit = tt
 steps_on step (x ∷ xs) fit =
     all_join IsOnInterface (sends_of (step x)) (flat_map (λ y. sends_of (step y)) xs)
-    (spelled_on (step x).iface.managed.spec (step x).said fit.0.managed.index) (steps_on step xs fit.1)
+    (spelled_on (step x).iface.managed.spec (step x).iface.dhcp4.settings.ask (step x).said fit.0.managed.index) (steps_on step xs fit.1)
 
 -- ---- one after another
 

@@ -1,6 +1,8 @@
+pub mod Destinations
 pub mod Fit
+pub mod InPlace
+pub mod Joined
+pub mod LeaseValues
 pub mod Order
 pub mod RowsFit
 pub mod SameRows
-pub mod InPlace
-pub mod Joined

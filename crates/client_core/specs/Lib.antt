@@ -1,1 +1,3 @@
+pub mod Routing
 pub mod Stepping
+pub mod Wanted

@@ -6,15 +6,16 @@ ghost use Rattle.settings.specs.Fitting.{AreManaged};
 ghost use Rattle.client_model.specs.Interfaces.{opened};
 ghost use Rattle.client_model.specs.WantedRows.{wanted_rows};
 ghost use Rattle.client_model.specs.Fitting.{AreIfaces};
-ghost use Rattle.client_model.specs.Clients.{Client, opening, client_turned, client_due, earlier, rows_of};
+ghost use Rattle.client_model.specs.Clients.{Client, opening, client_turned, client_due, rows_of};
 ghost use Rattle.iface_core.specs.Inputs.{turn_of};
 ghost use Rattle.iface_core.specs.Outcomes.{asked_in, sends_in};
 ghost use Rattle.client_core.specs.Stepping.{Steps, GoAll, IsOnInterface};
+ghost use Rattle.client_core.specs.Wanted.{IsWanted};
 
 use crate::turning::turn_ifaces;
 use crate::wanting::wanted;
 use client_model::Iface;
-use iface_core::{Outs, Turn, iface_due, iface_open};
+use iface_core::{Outs, Turn, earlier_of, iface_due, iface_open};
 use machine::clamp_moment;
 use net_types::{IfSpec, Mac, NoMemory};
 use settings::Managed;
@@ -37,7 +38,7 @@ impl Model for Core {
 
     ghost view = { λ core. record { own = core.own.items; ifaces = core.ifaces.items } };
 
-    ghost invariant = { λ core. AreIfaces core.ifaces.items × (core.wanted.keys ≡ wanted_rows core.ifaces.items) };
+    ghost invariant = { λ core. IsWanted core.ifaces.items core.wanted.keys };
 }
 
 /// The interfaces as they are opened, one after another.
@@ -48,12 +49,15 @@ fn opened_ifaces(
     outs: &mut Outs,
 ) -> Result<Vec<Iface>, NoMemory>
     requires { AreManaged managed.now }
-    ensures { IfOk result (λ ifaces. GoAll (opened begin.up (moment_of begin.at)) managed.now ifaces.items (asked_in outs.old) (asked_in outs.new)) }
+    ensures { IfOk result (λ ifaces. GoAll (opened begin.up (moment_of begin.at) begin.salt) managed.now ifaces.items (asked_in outs.old) (asked_in outs.new)) }
 {
-    let at = clamp_moment(begin.at);
+    let opening = Begin {
+        at: clamp_moment(begin.at),
+        ..begin
+    };
     let mut ifaces = Vec::new(alloc);
     for m in managed {
-        let iface = iface_open(m, begin.up, at, outs)?;
+        let iface = iface_open(alloc, m, opening, outs)?;
         ifaces.push(iface)?;
     }
     Ok(ifaces)
@@ -97,10 +101,11 @@ fn renewed(
     before: BTreeSet<HostRow>,
     ifaces: &[Iface],
     changed: bool,
-) -> Result<BTreeSet<HostRow>, AllocError>
+) -> Result<BTreeSet<HostRow>, NoMemory>
     requires fit { AreIfaces ifaces.now }
     requires same { changed ≡ false → before.keys ≡ wanted_rows ifaces.now }
-    ensures { IfOk result (λ wanted. wanted.keys ≡ wanted_rows ifaces.now) }
+    requires rows { AllByRecursion IsRow before.keys }
+    ensures { IfOk result (λ wanted. IsWanted ifaces.now wanted.keys) }
 {
     if changed {
         wanted(alloc, ifaces)
@@ -139,17 +144,6 @@ pub fn rows(core: &Core) -> &BTreeSet<HostRow>
     ensures fit { AllByRecursion IsRow result.now.keys }
 {
     &core.wanted
-}
-
-/// The earlier of two moments, where there are any.
-pub fn earlier_of(a: Option<u64>, b: Option<u64>) -> Option<u64>
-    ensures { result ≡ earlier a b }
-{
-    match (a, b) {
-        (Some(a), Some(b)) => Some(a.min(b)),
-        (Some(a), None) => Some(a),
-        (None, b) => b,
-    }
 }
 
 /// The next moment at which a machine is due.

@@ -1,4 +1,4 @@
-ghost use Rattle.std.specs.Prelude.{◌≡◌, ◌<◌, ◌^◌, ◌&&◌, not, false, flat_map, IfOk, OnOk};
+ghost use Rattle.std.specs.Prelude.{◌≡◌, ◌<◌, ◌^◌, false, flat_map, IfOk, OnOk};
 ghost use Rattle.world.specs.Rows.{IsInterface};
 ghost use Rattle.client_model.specs.IfaceSteps.{index_of};
 ghost use Rattle.client_model.specs.IfaceTurns.{iface_turned};
@@ -11,13 +11,6 @@ ghost use Rattle.client_core.specs.Stepping.{GoAll};
 use client_model::Iface;
 use iface_core::{Outs, Turn, iface_turn};
 use net_types::{Mac, NoMemory};
-
-/// Whether the static lines of an interface are in force.
-pub fn is_in_force(iface: &Iface) -> bool
-    ensures { result ≡ (iface.now.up && not iface.now.stopped) }
-{
-    iface.up && !iface.stopped
-}
 
 /// A turn of an interface. Answers whether the rows that it brings may have changed: where nothing is new, none has.
 fn turn_iface(

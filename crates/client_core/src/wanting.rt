@@ -1,12 +1,15 @@
 ghost use Rattle.std.specs.Prelude.{◌≡◌, ◌++◌, Bool, IfOk, OnOk, flat_map, length, filter, not};
-ghost use Rattle.std.specs.List.{list_any};
+ghost use Rattle.std.specs.List.{AllByRecursion, list_any};
+ghost use Rattle.world.specs.Rows.{IsRow};
 ghost use Rattle.world.specs.RowOrder.{in_row_order};
-ghost use Rattle.client_model.specs.WantedRows.{same_net, same_target, goes_before, outranks, is_kept, iface_rows, wanted_rows};
+ghost use Rattle.client_model.specs.WantedRows.{same_net, same_target, goes_before, outranks, is_kept, iface_rows};
 ghost use Rattle.client_model.specs.Fitting.{AreIfaces};
+ghost use Rattle.client_core.specs.Wanted.{IsWanted};
 
-use crate::address_rows::push_iface;
+use crate::host_rows::HostRows;
+use crate::iface_rows::push_iface;
 use client_model::Iface;
-use net_types::Net;
+use net_types::{Net, NoMemory};
 use std::alloc::{AllocError, Global};
 use std::collections::BTreeSet;
 use world::HostRow;
@@ -67,19 +70,21 @@ fn is_unique(rows: &[HostRow], row: HostRow) -> bool
     !has_outranking(rows, row)
 }
 
-fn all_rows(alloc: Global, ifaces: &[Iface]) -> Result<Vec<HostRow>, AllocError>
+fn all_rows(alloc: Global, ifaces: &[Iface]) -> Result<HostRows, NoMemory>
     requires { AreIfaces ifaces.now }
-    ensures { IfOk result (λ rows. rows.items ≡ flat_map iface_rows ifaces.now) }
+    ensures { IfOk result (λ rows. rows ≡ flat_map iface_rows ifaces.now) }
 {
-    let mut rows = Vec::new(alloc);
+    let mut rows = HostRows::new(alloc);
     for iface in ifaces {
-        push_iface(&mut rows, iface)?;
+        push_iface(alloc, &mut rows, iface)?;
     }
     Ok(rows)
 }
 
 fn unique_rows(alloc: Global, rows: &[HostRow]) -> Result<BTreeSet<HostRow>, AllocError>
-    ensures { IfOk result (λ wanted. wanted.keys ≡ in_row_order (filter (is_kept rows.now) rows.now)) }
+    requires { AllByRecursion IsRow rows.now }
+    ensures rows { IfOk result (λ wanted. wanted.keys ≡ in_row_order (filter (is_kept rows.now) rows.now)) }
+    ensures fit { IfOk result (λ wanted. AllByRecursion IsRow wanted.keys) }
 {
     let mut wanted = BTreeSet::new(alloc);
     for row in rows {
@@ -91,10 +96,11 @@ fn unique_rows(alloc: Global, rows: &[HostRow]) -> Result<BTreeSet<HostRow>, All
 }
 
 /// The rows that the interfaces bring together, in row order.
-pub fn wanted(alloc: Global, ifaces: &[Iface]) -> Result<BTreeSet<HostRow>, AllocError>
+pub fn wanted(alloc: Global, ifaces: &[Iface]) -> Result<BTreeSet<HostRow>, NoMemory>
     requires { AreIfaces ifaces.now }
-    ensures { IfOk result (λ wanted. wanted.keys ≡ wanted_rows ifaces.now) }
+    ensures { IfOk result (λ wanted. IsWanted ifaces.now wanted.keys) }
 {
     let rows = all_rows(alloc, ifaces)?;
-    unique_rows(alloc, &rows)
+    let wanted = unique_rows(alloc, rows.as_slice())?;
+    Ok(wanted)
 }

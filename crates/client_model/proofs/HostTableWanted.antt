@@ -1,6 +1,6 @@
 -- The rows that are wanted can be wanted: they are in row order, and each is on the interface that gives it.
-use Rattle.std.proofs.Common.{◌≡◌, Bool, true, false, not, ◌&&◌, List, [], ◌∷◌, map, Option, Some, None, refl}
-use Rattle.std.specs.Prelude.{filter, flat_map, nat_lt, All}
+use Rattle.std.proofs.Common.{◌≡◌, Bool, true, false, not, ◌&&◌, List, [], ◌∷◌, ◌++◌, map, Option, Some, None, nat_eq, refl}
+use Rattle.std.specs.Prelude.{filter, flat_map, nat_lt, All, option_and_then}
 use Rattle.std.specs.List.{AllPass}
 use Rattle.std.proofs.lemmas.Bool.{cond_both, or_left, or_right, eq-eqb}
 use Rattle.std.proofs.lemmas.List.Elements.{All-nil, All-cons, All-head, All-tail, All-append, All-filter}
@@ -15,10 +15,16 @@ use Rattle.world.specs.declared.rows.Via.TheVariants.{OnLink, Gate4}
 use Rattle.world.specs.RowOrder.{row_iface, row_cmp, with_row, put_in_order}
 use Rattle.settings.specs.declared.interfaces.Managed.{Managed}
 use Rattle.ipv4ll.specs.Table.{held_in}
+use Rattle.v4_options.specs.declared.code.TheConstants.{CLASSLESS_ROUTES, ROUTERS}
+use Rattle.v4_options.specs.declared.routes.ClasslessRoute.{ClasslessRoute}
+use Rattle.v4_options.specs.Numbers.{addrs_in}
+use Rattle.v4_options.specs.Routes.{routes_in}
+use Rattle.lease_text.specs.Leases.{LeaseContent}
+use Rattle.v4_client.specs.Clients.{held_of}
 use Rattle.settings.specs.declared.interfaces.StaticLine.{StaticLine}
 use Rattle.client_model.specs.declared.interfaces.Iface.{Iface}
 use Rattle.net_types.specs.Networks.{network_of, is_within}
-use Rattle.client_model.specs.WantedRows.{metric_of, is_kept, network_routes, gateway_routes, router_routes, address_rows, static_rows, local_net, local_rows, iface_rows, wanted_rows}
+use Rattle.client_model.specs.WantedRows.{metric_of, is_kept, network_routes, gateway_routes, router_routes, address_rows, static_rows, value_in, classless_rows, preferred, lease_routes, lease_rows, local_net, local_rows, iface_rows, wanted_rows}
 use Rattle.settings.specs.ManagedRows.{is_managed}
 use Rattle.host_model.specs.HostTable.{Wantable}
 use Rattle.host_model.proofs.HostTableRows.{in_order_sorted}
@@ -60,12 +66,38 @@ local_on : (index : IfIndex) (held : Option Ip4) → All (On index) (local_rows 
 local_on index None = All-nil (On index)
 local_on index (Some ip) = address_on index (local_net ip)
 
+classless_on : (index : IfIndex) (net : Net4) (route : ClasslessRoute) → All (On index) (classless_rows index net route)
+classless_on index net route =
+    let direct : HostRow = Route index (Family.V4 route.dest) OnLink (metric_of index) in
+    let gated : HostRow = Route index (Family.V4 route.dest) (Gate4 route.via) (metric_of index) in
+    cond_both (nat_eq route.via.number 0) (direct ∷ []) (gated ∷ gateway_routes index net route.via) (All (On index)) (λ _. one_on index direct refl)
+    (λ _. All-cons (On index) gated (gateway_routes index net route.via) refl (gateway_on index net route.via))
+
+each_on : (index : IfIndex) (net : Net4) (routes : List ClasslessRoute) → All (On index) (flat_map (classless_rows index net) routes)
+each_on index net [] = All-nil (On index)
+each_on index net (route ∷ routes) =
+    All-append (On index) (classless_rows index net route) (flat_map (classless_rows index net) routes) (classless_on index net route) (each_on index net routes)
+
+lease_routes_on : (index : IfIndex) (net : Net4) (routes : Option (List ClasslessRoute)) (routers : Option (List Ip4)) → All (On index) (lease_routes index net routes routers)
+lease_routes_on index net (Some routes) routers = each_on index net routes
+lease_routes_on index net None routers = router_on index net (option_and_then preferred routers)
+
+lease_on : (index : IfIndex) (held : Option LeaseContent) → All (On index) (lease_rows index held)
+lease_on index None = All-nil (On index)
+lease_on index (Some lease) =
+    let routes = option_and_then routes_in (value_in CLASSLESS_ROUTES lease.values) in
+    let routers = option_and_then addrs_in (value_in ROUTERS lease.values) in
+    All-append (On index) (address_rows index lease.net) (lease_routes index lease.net routes routers) (address_on index lease.net) (lease_routes_on index lease.net routes routers)
+
 own_rows : (iface : Iface) → All (On iface.managed.spec.index) (iface_rows iface)
 own_rows iface =
     let index = iface.managed.spec.index in
     let static = static_rows index (iface.up && not iface.stopped) iface.managed.conf.line in
+    let lease = lease_rows index (held_of iface.dhcp4) in
     let local = local_rows index (held_in iface.local.state) in
-    All-append (On index) static local (static_on index (iface.up && not iface.stopped) iface.managed.conf.line) (local_on index (held_in iface.local.state))
+    All-append (On index) (static ++ lease) local
+    (All-append (On index) static lease (static_on index (iface.up && not iface.stopped) iface.managed.conf.line) (lease_on index (held_of iface.dhcp4)))
+    (local_on index (held_in iface.local.state))
 
 -- ---- those of all interfaces are on managed ones
 

@@ -4,4 +4,5 @@ mod OwnTurns
 mod Keepers
 pub mod HostTableWanted
 pub mod SameInterfaces
+mod QuietLeases
 pub mod QuietTurns

@@ -1,5 +1,6 @@
 -- A turn of which nothing is new leaves an interface's rows as they are.
-use Rattle.std.proofs.Common.{ℕ, ◌≡◌, ◌-◌, Bool, true, false, not, ◌&&◌, List, [], ◌∷◌, ◌++◌, map, Option, Some, None, nat_le, nat_lt, nat_eq, refl, ap, ◌∙◌, if◌then◌else◌}
+use Rattle.std.proofs.Common.{ℕ, ◌≡◌, ◌+◌, ◌-◌, ◌*◌, Bool, true, false, not, ◌&&◌, List, [], ◌∷◌, ◌++◌, map, Option, Some, None, nat_le, nat_lt, nat_eq, refl, ap, ◌∙◌, if◌then◌else◌}
+use Rattle.std.specs.Prelude.{is_some}
 use Rattle.net_types.proofs.CaseLaws.{split, gated}
 use Rattle.net_types.specs.declared.address.Ip4.{Ip4}
 use Rattle.net_types.specs.declared.address.Mac.{Mac}
@@ -15,10 +16,22 @@ use Rattle.ipv4ll.specs.declared.link_local.LlNews.{LlNews}
 use Rattle.ipv4ll.specs.declared.link_local.LlNews.TheVariants.{Nothing, Timeout, Gained, Lost}
 use Rattle.ipv4ll.specs.declared.link_local.State.{State}
 use Rattle.ipv4ll.specs.declared.link_local.State.TheVariants.{Off, Armed, Chosen, Waiting}
-use Rattle.ipv4ll.specs.declared.link_local.Waits.TheVariants.{ForNothing}
+use Rattle.ipv4ll.specs.declared.link_local.Waits.{Waits}
+use Rattle.ipv4ll.specs.declared.link_local.Waits.TheVariants.{ForLease, ForNothing}
+use Rattle.ipv4ll.specs.declared.link_local.Fallback.{Fallback}
 use Rattle.ipv4ll.specs.declared.link_local.Fallback.TheVariants.{Choose}
 use Rattle.ipv4ll.specs.Table.{chooses, LlStep, moves, tells, choosing, after_conflict, one_more, tick_row, ll_tick, ll_hears, ll_restarts, ll_armed, held_in}
-use Rattle.world.specs.declared.rows.HostRow.{HostRow}
+use Rattle.v4_frames.specs.Heard.{HeardMessage, heard4_in}
+use Rattle.v4_client.specs.declared.moments.TheConstants.{SECOND}
+use Rattle.v4_client.specs.declared.states.Carrier.TheVariants.{Up}
+use Rattle.v4_client.specs.declared.states.News4.{News4}
+use Rattle.v4_client.specs.declared.states.News4.TheVariants as news4
+use Rattle.v4_client.specs.declared.states.Step4.{Step4}
+use Rattle.v4_client.specs.declared.states.Tell.TheVariants.{Server}
+use Rattle.v4_client.specs.Calls.{arp_step, brought, carrier_step, heard_step, rebind_step}
+use Rattle.v4_client.specs.Clients.{ClientContent, held_of}
+use Rattle.v4_client.specs.History.{tick_step}
+use Rattle.v4_client.specs.Moves.{moved}
 use Rattle.world.specs.declared.wakes.Event.{Event}
 use Rattle.world.specs.declared.wakes.Event.TheVariants.{Frame, Carrier, Duplicate, Release, Rebind, Stop, Quiet, End}
 use Rattle.settings.specs.declared.interfaces.IfConf.{IfConf}
@@ -28,10 +41,13 @@ use Rattle.client_model.specs.declared.interfaces.Iface.{Iface}
 use Rattle.client_model.specs.declared.steps.News.{News}
 use Rattle.client_model.specs.declared.steps.News.TheVariants.{CarrierCame, CarrierWent, Released, Stopped}
 use Rattle.client_model.specs.IfaceSteps.{Report, IfaceStep, index_of, silent, then_step, with_news}
-use Rattle.client_model.specs.LocalSteps.{chooses_local, armed, local_news, local_step, tick_local, local_hears}
-use Rattle.client_model.specs.Interfaces.{begins, machines_off, restarted, unsent_in, ticked, carrier_comes, carrier_goes, carried, released, rebound}
-use Rattle.client_model.specs.IfaceTurns.{Turn, arp_heard, hears, taken, input_step, iface_turned}
-use Rattle.client_model.specs.WantedRows.{static_rows, local_rows, iface_rows}
+use Rattle.client_model.specs.ClientSettings.{runs_dhcp4}
+use Rattle.client_model.specs.LocalSteps.{chooses_local, fallback_of, armed, armed_for_lease, local_news, local_step, tick_local, local_hears}
+use Rattle.client_model.specs.Dhcp4Steps.{arms, arrival_at, begin_dhcp4, dhcp4_packet, dhcp4_step, followed, holds_lease, lease_news, rebind_dhcp4, tick_dhcp4}
+use Rattle.client_model.specs.Interfaces.{begins, machines_drop, machines_rebind, machines_stop, restarted, unsent_in, ticked, carrier_comes, carrier_goes, carried, released, rebound, told_at_stop}
+use Rattle.client_model.specs.IfaceTurns.{Turn, arp_heard, hears, hears_either, hears_message, hears_packet, taken, input_step, iface_turned}
+use Rattle.client_model.specs.WantedRows.{static_rows, lease_rows, local_rows, iface_rows}
+use Rattle.client_model.proofs.QuietLeases.{Quietly, arp_quiet, begin_quiet, heard_quiet, rebind_quiet, tick_quiet, unsent_quiet}
 
 -- ---- the link-local machine
 
@@ -103,11 +119,21 @@ restart_stays iface (Armed due waits fallback) at salt = refl
 restart_stays iface (Chosen conflicts acd) at salt = phase_restarts acd.iface acd.addr acd.phase at salt
 restart_stays iface (Waiting conflicts due) at salt = refl
 
-arm_stays : (iface : IfIndex) (state : State) (at : ℕ) → held_in (ll_armed (at_state iface state) at ForNothing Choose).state ≡ held_in state
-arm_stays iface Off at = refl
-arm_stays iface (Armed due waits fallback) at = refl
-arm_stays iface (Chosen conflicts acd) at = refl
-arm_stays iface (Waiting conflicts due) at = refl
+arm_stays : (iface : IfIndex) (state : State) (at : ℕ) (waits : Waits) (fallback : Fallback)
+    → held_in (ll_armed (at_state iface state) at waits fallback).state ≡ held_in state
+arm_stays iface Off at waits fallback = refl
+arm_stays iface (Armed due before after) at waits fallback = refl
+arm_stays iface (Chosen conflicts acd) at waits fallback = refl
+arm_stays iface (Waiting conflicts due) at waits fallback = refl
+
+armed_stays : (conf : IfConf) (at : ℕ) (iface : IfIndex) (state : State) → held_in (armed conf at (at_state iface state)).state ≡ held_in state
+armed_stays conf at iface state =
+    gated (λ (local : LinkLocal). held_in local.state ≡ held_in state) (runs_dhcp4 conf) (armed_for_lease conf at (at_state iface state)) _
+    (gated (λ (local : LinkLocal). held_in local.state ≡ held_in state) (nat_eq conf.timeout 0) (at_state iface state)
+    (ll_armed (at_state iface state) (at + SECOND * conf.timeout) ForLease (fallback_of (chooses_local conf))) refl
+    (arm_stays iface state (at + SECOND * conf.timeout) ForLease (fallback_of (chooses_local conf))))
+    (gated (λ (local : LinkLocal). held_in local.state ≡ held_in state) (chooses_local conf) (ll_armed (at_state iface state) at ForNothing Choose) (at_state iface state)
+    (arm_stays iface state at ForNothing Choose) refl)
 
 -- ---- the interface
 
@@ -116,80 +142,23 @@ record SameSources (old new : Iface) : Type 0 where
   managed : new.managed ≡ old.managed
   up : new.up ≡ old.up
   stopped : new.stopped ≡ old.stopped
+  lease : held_of new.dhcp4 ≡ held_of old.dhcp4
   held : held_in new.local.state ≡ held_in old.local.state
 
 itself : (iface : Iface) → SameSources iface iface
-itself iface = record { managed = refl; up = refl; stopped = refl; held = refl }
+itself iface = record { managed = refl; up = refl; stopped = refl; lease = refl; held = refl }
 
 in_turn : (a b c : Iface) → SameSources a b → SameSources b c → SameSources a c
 in_turn a b c first next = record {
   managed = next.managed ∙ first.managed;
   up = next.up ∙ first.up;
   stopped = next.stopped ∙ first.stopped;
+  lease = next.lease ∙ first.lease;
   held = next.held ∙ first.held;
 }
 
 abbrev IsQuiet : Iface → IfaceStep → Type 0
 IsQuiet old step = step.reports ≡ [] → SameSources old step.iface
-
-no_news : (f : News → Report) (news : LlNews) → map f (local_news news) ≡ [] → news ≡ Nothing
-no_news f Nothing e = refl
-no_news f Timeout e = cc
-no_news f Gained e = cc
-no_news f (Lost addr) e = cc
-
-local_quiet : (iface : Iface) (step : LlStep) → HeldStays iface.local.state step → IsQuiet iface (local_step iface step)
-local_quiet iface step stays e = record { managed = refl; up = refl; stopped = refl; held = stays (no_news _ step.out.news e) }
-
-silent_quiet : (iface : Iface) → IsQuiet iface (silent iface)
-silent_quiet iface e = itself iface
-
-news_loud : (old before : Iface) (news : News) (step : IfaceStep) → IsQuiet old (with_news news before step)
-news_loud old before news step e = cc
-
-begins_quiet : (at : ℕ) (iface : Iface) → IsQuiet iface (begins at iface)
-begins_quiet at iface e = record {
-  managed = refl;
-  up = refl;
-  stopped = refl;
-  held = gated (λ (local : LinkLocal). held_in local.state ≡ held_in iface.local.state) (chooses_local iface.managed.conf)
-      (ll_armed iface.local at ForNothing Choose) iface.local (arm_stays iface.local.iface iface.local.state at) refl;
-}
-
-unsent_quiet : (set at salt : ℕ) (iface : Iface) → SameSources iface (unsent_in set at salt iface)
-unsent_quiet set at salt iface =
-    gated (SameSources iface) (is_in set (index_of iface)) (restarted at salt iface) iface
-    (record { managed = refl; up = refl; stopped = refl; held = restart_stays iface.local.iface iface.local.state at salt }) (itself iface)
-
-carried_quiet : (at : ℕ) (up : Bool) (iface : Iface) → IsQuiet iface (carried at up iface)
-carried_quiet at true iface =
-    gated (IsQuiet iface) iface.up (silent iface) (carrier_comes at iface) (silent_quiet iface) (news_loud iface iface CarrierCame (begins at (record iface { up = true })))
-carried_quiet at false iface =
-    gated (IsQuiet iface) iface.up (carrier_goes iface) (silent iface) (news_loud iface iface CarrierWent (machines_off (record iface { up = false }))) (silent_quiet iface)
-
-rebound_quiet : (at : ℕ) (iface : Iface) → IsQuiet iface (rebound at iface)
-rebound_quiet at iface = gated (IsQuiet iface) iface.up (begins at iface) (silent iface) (begins_quiet at iface) (silent_quiet iface)
-
-module _ (own : List Mac) (at salt : ℕ) (bytes : List ℕ) where
-  local_hears_quiet : (arp : Option ArpView) (iface : Iface) → IsQuiet iface (local_hears own at salt arp iface)
-  local_hears_quiet None iface = silent_quiet iface
-  local_hears_quiet (Some arp) iface = local_quiet iface (ll_hears own iface.local arp at salt) (hears_stays own at salt arp iface.local.iface iface.local.state)
-
-  named_quiet : (index : ℕ) (iface : Iface) (step : IfaceStep) → IsQuiet iface step → IsQuiet iface (if nat_eq (index_of iface) index then step else silent iface)
-  named_quiet index iface step quiet = gated (IsQuiet iface) (nat_eq (index_of iface) index) step (silent iface) quiet (silent_quiet iface)
-
-  taken_quiet : (event : Event) (iface : Iface) → IsQuiet iface (taken own at salt event bytes iface)
-  taken_quiet (Frame index len) iface = named_quiet index iface (hears own at salt bytes iface) (local_hears_quiet (arp_heard bytes) iface)
-  taken_quiet (Carrier index up) iface = named_quiet index iface (carried at up iface) (carried_quiet at up iface)
-  taken_quiet (Duplicate index addr) iface = silent_quiet iface
-  taken_quiet (Release index) iface = named_quiet index iface (released iface) (news_loud iface iface Released (machines_off iface))
-  taken_quiet (Rebind index) iface = named_quiet index iface (rebound at iface) (rebound_quiet at iface)
-  taken_quiet Stop iface = news_loud iface iface Stopped (machines_off (record iface { stopped = true }))
-  taken_quiet Quiet iface = silent_quiet iface
-  taken_quiet End iface = silent_quiet iface
-
-  input_quiet : (event : Event) (iface : Iface) → IsQuiet iface (input_step own at salt event bytes iface)
-  input_quiet event iface = gated (IsQuiet iface) iface.stopped (silent iface) (taken own at salt event bytes iface) (silent_quiet iface) (taken_quiet event iface)
 
 none_first : {X : Type 0} (xs ys : List X) → xs ++ ys ≡ [] → xs ≡ []
 none_first [] ys e = refl
@@ -199,20 +168,164 @@ none_next : {X : Type 0} (xs ys : List X) → xs ++ ys ≡ [] → ys ≡ []
 none_next [] ys e = e
 none_next (x ∷ xs) ys e = cc
 
+both_quiet : (iface : Iface) (first : IfaceStep) (next : Iface → IfaceStep) → IsQuiet iface first → IsQuiet first.iface (next first.iface)
+    → IsQuiet iface (then_step first next)
+both_quiet iface first next one two e =
+    in_turn iface first.iface (next first.iface).iface (one (none_first first.reports (next first.iface).reports e))
+    (two (none_next first.reports (next first.iface).reports e))
+
+silent_quiet : (iface : Iface) → IsQuiet iface (silent iface)
+silent_quiet iface e = itself iface
+
+news_loud : (old before : Iface) (news : News) (step : IfaceStep) → IsQuiet old (with_news news before step)
+news_loud old before news step e = cc
+
+-- ---- DHCPv4
+
+no_lease_news : (f : News → Report) (said : News4) → map f (lease_news said) ≡ [] → said ≡ news4.Nothing
+no_lease_news f news4.Nothing e = refl
+no_lease_news f news4.Bound e = cc
+no_lease_news f news4.Reboot e = cc
+no_lease_news f news4.Renew e = cc
+no_lease_news f news4.Rebind e = cc
+no_lease_news f news4.Nak e = cc
+no_lease_news f news4.Expire e = cc
+no_lease_news f news4.Stop e = cc
+
+local_followed : (conf : IfConf) (at : ℕ) (held : Bool) (said : News4) (local : LinkLocal) → said ≡ news4.Nothing → followed conf at held said local ≡ local
+local_followed conf at held said local e = ap (λ (n : News4). followed conf at held n local) e
+
+-- of a client that may have taken values before
+dhcp4_quiet_from : (at : ℕ) (iface : Iface) (c : ClientContent) (step : Step4) → (step.news ≡ news4.Nothing → held_of (moved step c) ≡ held_of iface.dhcp4)
+    → IsQuiet iface (dhcp4_step at (record iface { dhcp4 = c }) step)
+dhcp4_quiet_from at iface c step stays e =
+    let none : step.news ≡ news4.Nothing = no_lease_news _ step.news e in
+    record {
+      managed = refl;
+      up = refl;
+      stopped = refl;
+      lease = stays none;
+      held = ap (λ (local : LinkLocal). held_in local.state) (local_followed iface.managed.conf at (is_some (held_of c)) step.news iface.local none);
+    }
+
+dhcp4_quiet : (at : ℕ) (iface : Iface) (step : Step4) → Quietly iface.dhcp4 step → IsQuiet iface (dhcp4_step at iface step)
+dhcp4_quiet at iface step stays = dhcp4_quiet_from at iface iface.dhcp4 step stays
+
+begin_quietly : (at salt : ℕ) (iface : Iface) → IsQuiet iface (begin_dhcp4 at salt iface)
+begin_quietly at salt iface =
+    gated (IsQuiet iface) (runs_dhcp4 iface.managed.conf) (dhcp4_step at iface (carrier_step Up at salt iface.dhcp4)) (silent iface)
+    (dhcp4_quiet at iface (carrier_step Up at salt iface.dhcp4) (begin_quiet at salt iface.dhcp4)) (silent_quiet iface)
+
+rebind_quietly : (at salt : ℕ) (iface : Iface) → IsQuiet iface (rebind_dhcp4 at salt iface)
+rebind_quietly at salt iface =
+    gated (IsQuiet iface) (runs_dhcp4 iface.managed.conf) (dhcp4_step at iface (rebind_step at salt iface.dhcp4)) (silent iface)
+    (dhcp4_quiet at iface (rebind_step at salt iface.dhcp4) (rebind_quiet at salt iface.dhcp4)) (silent_quiet iface)
+
+-- ---- link-local
+
+no_news : (f : News → Report) (news : LlNews) → map f (local_news news) ≡ [] → news ≡ Nothing
+no_news f Nothing e = refl
+no_news f Timeout e = cc
+no_news f Gained e = cc
+no_news f (Lost addr) e = cc
+
+local_quiet : (iface : Iface) (step : LlStep) → HeldStays iface.local.state step → IsQuiet iface (local_step iface step)
+local_quiet iface step stays e = record { managed = refl; up = refl; stopped = refl; lease = refl; held = stays (no_news _ step.out.news e) }
+
+arms_quiet : (at : ℕ) (iface : Iface) → IsQuiet iface (arms at iface)
+arms_quiet at iface =
+    gated (IsQuiet iface) (holds_lease iface) (silent iface) (silent (record iface { local = armed iface.managed.conf at iface.local })) (silent_quiet iface)
+    (λ e. record {
+      managed = refl;
+      up = refl;
+      stopped = refl;
+      lease = refl;
+      held = armed_stays iface.managed.conf at iface.local.iface iface.local.state;
+    })
+
+-- ---- the interface's turn
+
+unsent_quietly : (set at salt : ℕ) (iface : Iface) → SameSources iface (unsent_in set at salt iface)
+unsent_quietly set at salt iface =
+    gated (SameSources iface) (is_in set (index_of iface)) (restarted at salt iface) iface
+    (record {
+      managed = refl;
+      up = refl;
+      stopped = refl;
+      lease = unsent_quiet at salt iface.dhcp4;
+      held = restart_stays iface.local.iface iface.local.state at salt;
+    })
+    (itself iface)
+
+carried_quiet : (at salt : ℕ) (up : Bool) (iface : Iface) → IsQuiet iface (carried at salt up iface)
+carried_quiet at salt true iface =
+    gated (IsQuiet iface) iface.up (silent iface) (carrier_comes at salt iface) (silent_quiet iface)
+    (news_loud iface iface CarrierCame (begins at salt (record iface { up = true })))
+carried_quiet at salt false iface =
+    gated (IsQuiet iface) iface.up (carrier_goes at salt iface) (silent iface)
+    (news_loud iface iface CarrierWent (machines_drop at salt (record iface { up = false }))) (silent_quiet iface)
+
+rebound_quiet : (at salt : ℕ) (iface : Iface) → IsQuiet iface (rebound at salt iface)
+rebound_quiet at salt iface =
+    gated (IsQuiet iface) iface.up (machines_rebind at salt iface) (silent iface)
+    (both_quiet iface (rebind_dhcp4 at salt iface) (arms at) (rebind_quietly at salt iface) (arms_quiet at (rebind_dhcp4 at salt iface).iface))
+    (silent_quiet iface)
+
+module _ (own : List Mac) (at salt : ℕ) (bytes : List ℕ) where
+  packet_quiet : (arp : ArpView) (iface : Iface) → IsQuiet iface (hears_packet own at salt arp iface)
+  packet_quiet arp iface =
+      let first : IfaceStep = dhcp4_packet own at salt arp iface in
+      both_quiet iface first (local_hears own at salt arp) (dhcp4_quiet at iface (arp_step own at salt arp iface.dhcp4) (arp_quiet own at salt arp iface.dhcp4))
+      (local_quiet first.iface (ll_hears own first.iface.local arp at salt) (hears_stays own at salt arp first.iface.local.iface first.iface.local.state))
+
+  message_quiet : (message : Option HeardMessage) (iface : Iface) → IsQuiet iface (hears_message at salt message iface)
+  message_quiet None iface = silent_quiet iface
+  message_quiet (Some heard) iface =
+      dhcp4_quiet_from at iface (brought (arrival_at at heard) iface.dhcp4) (heard_step salt (arrival_at at heard) iface.dhcp4)
+      (heard_quiet salt (arrival_at at heard) iface.dhcp4)
+
+  either_quiet : (arp : Option ArpView) (message : Option HeardMessage) (iface : Iface) → IsQuiet iface (hears_either own at salt arp message iface)
+  either_quiet (Some arp) message iface = packet_quiet arp iface
+  either_quiet None message iface = message_quiet message iface
+
+  hears_quiet : (iface : Iface) → IsQuiet iface (hears own at salt bytes iface)
+  hears_quiet iface = either_quiet (arp_heard bytes) (heard4_in iface.managed.spec.mac bytes) iface
+
+  named_quiet : (index : ℕ) (iface : Iface) (step : IfaceStep) → IsQuiet iface step → IsQuiet iface (if nat_eq (index_of iface) index then step else silent iface)
+  named_quiet index iface step quiet = gated (IsQuiet iface) (nat_eq (index_of iface) index) step (silent iface) quiet (silent_quiet iface)
+
+  taken_quiet : (event : Event) (iface : Iface) → IsQuiet iface (taken own at salt event bytes iface)
+  taken_quiet (Frame index len) iface = named_quiet index iface (hears own at salt bytes iface) (hears_quiet iface)
+  taken_quiet (Carrier index up) iface = named_quiet index iface (carried at salt up iface) (carried_quiet at salt up iface)
+  taken_quiet (Duplicate index addr) iface = silent_quiet iface
+  taken_quiet (Release index) iface = named_quiet index iface (released at salt iface) (news_loud iface iface Released (machines_stop Server at salt iface))
+  taken_quiet (Rebind index) iface = named_quiet index iface (rebound at salt iface) (rebound_quiet at salt iface)
+  taken_quiet Stop iface =
+      news_loud iface iface Stopped (machines_stop (told_at_stop iface.managed.conf) at salt (record iface { stopped = true }))
+  taken_quiet Quiet iface = silent_quiet iface
+  taken_quiet End iface = silent_quiet iface
+
+  input_quiet : (event : Event) (iface : Iface) → IsQuiet iface (input_step own at salt event bytes iface)
+  input_quiet event iface = gated (IsQuiet iface) iface.stopped (silent iface) (taken own at salt event bytes iface) (silent_quiet iface) (taken_quiet event iface)
+
+ticked_quiet : (at salt : ℕ) (iface : Iface) → IsQuiet iface (ticked at salt iface)
+ticked_quiet at salt iface =
+    let first : IfaceStep = tick_dhcp4 at salt iface in
+    both_quiet iface first (tick_local at salt) (dhcp4_quiet at iface (tick_step at salt iface.dhcp4) (tick_quiet at salt iface.dhcp4))
+    (local_quiet first.iface (ll_tick first.iface.local at salt) (tick_stays first.iface.local.iface first.iface.local.state at salt))
+
 turn_quiet : (own : List Mac) (turn : Turn) (iface : Iface) → IsQuiet iface (iface_turned own turn iface)
 turn_quiet own turn iface e =
     let anew : Iface = unsent_in turn.unsent turn.at turn.salt iface in
     let first : IfaceStep = ticked turn.at turn.salt anew in
-    let next : IfaceStep = input_step own turn.at turn.salt turn.event turn.bytes first.iface in
-    in_turn iface first.iface next.iface
-    (in_turn iface anew first.iface (unsent_quiet turn.unsent turn.at turn.salt iface)
-    (local_quiet anew (ll_tick anew.local turn.at turn.salt) (tick_stays anew.local.iface anew.local.state turn.at turn.salt) (none_first first.reports next.reports e)))
-    (input_quiet own turn.at turn.salt turn.bytes turn.event first.iface (none_next first.reports next.reports e))
+    in_turn iface anew _ (unsent_quietly turn.unsent turn.at turn.salt iface)
+    (both_quiet anew first (input_step own turn.at turn.salt turn.event turn.bytes) (ticked_quiet turn.at turn.salt anew)
+    (input_quiet own turn.at turn.salt turn.bytes turn.event first.iface) e)
 
 same_rows : (old new : Iface) → SameSources old new → iface_rows new ≡ iface_rows old
 same_rows old new same =
     λ i. static_rows (same.managed i).spec.index (same.up i && not (same.stopped i)) (same.managed i).conf.line
-    ++ local_rows (same.managed i).spec.index (same.held i)
+    ++ lease_rows (same.managed i).spec.index (same.lease i) ++ local_rows (same.managed i).spec.index (same.held i)
 
 pub quiet_rows : (own : List Mac) (turn : Turn) (iface : Iface) → (iface_turned own turn iface).reports ≡ []
     → iface_rows (iface_turned own turn iface).iface ≡ iface_rows iface

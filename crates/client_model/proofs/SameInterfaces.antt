@@ -1,53 +1,126 @@
--- An interface stays the one that it is.
-use Rattle.std.proofs.Common.{ℕ, ◌≡◌, Bool, true, false, cond, List, [], ◌∷◌, map, Option, Some, None, refl, ap, ap₂, ◌∙◌}
+-- An interface stays the one that it is, and its client keeps its settings.
+use Rattle.std.proofs.Common.{ℕ, ◌≡◌, Bool, true, false, List, [], ◌∷◌, map, Option, Some, None, refl, ap, ap₂, ◌∙◌}
+use Rattle.net_types.proofs.CaseLaws.{gated}
 use Rattle.net_types.specs.declared.address.Mac.{Mac}
 use Rattle.frame_link.specs.declared.arp.ArpView.{ArpView}
+use Rattle.v4_frames.specs.Heard.{HeardMessage, heard4_in}
+use Rattle.v4_client.specs.Calls.{carrier_step, rebind_step}
+use Rattle.v4_client.specs.declared.states.Carrier.TheVariants.{Up}
 use Rattle.world.specs.declared.wakes.Event.{Event}
 use Rattle.world.specs.declared.wakes.Event.TheVariants.{Frame, Carrier, Duplicate, Release, Rebind, Stop, Quiet, End}
 use Rattle.settings.specs.declared.interfaces.Managed.{Managed}
 use Rattle.script_model.specs.IfaceSets.{is_in, is_up}
 use Rattle.client_model.specs.declared.interfaces.Iface.{Iface}
-use Rattle.client_model.specs.IfaceSteps.{IfaceStep, index_of, silent}
-use Rattle.client_model.specs.LocalSteps.{local_hears}
-use Rattle.client_model.specs.Interfaces.{begins, resting, carrier_comes, carrier_goes, opened, restarted, unsent_in, ticked, carried, released, rebound}
-use Rattle.client_model.specs.IfaceTurns.{Turn, arp_heard, hears, taken, input_step, iface_turned}
+use Rattle.client_model.specs.ClientSettings.{runs_dhcp4}
+use Rattle.client_model.specs.Dhcp4Steps.{arms, begin_dhcp4, dhcp4_step, rebind_dhcp4}
+use Rattle.client_model.specs.IfaceSteps.{IfaceStep, index_of, silent, then_step}
+use Rattle.client_model.specs.LocalSteps.{armed}
+use Rattle.client_model.specs.Interfaces.{begins, machines_rebind, resting, carrier_comes, carrier_goes, opened, restarted, unsent_in, ticked, carried, released, rebound, halted}
+use Rattle.client_model.specs.IfaceTurns.{Turn, arp_heard, hears, hears_either, hears_message, hears_packet, taken, input_step, iface_turned}
 use Rattle.client_model.specs.Runs.{iface_run}
 
-either_iface : (b : Bool) (a c : Iface) (m : Managed) → a.managed ≡ m → c.managed ≡ m → (cond b a c).managed ≡ m
-either_iface true a c m e h = e
-either_iface false a c m e h = h
+pub record IsSame (old new : Iface) : Type 0 where
+  pub managed : new.managed ≡ old.managed
+  pub settings : new.dhcp4.settings ≡ old.dhcp4.settings
 
-either_step : (b : Bool) (a c : IfaceStep) (m : Managed) → a.iface.managed ≡ m → c.iface.managed ≡ m → (cond b a c).iface.managed ≡ m
-either_step true a c m e h = e
-either_step false a c m e h = h
+pub itself : (iface : Iface) → IsSame iface iface
+itself iface = record { managed = refl; settings = refl }
 
-carried_same : (at : ℕ) (up : Bool) (iface : Iface) → (carried at up iface).iface.managed ≡ iface.managed
-carried_same at true iface = either_step iface.up (silent iface) (carrier_comes at iface) iface.managed refl refl
-carried_same at false iface = either_step iface.up (carrier_goes iface) (silent iface) iface.managed refl refl
+pub in_turn : (a b c : Iface) → IsSame a b → IsSame b c → IsSame a c
+in_turn a b c first next = record { managed = next.managed ∙ first.managed; settings = next.settings ∙ first.settings }
+
+abbrev pub StepSame : Iface → IfaceStep → Type 0
+StepSame iface step = IsSame iface step.iface
+
+pub both_same : (iface : Iface) (first : IfaceStep) (next : Iface → IfaceStep) → StepSame iface first → StepSame first.iface (next first.iface) → StepSame iface (then_step first next)
+both_same iface first next one two = in_turn iface first.iface (next first.iface).iface one two
+
+pub begin_same : (at salt : ℕ) (iface : Iface) → StepSame iface (begin_dhcp4 at salt iface)
+begin_same at salt iface =
+    gated (StepSame iface) (runs_dhcp4 iface.managed.conf) (dhcp4_step at iface (carrier_step Up at salt iface.dhcp4)) (silent iface)
+    (record { managed = refl; settings = refl }) (itself iface)
+
+pub rebind_same : (at salt : ℕ) (iface : Iface) → StepSame iface (rebind_dhcp4 at salt iface)
+rebind_same at salt iface =
+    gated (StepSame iface) (runs_dhcp4 iface.managed.conf) (dhcp4_step at iface (rebind_step at salt iface.dhcp4)) (silent iface)
+    (record { managed = refl; settings = refl }) (itself iface)
+
+pub arms_same : (at : ℕ) (iface : Iface) → StepSame iface (arms at iface)
+arms_same at iface =
+    gated (StepSame iface) _ (silent iface) (silent (record iface { local = armed iface.managed.conf at iface.local }))
+    (itself iface) (record { managed = refl; settings = refl })
+
+begins_same : (at salt : ℕ) (iface : Iface) → StepSame iface (begins at salt iface)
+begins_same at salt iface =
+    both_same iface (begin_dhcp4 at salt iface) (arms at) (begin_same at salt iface) (arms_same at (begin_dhcp4 at salt iface).iface)
+
+comes_same : (at salt : ℕ) (iface : Iface) → StepSame iface (carrier_comes at salt iface)
+comes_same at salt iface =
+    let same : StepSame (record iface { up = true }) (begins at salt (record iface { up = true })) = begins_same at salt (record iface { up = true }) in
+    record { managed = same.managed; settings = same.settings }
+
+carried_same : (at salt : ℕ) (up : Bool) (iface : Iface) → StepSame iface (carried at salt up iface)
+carried_same at salt true iface = gated (StepSame iface) iface.up (silent iface) (carrier_comes at salt iface) (itself iface) (comes_same at salt iface)
+carried_same at salt false iface =
+    gated (StepSame iface) iface.up (carrier_goes at salt iface) (silent iface) (record { managed = refl; settings = refl }) (itself iface)
+
+rebound_same : (at salt : ℕ) (iface : Iface) → StepSame iface (rebound at salt iface)
+rebound_same at salt iface =
+    gated (StepSame iface) iface.up (machines_rebind at salt iface) (silent iface)
+    (both_same iface (rebind_dhcp4 at salt iface) (arms at) (rebind_same at salt iface) (arms_same at (rebind_dhcp4 at salt iface).iface))
+    (itself iface)
 
 module _ (own : List Mac) (at salt : ℕ) where
-  local_hears_same : (arp : Option ArpView) (iface : Iface) → (local_hears own at salt arp iface).iface.managed ≡ iface.managed
-  local_hears_same None iface = refl
-  local_hears_same (Some arp) iface = refl
+  packet_same : (arp : ArpView) (iface : Iface) → StepSame iface (hears_packet own at salt arp iface)
+  packet_same arp iface = record { managed = refl; settings = refl }
 
-  taken_same : (event : Event) (bytes : List ℕ) (iface : Iface) → (taken own at salt event bytes iface).iface.managed ≡ iface.managed
-  taken_same (Frame index len) bytes iface = either_step _ (hears own at salt bytes iface) (silent iface) iface.managed (local_hears_same (arp_heard bytes) iface) refl
-  taken_same (Carrier index up) bytes iface = either_step _ (carried at up iface) (silent iface) iface.managed (carried_same at up iface) refl
-  taken_same (Duplicate index addr) bytes iface = refl
-  taken_same (Release index) bytes iface = either_step _ (released iface) (silent iface) iface.managed refl refl
-  taken_same (Rebind index) bytes iface =
-      either_step _ (rebound at iface) (silent iface) iface.managed (either_step iface.up (begins at iface) (silent iface) iface.managed refl refl) refl
-  taken_same Stop bytes iface = refl
-  taken_same Quiet bytes iface = refl
-  taken_same End bytes iface = refl
+  message_same : (message : Option HeardMessage) (iface : Iface) → StepSame iface (hears_message at salt message iface)
+  message_same None iface = itself iface
+  message_same (Some heard) iface = record { managed = refl; settings = refl }
 
-  input_same : (event : Event) (bytes : List ℕ) (iface : Iface) → (input_step own at salt event bytes iface).iface.managed ≡ iface.managed
-  input_same event bytes iface = either_step iface.stopped (silent iface) (taken own at salt event bytes iface) iface.managed refl (taken_same event bytes iface)
+  either_same : (arp : Option ArpView) (message : Option HeardMessage) (iface : Iface) → StepSame iface (hears_either own at salt arp message iface)
+  either_same (Some arp) message iface = packet_same arp iface
+  either_same None message iface = message_same message iface
+
+  hears_same : (bytes : List ℕ) (iface : Iface) → StepSame iface (hears own at salt bytes iface)
+  hears_same bytes iface = either_same (arp_heard bytes) (heard4_in iface.managed.spec.mac bytes) iface
+
+  taken_same : (event : Event) (bytes : List ℕ) (iface : Iface) → StepSame iface (taken own at salt event bytes iface)
+  taken_same (Frame index len) bytes iface = gated (StepSame iface) _ (hears own at salt bytes iface) (silent iface) (hears_same bytes iface) (itself iface)
+  taken_same (Carrier index up) bytes iface = gated (StepSame iface) _ (carried at salt up iface) (silent iface) (carried_same at salt up iface) (itself iface)
+  taken_same (Duplicate index addr) bytes iface = itself iface
+  taken_same (Release index) bytes iface =
+      gated (StepSame iface) _ (released at salt iface) (silent iface) (record { managed = refl; settings = refl }) (itself iface)
+  taken_same (Rebind index) bytes iface = gated (StepSame iface) _ (rebound at salt iface) (silent iface) (rebound_same at salt iface) (itself iface)
+  taken_same Stop bytes iface = record { managed = refl; settings = refl }
+  taken_same Quiet bytes iface = itself iface
+  taken_same End bytes iface = itself iface
+
+  pub input_same : (event : Event) (bytes : List ℕ) (iface : Iface) → StepSame iface (input_step own at salt event bytes iface)
+  input_same event bytes iface =
+      gated (StepSame iface) iface.stopped (silent iface) (taken own at salt event bytes iface) (itself iface) (taken_same event bytes iface)
+
+pub ticked_same : (at salt : ℕ) (iface : Iface) → StepSame iface (ticked at salt iface)
+ticked_same at salt iface = record { managed = refl; settings = refl }
+
+pub unsent_same : (set at salt : ℕ) (iface : Iface) → IsSame iface (unsent_in set at salt iface)
+unsent_same set at salt iface =
+    gated (IsSame iface) (is_in set (index_of iface)) (restarted at salt iface) iface (record { managed = refl; settings = refl }) (itself iface)
+
+pub turned_is_same : (own : List Mac) (turn : Turn) (iface : Iface) → StepSame iface (iface_turned own turn iface)
+turned_is_same own turn iface =
+    let anew : Iface = unsent_in turn.unsent turn.at turn.salt iface in
+    let first : IfaceStep = ticked turn.at turn.salt anew in
+    in_turn iface anew _ (unsent_same turn.unsent turn.at turn.salt iface)
+    (in_turn anew first.iface _ (ticked_same turn.at turn.salt anew) (input_same own turn.at turn.salt turn.event turn.bytes first.iface))
+
+pub opened_is_same : (up at salt : ℕ) (managed : Managed) → StepSame (resting managed) (opened up at salt managed)
+opened_is_same up at salt managed =
+    gated (StepSame (resting managed)) (is_up up managed.spec.index.number) (carrier_comes at salt (resting managed)) (silent (resting managed))
+    (comes_same at salt (resting managed)) (itself (resting managed))
 
 pub turned_same : (own : List Mac) (turn : Turn) (iface : Iface) → (iface_turned own turn iface).iface.managed ≡ iface.managed
-turned_same own turn iface =
-    input_same own turn.at turn.salt turn.event turn.bytes (ticked turn.at turn.salt (unsent_in turn.unsent turn.at turn.salt iface)).iface
-    ∙ either_iface (is_in turn.unsent (index_of iface)) (restarted turn.at turn.salt iface) iface iface.managed refl refl
+turned_same own turn iface = (turned_is_same own turn iface).managed
 
 pub run_same : (own : List Mac) (iface : Iface) (turns : List Turn) → (iface_run own iface turns).managed ≡ iface.managed
 run_same own iface [] = refl
@@ -57,12 +130,12 @@ run_same own iface (turn ∷ before) = turned_same own turn (iface_run own iface
 abbrev pub managed_in : List Iface → List Managed
 managed_in ifaces = map (λ (iface : Iface). iface.managed) ifaces
 
-pub opened_same : (up at : ℕ) (managed : Managed) → (opened up at managed).iface.managed ≡ managed
-opened_same up at managed = either_step (is_up up managed.spec.index.number) (carrier_comes at (resting managed)) (silent (resting managed)) managed refl refl
+pub opened_same : (up at salt : ℕ) (managed : Managed) → (opened up at salt managed).iface.managed ≡ managed
+opened_same up at salt managed = (opened_is_same up at salt managed).managed
 
-pub all_opened : (up at : ℕ) (managed : List Managed) → managed_in (map (λ (step : IfaceStep). step.iface) (map (opened up at) managed)) ≡ managed
-all_opened up at [] = refl
-all_opened up at (m ∷ managed) = ap₂ (λ (n : Managed) (more : List Managed). n ∷ more) (opened_same up at m) (all_opened up at managed)
+pub all_opened : (up at salt : ℕ) (managed : List Managed) → managed_in (map (λ (step : IfaceStep). step.iface) (map (opened up at salt) managed)) ≡ managed
+all_opened up at salt [] = refl
+all_opened up at salt (m ∷ managed) = ap₂ (λ (n : Managed) (more : List Managed). n ∷ more) (opened_same up at salt m) (all_opened up at salt managed)
 
 pub all_turned : (own : List Mac) (turn : Turn) (ifaces : List Iface) → managed_in (map (λ (step : IfaceStep). step.iface) (map (iface_turned own turn) ifaces)) ≡ managed_in ifaces
 all_turned own turn [] = refl

@@ -1,17 +1,21 @@
 -- The client over all managed interfaces: each has a run of its own, and what they say goes out in their order.
-use Rattle.std.specs.Prelude.{ℕ, min, List, [], ◌∷◌, map, flat_map, Option, Some, None}
+use Rattle.std.specs.Prelude.{ℕ, List, [], ◌∷◌, map, flat_map, Option, Some, None}
 use Rattle.net_types.specs.declared.address.Mac.{Mac}
 use Rattle.net_types.specs.declared.interface.IfIndex.{IfIndex}
 use Rattle.net_types.specs.declared.interface.IfSpec.{IfSpec}
 use Rattle.frame_link.specs.Packets.{probe_text, announcement_text}
 use Rattle.machine.specs.Moment.{moment_of}
+use Rattle.v4_message.specs.Requests.{AskContent}
+use Rattle.v4_frames.specs.Spelled as dhcp4
+pub use Rattle.v4_client.specs.Moments.{earlier}
+use Rattle.v4_client.specs.Saying.{sent_of}
 use Rattle.arp_acd.specs.declared.detection.ArpSay.TheVariants.{Probe, Announce}
 use Rattle.world.specs.declared.rows.HostRow.{HostRow}
 use Rattle.world.specs.declared.wakes.Begin.{Begin}
 use Rattle.settings.specs.declared.interfaces.Managed.{Managed}
 use Rattle.client_model.specs.declared.interfaces.Iface.{Iface}
 use Rattle.client_model.specs.declared.steps.Said.{Said}
-use Rattle.client_model.specs.declared.steps.Said.TheVariants.{Arp}
+use Rattle.client_model.specs.declared.steps.Said.TheVariants.{Arp, Dhcp4}
 use Rattle.client_model.specs.IfaceSteps.{Report, IfaceStep}
 use Rattle.client_model.specs.Interfaces.{opened, iface_due}
 use Rattle.client_model.specs.IfaceTurns.{Turn, iface_turned}
@@ -29,16 +33,17 @@ pub record Sending : Type 0 where
   pub iface : IfIndex
   pub bytes : List ℕ
 
--- the frame of a message
-abbrev pub frame_of : IfSpec → Said → List ℕ
-frame_of spec (Arp (Probe addr)) = probe_text spec.mac addr
-frame_of spec (Arp (Announce addr)) = announcement_text spec.mac addr
+-- the frame of a message; `ask` is what the DHCPv4 client says of itself
+abbrev pub frame_of : IfSpec → (ask : AskContent) → Said → List ℕ
+frame_of spec ask (Dhcp4 say) = dhcp4.frame_of ask (sent_of say)
+frame_of spec ask (Arp (Probe addr)) = probe_text spec.mac addr
+frame_of spec ask (Arp (Announce addr)) = announcement_text spec.mac addr
 
-abbrev pub spelled : IfSpec → Said → Sending
-spelled spec message = record { iface = spec.index; bytes = frame_of spec message }
+abbrev pub spelled : IfSpec → (ask : AskContent) → Said → Sending
+spelled spec ask message = record { iface = spec.index; bytes = frame_of spec ask message }
 
 abbrev pub sends_of : IfaceStep → List Sending
-sends_of step = map (spelled step.iface.managed.spec) step.said
+sends_of step = map (spelled step.iface.managed.spec step.iface.dhcp4.settings.ask) step.said
 
 -- how the client goes on, the frames that it offers, and what is new, in order
 pub record ClientStep : Type 0 where
@@ -56,7 +61,7 @@ joined own steps = record {
 
 -- the opening: `specs` are all interfaces, `managed` those that the client manages
 abbrev pub opening : List Managed → (specs : List IfSpec) → Begin → ClientStep
-opening managed specs begin = joined (map (λ spec. spec.mac) specs) (map (opened begin.up (moment_of begin.at)) managed)
+opening managed specs begin = joined (map (λ spec. spec.mac) specs) (map (opened begin.up (moment_of begin.at) begin.salt) managed)
 
 abbrev pub steps_of : Turn → Client → List IfaceStep
 steps_of turn client = map (iface_turned client.own turn) client.ifaces
@@ -66,12 +71,6 @@ client_turned turn client = joined client.own (steps_of turn client)
 
 abbrev pub rows_of : Client → List HostRow
 rows_of client = wanted_rows client.ifaces
-
--- the earlier of two moments, where there are any
-abbrev pub earlier : Option ℕ → Option ℕ → Option ℕ
-earlier None b = b
-earlier (Some a) None = Some a
-earlier (Some a) (Some b) = Some (min a b)
 
 -- the earliest moment at which a machine is due
 abbrev pub client_due : List Iface → Option ℕ

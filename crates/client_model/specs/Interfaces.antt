@@ -1,76 +1,109 @@
 -- One interface: its carrier, its machines, and the steps that it makes.
-use Rattle.std.specs.Prelude.{ℕ, Bool, true, false, if◌then◌else◌, Option}
-use Rattle.ipv4ll.specs.Table.{ll_restarts, due_of, off}
+use Rattle.std.specs.Prelude.{ℕ, Bool, true, false, if◌then◌else◌, Option, None}
+use Rattle.ipv4ll.specs.Table as local
+use Rattle.ipv4ll.specs.Table.{ll_restarts, off}
+use Rattle.v4_client.specs.declared.states.Tell.{Tell}
+use Rattle.v4_client.specs.declared.states.Tell.TheVariants.{Server, Nobody}
+use Rattle.v4_client.specs.Calls.{unsent_step}
+use Rattle.v4_client.specs.Clients.{client_made}
+use Rattle.v4_client.specs.Due as lease
+use Rattle.v4_client.specs.Moments.{earlier}
+use Rattle.settings.specs.declared.interfaces.IfConf.{IfConf}
 use Rattle.settings.specs.declared.interfaces.Managed.{Managed}
 use Rattle.script_model.specs.IfaceSets.{is_in, is_up}
 use Rattle.client_model.specs.declared.interfaces.Iface.{Iface}
 use Rattle.client_model.specs.declared.steps.News.TheVariants.{CarrierCame, CarrierWent, Released, Stopped}
 use Rattle.client_model.specs.declared.steps.TimedMachine.{TimedMachine}
-use Rattle.client_model.specs.declared.steps.TimedMachine.TheVariants.{LinkLocal}
-use Rattle.client_model.specs.IfaceSteps.{IfaceStep, index_of, silent, with_news}
-use Rattle.client_model.specs.LocalSteps.{arms, tick_local}
+use Rattle.client_model.specs.declared.steps.TimedMachine.TheVariants.{Dhcp4, LinkLocal}
+use Rattle.client_model.specs.ClientSettings.{settings_of}
+use Rattle.client_model.specs.Dhcp4Steps.{arms, begin_dhcp4, rebind_dhcp4, drop_dhcp4, stop_dhcp4, tick_dhcp4}
+use Rattle.client_model.specs.IfaceSteps.{IfaceStep, index_of, silent, then_step, with_news}
+use Rattle.client_model.specs.LocalSteps.{local_off, tick_local}
 
 -- machines that are off begin
-abbrev pub begins : (at : ℕ) → Iface → IfaceStep
-begins at iface = arms at iface
+abbrev pub begins : (at salt : ℕ) → Iface → IfaceStep
+begins at salt iface = then_step (begin_dhcp4 at salt iface) (arms at)
 
-abbrev pub machines_off : Iface → IfaceStep
-machines_off iface = silent (record iface { local = off iface.local.iface })
+-- the machines are off, and nobody is told
+abbrev pub machines_drop : (at salt : ℕ) → Iface → IfaceStep
+machines_drop at salt iface = then_step (drop_dhcp4 at salt iface) local_off
+
+-- the machines stop
+abbrev pub machines_stop : Tell → (at salt : ℕ) → Iface → IfaceStep
+machines_stop tell at salt iface = then_step (stop_dhcp4 tell at salt iface) local_off
 
 -- ---- the opening
 
 -- an interface before its opening
 abbrev pub resting : Managed → Iface
-resting managed = record { managed = managed; up = false; stopped = false; local = off managed.spec.index }
+resting managed = record {
+  managed = managed;
+  up = false;
+  stopped = false;
+  dhcp4 = client_made (settings_of managed) None;
+  local = off managed.spec.index;
+}
 
-abbrev pub carrier_comes : (at : ℕ) → Iface → IfaceStep
-carrier_comes at iface = with_news CarrierCame iface (begins at (record iface { up = true }))
+abbrev pub carrier_comes : (at salt : ℕ) → Iface → IfaceStep
+carrier_comes at salt iface = with_news CarrierCame iface (begins at salt (record iface { up = true }))
 
 -- Where it has carrier at the opening, this is a carrier that comes. No machine ticks.
-abbrev pub opened : (up at : ℕ) → Managed → IfaceStep
-opened up at managed =
-    if is_up up managed.spec.index.number then carrier_comes at (resting managed) else silent (resting managed)
+abbrev pub opened : (up at salt : ℕ) → Managed → IfaceStep
+opened up at salt managed =
+    if is_up up managed.spec.index.number then carrier_comes at salt (resting managed) else silent (resting managed)
 
 -- ---- ticks
 
 -- a frame of the interface couldn't be sent in the turn before
 abbrev pub restarted : (at salt : ℕ) → Iface → Iface
-restarted at salt iface = record iface { local = ll_restarts iface.local at salt }
+restarted at salt iface = record iface { dhcp4 = unsent_step at salt iface.dhcp4; local = ll_restarts iface.local at salt }
 
 abbrev pub unsent_in : (set at salt : ℕ) → Iface → Iface
 unsent_in set at salt iface = if is_in set (index_of iface) then restarted at salt iface else iface
 
 abbrev pub machine_due : TimedMachine → Iface → Option ℕ
-machine_due LinkLocal iface = due_of iface.local.state
+machine_due Dhcp4 iface = lease.due_of iface.dhcp4.state
+machine_due LinkLocal iface = local.due_of iface.local.state
 
 abbrev pub machine_ticked : TimedMachine → (at salt : ℕ) → Iface → IfaceStep
+machine_ticked Dhcp4 at salt iface = tick_dhcp4 at salt iface
 machine_ticked LinkLocal at salt iface = tick_local at salt iface
 
 -- all machines tick in order, due or not
 abbrev pub ticked : (at salt : ℕ) → Iface → IfaceStep
-ticked at salt iface = machine_ticked LinkLocal at salt iface
+ticked at salt iface = then_step (machine_ticked Dhcp4 at salt iface) (machine_ticked LinkLocal at salt)
 
 -- the earliest moment at which a machine of the interface is due
 abbrev pub iface_due : Iface → Option ℕ
-iface_due iface = machine_due LinkLocal iface
+iface_due iface = earlier (machine_due Dhcp4 iface) (machine_due LinkLocal iface)
 
 -- ---- inputs
 
-abbrev pub carrier_goes : Iface → IfaceStep
-carrier_goes iface = with_news CarrierWent iface (machines_off (record iface { up = false }))
+abbrev pub carrier_goes : (at salt : ℕ) → Iface → IfaceStep
+carrier_goes at salt iface = with_news CarrierWent iface (machines_drop at salt (record iface { up = false }))
 
 -- The carrier comes or goes. One that is as before changes nothing.
-abbrev pub carried : (at : ℕ) → (up : Bool) → Iface → IfaceStep
-carried at true iface = if iface.up then silent iface else carrier_comes at iface
-carried at false iface = if iface.up then carrier_goes iface else silent iface
+abbrev pub carried : (at salt : ℕ) → (up : Bool) → Iface → IfaceStep
+carried at salt true iface = if iface.up then silent iface else carrier_comes at salt iface
+carried at salt false iface = if iface.up then carrier_goes at salt iface else silent iface
 
-abbrev pub released : Iface → IfaceStep
-released iface = with_news Released iface (machines_off iface)
+-- what is held is given back, and its server is told
+abbrev pub released : (at salt : ℕ) → Iface → IfaceStep
+released at salt iface = with_news Released iface (machines_stop Server at salt iface)
 
--- machines that are off begin, where there is carrier
-abbrev pub rebound : (at : ℕ) → Iface → IfaceStep
-rebound at iface = if iface.up then begins at iface else silent iface
+-- a lease that is held is confirmed anew, and machines that are off begin
+abbrev pub machines_rebind : (at salt : ℕ) → Iface → IfaceStep
+machines_rebind at salt iface = then_step (rebind_dhcp4 at salt iface) (arms at)
+
+-- so where there is carrier
+abbrev pub rebound : (at salt : ℕ) → Iface → IfaceStep
+rebound at salt iface = if iface.up then machines_rebind at salt iface else silent iface
+
+-- whether the server of a held lease is told at a stop
+abbrev pub told_at_stop : IfConf → Tell
+told_at_stop conf = if conf.release then Server else Nobody
 
 -- nothing is in force after a stop
-abbrev pub halted : Iface → IfaceStep
-halted iface = with_news Stopped iface (machines_off (record iface { stopped = true }))
+abbrev pub halted : (at salt : ℕ) → Iface → IfaceStep
+halted at salt iface =
+    with_news Stopped iface (machines_stop (told_at_stop iface.managed.conf) at salt (record iface { stopped = true }))

@@ -1,5 +1,5 @@
 -- The rows that the interfaces' addresses give, computed from scratch.
-use Rattle.std.specs.Prelude.{ℕ, ◌+◌, ◌-◌, ◌/◌, ◌%◌, ◌^◌, Bool, true, false, not, ◌&&◌, ◌||◌, ◌==◌, nat_lt, if◌then◌else◌, List, [], ◌∷◌, ◌++◌, filter, flat_map, Option, Some, None}
+use Rattle.std.specs.Prelude.{ℕ, ◌+◌, ◌-◌, ◌/◌, ◌%◌, ◌^◌, Bool, true, false, not, ◌&&◌, ◌||◌, ◌==◌, nat_lt, if◌then◌else◌, List, [], ◌∷◌, ◌++◌, filter, find, flat_map, Option, Some, None, option_map, option_and_then, slice_get}
 use Rattle.std.specs.List.{list_any}
 use Rattle.std.specs.Ordering.{is_lt}
 use Rattle.net_types.specs.declared.address.Ip4.{Ip4}
@@ -13,6 +13,12 @@ use Rattle.world.specs.declared.rows.HostRow.TheVariants.{Addr, Route}
 use Rattle.world.specs.declared.rows.Via.TheVariants.{OnLink, Gate4}
 use Rattle.world.specs.RowOrder.{family, net_number, net_len, row_iface, row_cmp, in_row_order}
 use Rattle.ipv4ll.specs.Table.{held_in}
+use Rattle.v4_options.specs.declared.code.TheConstants.{CLASSLESS_ROUTES, ROUTERS}
+use Rattle.v4_options.specs.declared.routes.ClasslessRoute.{ClasslessRoute}
+use Rattle.v4_options.specs.Numbers.{addrs_in}
+use Rattle.v4_options.specs.Routes.{routes_in}
+use Rattle.lease_text.specs.Leases.{ValueContent, LeaseContent}
+use Rattle.v4_client.specs.Clients.{held_of}
 use Rattle.settings.specs.declared.interfaces.StaticLine.{StaticLine}
 use Rattle.client_model.specs.declared.interfaces.Iface.{Iface}
 
@@ -54,6 +60,40 @@ static_rows iface false line = []
 static_rows iface true None = []
 static_rows iface true (Some line) = line_rows iface line
 
+-- ---- a lease (RFC 2131, RFC 3442)
+
+-- the value of a code that came with a lease
+abbrev pub value_in : (code : ℕ) → List ValueContent → Option (List ℕ)
+value_in code values = option_map (λ value. value.bytes) (find (λ value. value.code == code) values)
+
+-- the classless routes that came with a lease, and its routers
+abbrev pub classless_in : List ValueContent → Option (List ClasslessRoute)
+classless_in values = option_and_then routes_in (value_in CLASSLESS_ROUTES values)
+
+abbrev pub routers_in : List ValueContent → Option (List Ip4)
+routers_in values = option_and_then addrs_in (value_in ROUTERS values)
+
+-- a classless route; where its gateway is 0 its destination is on the link
+abbrev pub classless_rows : IfIndex → Net4 → ClasslessRoute → List HostRow
+classless_rows iface net route =
+    if route.via.number == 0
+    then Route iface (Family.V4 route.dest) OnLink (metric_of iface) ∷ []
+    else Route iface (Family.V4 route.dest) (Gate4 route.via) (metric_of iface) ∷ gateway_routes iface net route.via
+
+-- the preferred router comes first (RFC 2132, section 3.5)
+abbrev pub preferred : List Ip4 → Option Ip4
+preferred routers = slice_get routers 0
+
+-- classless routes take the place of routers (RFC 3442)
+abbrev pub lease_routes : IfIndex → Net4 → Option (List ClasslessRoute) → (routers : Option (List Ip4)) → List HostRow
+lease_routes iface net (Some routes) routers = flat_map (classless_rows iface net) routes
+lease_routes iface net None routers = router_routes iface net (option_and_then preferred routers)
+
+abbrev pub lease_rows : IfIndex → Option LeaseContent → List HostRow
+lease_rows iface None = []
+lease_rows iface (Some lease) =
+    address_rows iface lease.net ++ lease_routes iface lease.net (classless_in lease.values) (routers_in lease.values)
+
 -- a link-local address is one of 169.254/16 (RFC 3927, section 2.1)
 abbrev pub local_net : Ip4 → Net4
 local_net ip = record { ip = ip; len = 16 }
@@ -65,6 +105,7 @@ local_rows iface (Some ip) = address_rows iface (local_net ip)
 abbrev pub iface_rows : Iface → List HostRow
 iface_rows iface =
     static_rows iface.managed.spec.index (iface.up && not iface.stopped) iface.managed.conf.line
+    ++ lease_rows iface.managed.spec.index (held_of iface.dhcp4)
     ++ local_rows iface.managed.spec.index (held_in iface.local.state)
 
 abbrev pub same_net : Net → Net → Bool

@@ -1,14 +1,17 @@
 use ipv4ll::LinkLocal;
 use settings::Managed;
+use v4_client::Client4;
 
 /// A managed interface in a life.
-#[derive(Clone, Copy, Debug, PartialEq, Eq)]
+#[derive(Drop)]
 pub struct Iface {
     pub managed: Managed,
     /// Whether it has carrier.
     pub up: bool,
     /// Whether the daemon was told to stop.
     pub stopped: bool,
+    /// Its DHCPv4 client.
+    pub dhcp4: Client4,
     /// Its link-local address.
     pub local: LinkLocal,
 }

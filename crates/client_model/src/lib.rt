@@ -1,10 +1,12 @@
 //! What the client is over its interfaces: what a turn makes of each, the frames that they send, the rows that they want.
 #![tactic(auto)]
 
+mod asking;
 mod interfaces;
 mod laws;
 mod steps;
 
+pub use asking::{ETHERNET, WANTED_CODES};
 pub use interfaces::Iface;
 pub use laws::{
     interfaces_run_apart, kept_rows_are_unlike, other_inputs_are_quiet, own_inputs_alone_count,

@@ -1,8 +1,7 @@
 -- A line: what is read is spelled so, and what is spelled so is read.
-use Rattle.std.proofs.Common.{◌≡◌, ℕ, List, [], ◌∷◌, ◌++◌, Bool, true, false, cond, Option, Some, None, option_map, refl, sym, ap, subst}
-use Rattle.std.specs.Prelude.{codes, bytes_eq}
+use Rattle.std.proofs.Common.{◌≡◌, ℕ, List, ◌∷◌, ◌++◌, Option, Some, None, option_map, refl, sym, ap, subst, ◌∙◌}
+use Rattle.std.specs.Prelude.{codes, decimal}
 use Rattle.std.specs.List.{AllByRecursion}
-use Rattle.std.proofs.lemmas.Slice.Eq.{bytes_eq-Decides}
 use Rattle.net_types.specs.Reads.{Reads}
 use Rattle.net_types.specs.Marks.{Lacks}
 use Rattle.net_types.specs.Cutting.{split_at_byte}
@@ -15,13 +14,16 @@ use Rattle.net_types.proofs.NameLaws.{name_reads, name_lacks}
 use Rattle.net_types.proofs.MarkLaws.{lacks-append, ip4_lacks, net4_lacks}
 use Rattle.conf_text.specs.declared.conf.ConfLine.{ConfLine}
 use Rattle.conf_text.specs.declared.flags.FlagName.{FlagName}
-use Rattle.conf_text.specs.declared.conf.ConfLine.TheVariants.{NoScript, Flag, Interface, Address, Router}
+use Rattle.conf_text.specs.declared.numbers.NumberName.{NumberName}
+use Rattle.conf_text.specs.declared.conf.ConfLine.TheVariants.{NoScript, Flag, Number, Interface, Address, Router}
 use Rattle.conf_text.specs.ConfLines.{conf_line_text, FitsConfLine}
 use Rattle.conf_text.specs.Words.{meaning}
 use Rattle.conf_text.specs.Flags.{flag_text, flag_at}
-use Rattle.conf_text.specs.LineAt.{scripts, script_at, settings, setting_at, static_at, directives, directive_at, by_first_word, conf_line_at}
+use Rattle.conf_text.specs.Numbers.{number_word, number_named, FitsSeconds, seconds_at}
+use Rattle.conf_text.specs.LineAt.{scripts, script_at, settings, setting_at, static_at, number_line_at, directives, read_or, directive_at, by_first_word, conf_line_at}
 use Rattle.conf_text.proofs.WordLaws.{meant}
 use Rattle.conf_text.proofs.FlagLaws.{flag_sound, flag_whole, flag_alone, flag_lacks}
+use Rattle.conf_text.proofs.NumberLaws.{named_sound, named_whole, named_alone, word_lacks, seconds_reads, number_lacks}
 
 -- ---- what is read is spelled so
 
@@ -60,11 +62,22 @@ directives_sound = (
   (script_sound, (static_sound, tt)),
 )
 
+number_sound : (word rest : List ℕ) (line : ConfLine) → number_line_at word rest ≡ Some line → Spells (word ++ 32 ∷ rest) line
+unfolding number_line_at conf_line_text
+number_sound word rest line e =
+    let name = passed (number_named word) _ line e in
+    let seconds = mapped (λ n. Number name.value n) (seconds_at rest) line name.gives in
+    let read = seconds_reads.sound rest seconds.value seconds.was in
+    let spelled : word ++ 32 ∷ rest ≡ number_word name.value ++ 32 ∷ decimal seconds.value = ap (λ w. w ++ 32 ∷ rest) (named_sound word name.value name.was) ∙ ap (λ r. number_word name.value ++ 32 ∷ r) read.0 in
+    subst (λ l. Spells (word ++ 32 ∷ rest) l) seconds.gives (spelled, read.1)
+
 directive_sound : (word rest : List ℕ) (line : ConfLine) → directive_at word rest ≡ Some line → Spells (word ++ 32 ∷ rest) line
 unfolding directive_at
-directive_sound word rest line e =
-    let found = passed (meaning directives word) (λ read. read rest) line e in
-    meant (λ word read. Sound (λ rest. word ++ 32 ∷ rest) read) directives word found.value directives_sound found.was rest line found.gives
+directive_sound word rest line e = of_known (meaning directives word) refl e
+  where
+    of_known : (known : Option (List ℕ → Option ConfLine)) → meaning directives word ≡ known → read_or known rest (number_line_at word rest) ≡ Some line → Spells (word ++ 32 ∷ rest) line
+    of_known None was q = number_sound word rest line q
+    of_known (Some read) was q = meant (λ word read. Sound (λ rest. word ++ 32 ∷ rest) read) directives word read directives_sound was rest line q
 
 line_sound : (text : List ℕ) (line : ConfLine) → conf_line_at text ≡ Some line → Spells text line
 unfolding conf_line_at conf_line_text
@@ -86,6 +99,11 @@ directive_whole : (word rest : List ℕ) (read : List ℕ → Option ConfLine) (
 unfolding conf_line_at directive_at
 directive_whole word rest read line free known e = rw (split_whole 32 word rest free, known) e
 
+number_line : (name : NumberName) (seconds : ℕ) → FitsSeconds seconds → conf_line_at (number_word name ++ 32 ∷ decimal seconds) ≡ Some (Number name seconds)
+unfolding conf_line_at directive_at number_line_at
+number_line name seconds fits =
+    rw (split_whole 32 (number_word name) (decimal seconds) (word_lacks name), named_alone name, named_whole name, seconds_reads.whole seconds fits) refl
+
 flag_line : (name : FlagName) → conf_line_at (flag_text name) ≡ Some (Flag name)
 unfolding conf_line_at
 flag_line name = rw (flag_alone name, flag_whole name) refl
@@ -94,6 +112,7 @@ line_whole : (line : ConfLine) → FitsConfLine line → conf_line_at (conf_line
 unfolding conf_line_at conf_line_text split_at_byte directive_at script_at
 line_whole NoScript fits = refl
 line_whole (Flag name) fits = flag_line name
+line_whole (Number name seconds) fits = number_line name seconds fits
 line_whole (Interface name) fits = directive_whole (codes "interface") (name_text name) _ (Interface name) refl refl (ap (option_map Interface) (name_reads.whole name fits))
 line_whole (Address net) fits = directive_whole (codes "static") (codes "ip_address=" ++ net4_text net) static_at (Address net) refl refl
     (static_whole (codes "ip_address") (net4_text net) _ (Address net) refl refl (ap (option_map Address) (net4_reads.whole net fits)))
@@ -108,6 +127,7 @@ pub conf_line_lacks : (line : ConfLine) → FitsConfLine line → Lacks 10 (conf
 unfolding conf_line_text
 conf_line_lacks NoScript fits = refl
 conf_line_lacks (Flag name) fits = flag_lacks name
+conf_line_lacks (Number name seconds) fits = number_lacks name seconds fits
 conf_line_lacks (Interface name) fits = lacks-append 10 (codes "interface ") (name_text name) refl (name_lacks name 10 fits refl)
 conf_line_lacks (Address net) fits = lacks-append 10 (codes "static ip_address=") (net4_text net) refl (net4_lacks net 10 fits refl)
 conf_line_lacks (Router ip) fits = lacks-append 10 (codes "static routers=") (ip4_text ip) refl (ip4_lacks ip 10 fits refl)

@@ -1,23 +1,25 @@
 -- The interfaces that a configuration has built can be named by it.
-use Rattle.std.proofs.Common.{ℕ, ◌+◌, ◌≤◌, Bool, true, false, cond, List, [], ◌∷◌, ◌++◌, length, ◌≡◌, Option, Some, None, option_map, subst, arith}
-use Rattle.std.specs.Prelude.{IfSome, if◌then◌else◌, find, option_and_then, is_some, unwrap_or}
+use Rattle.std.proofs.Common.{ℕ, ◌+◌, ◌≤◌, Bool, true, false, ◌||◌, cond, List, [], ◌∷◌, ◌++◌, length, map, ◌≡◌, Option, Some, None, option_map, refl, ap, subst, arith}
+use Rattle.std.specs.Prelude.{IfSome, if◌then◌else◌, ◌==◌, find, is_some, unwrap_or}
 use Rattle.std.specs.List.{AllByRecursion}
 use Rattle.std.proofs.lemmas.List.Elements.{recursion_from_All}
 use Rattle.net_types.specs.declared.address.Ip4.{Ip4}
 use Rattle.net_types.specs.declared.address.Net4.{Net4}
 use Rattle.net_types.specs.declared.interface.IfSpec.{IfSpec}
 use Rattle.net_types.specs.declared.interface.Name.{Name}
-use Rattle.net_types.specs.AddressText.{FitsIp4, FitsNet4}
+use Rattle.net_types.specs.AddressText.{FitsIp4, FitsMac, FitsNet4}
+use Rattle.net_types.specs.NameText.{FitsName}
 use Rattle.world.specs.Rows.{IsInterface}
 use Rattle.settings.specs.declared.interfaces.Managed.{Managed}
 use Rattle.settings.specs.Fitting.{FitsLine, FitsManaged, AreManaged}
 use Rattle.script_model.specs.Scripts.{CountsFrom}
 use Rattle.conf_text.specs.declared.conf.Block.{Block}
 use Rattle.conf_text.specs.declared.conf.ConfLine.{ConfLine}
-use Rattle.conf_text.specs.declared.conf.ConfLine.TheVariants.{NoScript, Flag, Interface, Address, Router}
+use Rattle.conf_text.specs.declared.conf.ConfLine.TheVariants.{NoScript, Flag, Number, Interface, Address, Router}
 use Rattle.conf_text.specs.Flags.{has_flag, with_flag}
+use Rattle.conf_text.specs.Numbers.{has_number, with_number}
 use Rattle.conf_text.specs.ConfLines.{FitsConfLine, once, globals_after, block_after, empty_block, Said, nothing, blocks_with, blocks_of, is_block_of, has_room, begin_block, say_here, say, say_next, said_by}
-use Rattle.conf_text.specs.Settings.{Configuration, configured, block_for, in_force, is_built, managed_one, managed_each, managed_of}
+use Rattle.conf_text.specs.Settings.{Configuration, configured, block_for, managed_one, managed_of}
 use Rattle.conf_text.specs.Reading.{IsConfigurationOf}
 
 -- ---- what the lines say
@@ -55,6 +57,7 @@ once_fits false block fits = fits
 block_fits : (block : Block) (line : ConfLine) → FitsConfLine line → FitsBlock block → IfSome (block_after block line) FitsBlock
 block_fits block NoScript line_fits fits = tt
 block_fits block (Flag name) line_fits fits = once_fits (has_flag name block.flags) (record block { flags = with_flag name block.flags }) fits
+block_fits block (Number name seconds) line_fits fits = once_fits (has_number name block.numbers) (record block { numbers = with_number name seconds block.numbers }) fits
 block_fits block (Interface name) line_fits fits = tt
 block_fits block (Address net) line_fits fits = once_fits (is_some block.address) (record block { address = Some net }) (line_fits, fits.1)
 block_fits block (Router ip) line_fits fits = once_fits (is_some block.router) (record block { router = Some ip }) (fits.0, line_fits)
@@ -78,6 +81,7 @@ unfolding say
 say_fits said (Interface name) line_fits fits = begin_fits name said fits
 say_fits said NoScript line_fits fits = here_fits NoScript said said.current line_fits fits.0 fits.1
 say_fits said (Flag name) line_fits fits = here_fits (Flag name) said said.current line_fits fits.0 fits.1
+say_fits said (Number name seconds) line_fits fits = here_fits (Number name seconds) said said.current line_fits fits.0 fits.1
 say_fits said (Address net) line_fits fits = here_fits (Address net) said said.current line_fits fits.0 fits.1
 say_fits said (Router ip) line_fits fits = here_fits (Router ip) said said.current line_fits fits.0 fits.1
 
@@ -115,38 +119,34 @@ block_for_fits blocks name fit = found_fits name (find (is_block_of name) blocks
 static_fits : (address : Option Net4) (router : Option Ip4) → IfSome address FitsNet4 → IfSome router FitsIp4 → IfSome (option_map (λ net. record { address = net; router = router }) address) FitsLine
 static_fits address router address_fits router_fits = mapped_fits _ address FitsNet4 FitsLine (λ net fits. record { address = fits; router = router_fits }) address_fits
 
-one_fits : (conf : Configuration) (spec : IfSpec) → AreBlocks conf.blocks → IsInterface spec.index.number → IfSome (managed_one conf spec) FitsManaged
-one_fits conf spec fit index =
+one_fits : (conf : Configuration) (spec : IfSpec) → AreBlocks conf.blocks → IsInterface spec.index.number → FitsName spec.name → FitsMac spec.mac → FitsManaged (managed_one conf spec)
+one_fits conf spec fit index name mac =
     let block = block_for conf.blocks spec.name in
     let fits = block_for_fits conf.blocks spec.name fit in
-    let settled = in_force conf.globals block in
-    if_so (is_built settled) (record { spec = spec; conf = settled }) FitsManaged
-    (record { index = index; line = static_fits block.address block.router fits.0 fits.1 })
+    record { index = index; name = name; mac = mac; line = static_fits block.address block.router fits.0 fits.1 }
 
-joined_fit : (first : Option Managed) (rest : Option (List Managed)) → IfSome first FitsManaged → IfSome rest AreManaged
-    → IfSome (option_and_then (λ f. option_map (λ r. f ∷ r) rest) first) AreManaged
-joined_fit None rest fits fit = tt
-joined_fit (Some first) None fits fit = tt
-joined_fit (Some first) (Some rest) fits fit = (fits, fit)
-
-each_fits : (conf : Configuration) (index : ℕ) (specs : List IfSpec) → AreBlocks conf.blocks → 1 ≤ index → index + length specs ≤ 65 → CountsFrom index specs → IfSome (managed_each conf specs) AreManaged
+each_fits : (conf : Configuration) (index : ℕ) (specs : List IfSpec) → AreBlocks conf.blocks → 1 ≤ index → index + length specs ≤ 65 → CountsFrom index specs → AreManaged (map (managed_one conf) specs)
 each_fits conf index [] fit low high counts = tt
 each_fits conf index (spec ∷ specs) fit low high counts =
     let number : spec.index.number ≡ index = counts.0 in
-    joined_fit (managed_one conf spec) (managed_each conf specs)
-    (one_fits conf spec fit (omega arith, omega arith))
-    (each_fits conf (index + 1) specs fit (omega arith) (omega arith) counts.3)
-
-where_no_script : (no_script : Bool) (managed : Option (List Managed)) → IfSome managed AreManaged → IfSome (if no_script then managed else None) AreManaged
-where_no_script true managed fit = fit
-where_no_script false managed fit = tt
+    (one_fits conf spec fit (omega arith, omega arith) counts.1 counts.2, each_fits conf (index + 1) specs fit (omega arith) (omega arith) counts.3)
 
 of_fits : (conf : Configuration) (specs : List IfSpec) → AreBlocks conf.blocks → CountsFrom 1 specs → length specs ≤ 64 → IfSome (managed_of conf specs) AreManaged
-of_fits conf [] fit counts few = tt
-of_fits conf (spec ∷ specs) fit counts few =
-    where_no_script conf.globals.no_script (managed_each conf (spec ∷ specs)) (each_fits conf 1 (spec ∷ specs) fit (omega arith) (omega arith) counts)
+of_fits conf specs fit counts few =
+    if_so (conf.globals.no_script || length specs == 0) (map (managed_one conf) specs) AreManaged (each_fits conf 1 specs fit (omega arith) (omega arith) counts)
 
 pub managed_fit : (text : List ℕ) (conf : Configuration) (specs : List IfSpec) (managed : List Managed)
     → IsConfigurationOf text conf → CountsFrom 1 specs → length specs ≤ 64 → managed_of conf specs ≡ Some managed → AreManaged managed
 managed_fit text conf specs managed is counts few built =
     subst (λ (m : Option (List Managed)). IfSome m AreManaged) built (of_fits conf specs (configuration_fits text conf is) counts few)
+
+-- ---- they are those of the run
+
+each_spec : (conf : Configuration) (specs : List IfSpec) → map (λ (m : Managed). m.spec) (map (managed_one conf) specs) ≡ specs
+each_spec conf [] = refl
+each_spec conf (spec ∷ specs) = ap (λ others. spec ∷ others) (each_spec conf specs)
+
+pub managed_specs : (conf : Configuration) (specs : List IfSpec) (managed : List Managed) → managed_of conf specs ≡ Some managed → map (λ (m : Managed). m.spec) managed ≡ specs
+managed_specs conf specs managed built =
+    subst (λ (o : Option (List Managed)). IfSome o (λ ms. map (λ (m : Managed). m.spec) ms ≡ specs)) built
+    (if_so (conf.globals.no_script || length specs == 0) (map (managed_one conf) specs) (λ ms. map (λ (m : Managed). m.spec) ms ≡ specs) (each_spec conf specs))

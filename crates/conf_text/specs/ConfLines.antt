@@ -6,14 +6,16 @@ use Rattle.net_types.specs.declared.interface.Name.{Name}
 use Rattle.net_types.specs.AddressText.{ip4_text, net4_text, FitsIp4, FitsNet4}
 use Rattle.net_types.specs.NameText.{name_text, FitsName}
 use Rattle.conf_text.specs.declared.conf.ConfLine.{ConfLine}
-use Rattle.conf_text.specs.declared.conf.ConfLine.TheVariants.{NoScript, Flag, Interface, Address, Router}
+use Rattle.conf_text.specs.declared.conf.ConfLine.TheVariants.{NoScript, Flag, Number, Interface, Address, Router}
 use Rattle.conf_text.specs.declared.conf.Globals.{Globals}
 use Rattle.conf_text.specs.declared.conf.Block.{Block}
 use Rattle.conf_text.specs.Flags.{flag_text, no_flags, has_flag, with_flag}
+use Rattle.conf_text.specs.Numbers.{number_text, FitsSeconds, no_numbers, has_number, with_number}
 
 unfoldable pub conf_line_text : ConfLine → List ℕ
 conf_line_text NoScript = codes "script /dev/null"
 conf_line_text (Flag name) = flag_text name
+conf_line_text (Number name seconds) = number_text name seconds
 conf_line_text (Interface name) = codes "interface " ++ name_text name
 conf_line_text (Address net) = codes "static ip_address=" ++ net4_text net
 conf_line_text (Router ip) = codes "static routers=" ++ ip4_text ip
@@ -21,6 +23,7 @@ conf_line_text (Router ip) = codes "static routers=" ++ ip4_text ip
 abbrev pub FitsConfLine : ConfLine → Type 0
 FitsConfLine NoScript = Unit {0}
 FitsConfLine (Flag name) = Unit {0}
+FitsConfLine (Number name seconds) = FitsSeconds seconds
 FitsConfLine (Interface name) = FitsName name
 FitsConfLine (Address net) = FitsNet4 net
 FitsConfLine (Router ip) = FitsIp4 ip
@@ -37,17 +40,19 @@ once is_said value = if is_said then None else Some value
 abbrev pub globals_after : Globals → ConfLine → Option Globals
 globals_after g NoScript = once g.no_script (record g { no_script = true })
 globals_after g (Flag name) = once (has_flag name g.flags) (record g { flags = with_flag name g.flags })
+globals_after g (Number name seconds) = once (has_number name g.numbers) (record g { numbers = with_number name seconds g.numbers })
 globals_after g (Interface name) = None
 globals_after g (Address net) = None
 globals_after g (Router ip) = None
 
 abbrev pub empty_block : Name → Block
-empty_block name = record { name = name; flags = no_flags; address = None; router = None }
+empty_block name = record { name = name; flags = no_flags; numbers = no_numbers; address = None; router = None }
 
 -- what a block says with one line more
 abbrev pub block_after : Block → ConfLine → Option Block
 block_after b NoScript = None
 block_after b (Flag name) = once (has_flag name b.flags) (record b { flags = with_flag name b.flags })
+block_after b (Number name seconds) = once (has_number name b.numbers) (record b { numbers = with_number name seconds b.numbers })
 block_after b (Interface name) = None
 block_after b (Address net) = once (is_some b.address) (record b { address = Some net })
 block_after b (Router ip) = once (is_some b.router) (record b { router = Some ip })
@@ -59,7 +64,7 @@ pub record Said : Type 0 where
   pub current : Option Block
 
 abbrev pub nothing : Said
-nothing = record { globals = record { no_script = false; flags = no_flags }; over = []; current = None }
+nothing = record { globals = record { no_script = false; flags = no_flags; numbers = no_numbers }; over = []; current = None }
 
 abbrev pub blocks_with : List Block → Option Block → List Block
 blocks_with over None = over

@@ -4,9 +4,10 @@ use Rattle.net_types.specs.AddressText.{ip4_at, net4_at}
 use Rattle.net_types.specs.NameText.{name_at}
 use Rattle.net_types.specs.Cutting.{split_at_byte}
 use Rattle.conf_text.specs.declared.conf.ConfLine.{ConfLine}
-use Rattle.conf_text.specs.declared.conf.ConfLine.TheVariants.{NoScript, Flag, Interface, Address, Router}
+use Rattle.conf_text.specs.declared.conf.ConfLine.TheVariants.{NoScript, Flag, Number, Interface, Address, Router}
 use Rattle.conf_text.specs.Words.{Words, meaning}
 use Rattle.conf_text.specs.Flags.{flag_at}
+use Rattle.conf_text.specs.Numbers.{number_named, seconds_at}
 
 -- words, and how what follows each is read
 abbrev pub Readers : Type 0
@@ -34,7 +35,11 @@ setting_at name value = read_by settings name value
 unfoldable pub static_at : List ℕ → Option ConfLine
 static_at text = option_and_then (λ p. setting_at p.0 p.1) (split_at_byte 61 text)
 
--- lines of a word and what it speaks of
+-- a word that names a number, and the number
+unfoldable pub number_line_at : List ℕ → List ℕ → Option ConfLine
+number_line_at word rest = option_and_then (λ name. option_map (λ seconds. Number name seconds) (seconds_at rest)) (number_named word)
+
+-- words, and what each speaks of
 abbrev pub directives : Readers
 directives =
     (codes "interface", λ rest. option_map (λ name. Interface name) (name_at rest))
@@ -42,8 +47,13 @@ directives =
     ∷ (codes "static", static_at)
     ∷ []
 
+abbrev pub read_or : Option (List ℕ → Option ConfLine) → List ℕ → Option ConfLine → Option ConfLine
+read_or None rest other = other
+read_or (Some read) rest other = read rest
+
+-- lines of a word and what it speaks of: one of these, else a number
 unfoldable pub directive_at : List ℕ → List ℕ → Option ConfLine
-directive_at word rest = read_by directives word rest
+directive_at word rest = read_or (meaning directives word) rest (number_line_at word rest)
 
 abbrev pub by_first_word : Option (List ℕ × List ℕ) → List ℕ → Option ConfLine
 by_first_word (Some p) text = directive_at p.0 p.1

@@ -2,6 +2,7 @@ ghost use Rattle.std.specs.Prelude.{◌≡◌};
 ghost use Rattle.conf_text.specs.ConfLines.{empty_block, once, block_after, globals_after};
 
 use crate::flags::{FlagName, Flags};
+use crate::numbers::{NumberName, Numbers};
 use net_types::{Ip4, Name, Net4};
 use std::mem::replace;
 
@@ -12,6 +13,8 @@ pub enum ConfLine {
     NoScript,
     /// A directive of one word.
     Flag(FlagName),
+    /// A directive of a word and so many seconds.
+    Number(NumberName, u32),
     /// `interface NAME` begins the block of an interface.
     Interface(Name),
     /// `static ip_address=ADDRESS/LEN`.
@@ -26,6 +29,7 @@ pub struct Globals {
     /// Whether hook jobs are turned off.
     pub no_script: bool,
     pub flags: Flags,
+    pub numbers: Numbers,
 }
 
 /// What the block of an interface says.
@@ -33,6 +37,7 @@ pub struct Globals {
 pub struct Block {
     pub name: Name,
     pub flags: Flags,
+    pub numbers: Numbers,
     pub address: Option<Net4>,
     pub router: Option<Ip4>,
 }
@@ -58,6 +63,7 @@ impl Globals {
         let is_said = match line {
             ConfLine::NoScript => replace(&mut self.no_script, true),
             ConfLine::Flag(name) => self.flags.turn_on(name),
+            ConfLine::Number(name, seconds) => self.numbers.say(name, seconds),
             ConfLine::Interface(_) | ConfLine::Address(_) | ConfLine::Router(_) => return None,
         };
         once(is_said, self)
@@ -72,6 +78,7 @@ impl Block {
         Block {
             name,
             flags: Flags::none(),
+            numbers: Numbers::none(),
             address: None,
             router: None,
         }
@@ -83,6 +90,7 @@ impl Block {
     {
         let is_said = match line {
             ConfLine::Flag(name) => self.flags.turn_on(name),
+            ConfLine::Number(name, seconds) => self.numbers.say(name, seconds),
             ConfLine::Address(net) => self.address.replace(net).is_some(),
             ConfLine::Router(ip) => self.router.replace(ip).is_some(),
             ConfLine::NoScript | ConfLine::Interface(_) => return None,

@@ -1,9 +1,10 @@
 //! One line of the configuration, read by its first word.
 ghost use Rattle.std.specs.Prelude.{◌≡◌};
-ghost use Rattle.conf_text.specs.LineAt.{script_at, setting_at, static_at, directive_at, conf_line_at};
+ghost use Rattle.conf_text.specs.LineAt.{script_at, setting_at, static_at, number_line_at, directive_at, conf_line_at};
 
 use crate::conf::ConfLine;
 use crate::flags::flag_of;
+use crate::numbers::{number_named, seconds_of};
 use net_types::{ip4_of, name_of, net4_of, split_at_byte};
 
 #[tactic(auto, unfolding(crate::specs::LineAt::script_at))]
@@ -38,6 +39,14 @@ fn static_of(bytes: &[u8]) -> Option<ConfLine>
     setting_of(name, value)
 }
 
+#[tactic(auto, unfolding(crate::specs::LineAt::number_line_at))]
+fn number_line_of(word: &[u8], about: &[u8]) -> Option<ConfLine>
+    ensures { result ≡ number_line_at word.now about.now }
+{
+    let name = number_named(word)?;
+    Some(ConfLine::Number(name, seconds_of(about)?))
+}
+
 /// A line of a word and what it speaks of.
 #[tactic(auto, unfolding(crate::specs::LineAt::directive_at))]
 fn directive_of(word: &[u8], about: &[u8]) -> Option<ConfLine>
@@ -50,7 +59,7 @@ fn directive_of(word: &[u8], about: &[u8]) -> Option<ConfLine>
     } else if word == b"static".as_slice() {
         static_of(about)
     } else {
-        None
+        number_line_of(word, about)
     }
 }
 

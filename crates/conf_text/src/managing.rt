@@ -1,16 +1,20 @@
 //! What a configuration says of the interfaces of a run.
-ghost use Rattle.std.specs.Prelude.{◌≡◌, Some, IfOk, IfErr, find};
+ghost use Rattle.std.specs.Prelude.{◌≡◌, Some, None, IfOk, IfErr, find, map};
 ghost use Rattle.std.specs.Option.{option_copied};
 ghost use Rattle.conf_text.specs.ConfLines.{is_block_of};
-ghost use Rattle.conf_text.specs.Settings.{configuration, block_for, line_of, in_force, is_built, managed_one, managed_each, managed_of};
-ghost use Rattle.conf_text.specs.Unbuilt.{NamesUnbuilt};
-ghost use Rattle.conf_text.specs.declared.managing.ManagedAnswer.TheVariants.{NoMemory as no_memory};
+ghost use Rattle.conf_text.specs.Settings.{configuration, block_for, line_of, in_force, managed_one, managed_of};
+ghost use Rattle.conf_text.specs.declared.managing.ManagedAnswer.TheVariants.{NotBuilt as not_built, NoMemory as no_memory};
 
 use crate::conf::{Block, Conf, Globals};
 use crate::saying::is_block_of;
 use net_types::{IfSpec, Name, NoMemory};
 use settings::{IfConf, Managed, StaticLine};
 use std::alloc::Global;
+
+/// For how many seconds a lease is waited for where no line says it.
+const DEFAULT_TIMEOUT: u32 = 30;
+/// For how many seconds a kept lease is asked for again where no line says it.
+const DEFAULT_REBOOT: u32 = 5;
 
 fn block_of<'a>(blocks: &'a [Block], name: &Name) -> Option<&'a Block>
     ensures { option_copied result ≡ find (is_block_of name.now) blocks.now }
@@ -40,39 +44,36 @@ fn line_of(block: &Block) -> Option<StaticLine>
 fn in_force(globals: &Globals, block: &Block) -> IfConf
     ensures { result ≡ in_force globals.now block.now }
 {
+    let flags = globals.flags.or(block.flags);
+    let numbers = block.numbers.or(globals.numbers);
     IfConf {
-        nodhcp: globals.flags.nodhcp || block.flags.nodhcp,
-        noipv4ll: globals.flags.noipv4ll || block.flags.noipv4ll,
+        nodhcp: flags.nodhcp,
+        noipv4ll: flags.noipv4ll,
+        nodelay: flags.nodelay,
+        noarp: flags.noarp,
+        broadcast: flags.broadcast,
+        release: flags.release,
+        timeout: numbers.timeout.unwrap_or(DEFAULT_TIMEOUT),
+        reboot: numbers.reboot.unwrap_or(DEFAULT_REBOOT),
         line: line_of(block),
     }
 }
 
-fn is_built(conf: &IfConf) -> bool
-    ensures { result ≡ is_built conf.now }
-{
-    conf.nodhcp || conf.line.is_some()
-}
-
-fn managed_one(conf: &Conf, spec: &IfSpec) -> Option<Managed>
+fn managed_one(conf: &Conf, spec: &IfSpec) -> Managed
     ensures { result ≡ managed_one (configuration conf.now) spec.now }
 {
     let block = block_for(&conf.blocks, &spec.name);
-    let settled = in_force(&conf.globals, &block);
-    if is_built(&settled) {
-        Some(Managed {
-            spec: *spec,
-            conf: settled,
-        })
-    } else {
-        None
+    Managed {
+        spec: *spec,
+        conf: in_force(&conf.globals, &block),
     }
 }
 
 /// Why interfaces have no settings.
 #[derive(Clone, Copy, Debug, PartialEq, Eq)]
 pub enum ManagedAnswer {
-    /// The interface at this place of the list, from 0, isn't built.
-    NotBuilt { place: usize },
+    /// Hooks aren't built, and no line `script /dev/null` turns them off.
+    NotBuilt,
     NoMemory,
 }
 
@@ -84,36 +85,24 @@ impl From<NoMemory> for ManagedAnswer {
     }
 }
 
-fn managed_each(
-    alloc: Global,
-    conf: &Conf,
-    ifaces: &[IfSpec],
-) -> Result<Vec<Managed>, ManagedAnswer>
-    ensures built { IfOk result (λ all. managed_each (configuration conf.now) ifaces.now ≡ Some all.items) }
-    ensures refused { IfErr result (λ answer. NamesUnbuilt answer ifaces.now (managed_each (configuration conf.now) ifaces.now)) }
+fn managed_each(alloc: Global, conf: &Conf, ifaces: &[IfSpec]) -> Result<Vec<Managed>, NoMemory>
+    ensures { IfOk result (λ all. all.items ≡ map (managed_one (configuration conf.now)) ifaces.now) }
 {
-    let mut all = Vec::new(alloc);
-    'ifaces: for spec in ifaces {
-        let Some(one) = managed_one(conf, spec) else {
-            return Err(ManagedAnswer::NotBuilt { place: all.len() });
-        };
-        all.push(one).map_err(|_| NoMemory)?;
-    }
+    let all = ifaces
+        .iter()
+        .map(|spec| managed_one(conf, spec))
+        .collect(alloc)?;
     Ok(all)
 }
 
-/// The interfaces with what is in force for each, where each is built: with a static address or without DHCP, in a
-/// configuration without hooks.
+/// The interfaces with what is in force for each, in a configuration without hooks.
 pub fn managed(alloc: Global, conf: &Conf, ifaces: &[IfSpec]) -> Result<Vec<Managed>, ManagedAnswer>
     ensures built { IfOk result (λ all. managed_of (configuration conf.now) ifaces.now ≡ Some all.items) }
-    ensures refused { IfErr result (λ answer. NamesUnbuilt answer ifaces.now (managed_of (configuration conf.now) ifaces.now)) }
+    ensures refused { IfErr result (λ answer. answer ≡ not_built → managed_of (configuration conf.now) ifaces.now ≡ None) }
 {
-    if ifaces.is_empty() {
-        return Ok(Vec::new(alloc));
-    }
-    if conf.globals.no_script {
-        managed_each(alloc, conf, ifaces)
+    if conf.globals.no_script || ifaces.is_empty() {
+        Ok(managed_each(alloc, conf, ifaces)?)
     } else {
-        Err(ManagedAnswer::NotBuilt { place: 0 })
+        Err(ManagedAnswer::NotBuilt)
     }
 }

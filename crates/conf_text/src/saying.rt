@@ -7,6 +7,7 @@ ghost use Rattle.conf_text.specs.Saying.{said_of};
 
 use crate::conf::{Block, Conf, ConfLine, Globals};
 use crate::flags::Flags;
+use crate::numbers::Numbers;
 use net_types::{Name, NoMemory};
 use std::alloc::Global;
 
@@ -64,6 +65,7 @@ impl Saying {
             globals: Globals {
                 no_script: false,
                 flags: Flags::none(),
+                numbers: Numbers::none(),
             },
             over: Vec::new(alloc),
             current: None,
@@ -108,8 +110,11 @@ impl Saying {
     {
         match line {
             ConfLine::Interface(name) => self.begin_block(name),
-            ConfLine::NoScript | ConfLine::Flag(_) | ConfLine::Address(_) | ConfLine::Router(_) =>
-                Ok(self.say_here(line)),
+            ConfLine::NoScript
+            | ConfLine::Flag(_)
+            | ConfLine::Number(_, _)
+            | ConfLine::Address(_)
+            | ConfLine::Router(_) => Ok(self.say_here(line)),
         }
     }
 

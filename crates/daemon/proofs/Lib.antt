@@ -10,5 +10,6 @@ pub mod OneTurn
 pub mod Stretches
 pub mod CutOffs
 pub mod Fronts
+mod FileNames
 pub mod Wakings
 pub mod Whole

@@ -4,6 +4,7 @@
 mod changes;
 mod closing;
 mod devices;
+mod files;
 mod hosts;
 mod lives;
 mod openings;

@@ -20,6 +20,7 @@ ghost use Rattle.daemon.specs.Answered.{names_of};
 ghost use Rattle.daemon.specs.Lives.{life_of, IsTimely, file_of};
 ghost use Rattle.daemon.specs.Serving.{MakesOpening};
 
+use crate::files::names_to_read;
 use crate::hosts::host_turn;
 use crate::lives::{Life, cut};
 use crate::outside::Outside;
@@ -32,9 +33,6 @@ use settings::Managed;
 use std::alloc::Global;
 use transcript_text::{Reading, TranscriptLine};
 use world::{Begin, NoMemory};
-
-/// The file that the host's resolver reads.
-const RESOLVER_FILE: &str = "resolv.conf";
 
 fn say_listing(listed: &Option<Vec<String>>, text: &mut Vec<u8>) -> Result<(), NoMemory>
     ensures { OnOk result (Prints text.old.items text.new.items (store_lines (ListedAsides (names_of listed.now)))) }
@@ -147,16 +145,6 @@ fn read<W: Outside>(
 pub struct FileRead {
     pub name: String,
     pub got: Got,
-}
-
-/// The files that a life reads and keeps.
-fn names_to_read(alloc: Global, _managed: &[Managed]) -> Result<Vec<String>, NoMemory>
-    ensures names { IfOk result (λ names. map string_bytes names.items ≡ file_names _managed.now) }
-    ensures fit { IfOk result (λ names. AllByRecursion (λ name. IsFileName (string_bytes name)) names.items) }
-{
-    let mut names = Vec::new(alloc);
-    names.push(String::from_str(alloc, RESOLVER_FILE)?)?;
-    Ok(names)
 }
 
 /// Reads files, one after another. One that can't be read doesn't stop the others.

@@ -1,15 +1,20 @@
 -- The host holds what it shall in the lives of a script.
-use Rattle.std.proofs.Common.{ℕ, suc, ◌≡◌, ◌+◌, ◌<◌, Bool, true, false, cond, List, [], ◌∷◌, ◌++◌, length, take, Option, Some, None, refl, sym, ap, subst, ◌∙◌, arith}
-use Rattle.std.specs.Prelude.{IfSome, map, option_map, option_and_then}
+use Rattle.std.proofs.Common.{ℕ, suc, ◌≡◌, ◌+◌, ◌<◌, List, [], ◌∷◌, ◌++◌, length, take, refl, sym, ap, subst, ◌∙◌, arith}
+use Rattle.std.specs.Prelude.{map, All}
+use Rattle.std.specs.List.{AllByRecursion}
+use Rattle.std.proofs.lemmas.List.Elements.{All-head, recursion_from_All}
+use Rattle.net_types.proofs.AllLaws.{all_map}
+use Rattle.net_types.specs.Marks.{AreBytes}
+use Rattle.world.specs.declared.wakes.Event.{Event}
+use Rattle.world.specs.declared.wakes.Event.TheVariants.{Frame, Carrier, Duplicate, Release, Rebind, Stop, Quiet, End}
+use Rattle.settings.specs.Fitting.{AreManaged}
 use Rattle.std.proofs.Math.Seq.{take-append_seam}
 use Rattle.std.proofs.lemmas.List.{length-append}
-use Rattle.net_types.specs.declared.interface.IfSpec.{IfSpec}
 use Rattle.world.specs.LinkCalls.{Given}
-use Rattle.settings.specs.declared.interfaces.IfConf.{IfConf}
 use Rattle.settings.specs.declared.interfaces.Managed.{Managed}
 use Rattle.world.specs.declared.rows.HostRow.{HostRow}
 use Rattle.script_model.specs.ScriptTexts.{ScriptLines, LifeScript}
-use Rattle.script_model.specs.Scripts.{CountsFrom}
+use Rattle.script_model.specs.Scripts.{CountsFrom, FitsBytes, FitsGiven, FitsLife}
 use Rattle.turn_model.specs.Lives.{Met}
 use Rattle.device_calls.specs.Worlds.{World}
 use Rattle.device_calls.proofs.Running.{run_coming}
@@ -18,53 +23,63 @@ use Rattle.turn_model.specs.Foretold.{told_turns}
 use Rattle.turn_model.specs.HostInLife.{Running, running_turned, running_after}
 use Rattle.host_model.proofs.HostTableRows.{in_order_sorted}
 use Rattle.turn_model.proofs.HostInLifeTurns.{opening_holds, turn_in_life}
-use Rattle.conf_text.specs.Settings.{Configuration, is_built, in_force, block_for, managed_one, managed_each, managed_of}
+use Rattle.conf_text.proofs.ManagedFit.{managed_specs}
 use Rattle.evidence.specs.Laws.{AreNumbered}
 use Rattle.evidence.specs.HeldAddresses.{mets_of, RestOnEvidence}
+use Rattle.lease_evidence.proofs.Joining.{LeaseRelation}
+use Rattle.evidence.proofs.Leasing.{leases_based}
 use Rattle.evidence.proofs.HostRests.{opening_rests, turns_rest}
 use Rattle.evidence.proofs.Numbered.{counted}
 use Rattle.evidence.proofs.Foretold.{foretold}
-use Rattle.dhcpcd.specs.Memory.{first_host}
 use Rattle.dhcpcd.specs.Replays.{IsScript, failing_in, at_first, opening_in, opened_in, mets_in, Failing, world_in}
+use Rattle.dhcpcd.proofs.Refusals.{settled_fit}
 use Rattle.dhcpcd.specs.HostHeld.{lived_on, IsTurn, HoldsRightly, AllHoldRightly}
 
--- ---- the managed interfaces are those of the script
+-- ---- what came in is octets
 
-if_built : (b : Bool) (spec : IfSpec) (conf : IfConf) → IfSome (cond b (Some (record { spec = spec; conf = conf })) None) (λ (m : Managed). m.spec ≡ spec)
-if_built true spec conf = refl
-if_built false spec conf = tt
+no_bytes : AreBytes []
+no_bytes i = omega arith
 
-joined : (first : Option Managed) (rest : Option (List Managed)) (spec : IfSpec) (specs : List IfSpec)
-    → IfSome first (λ (m : Managed). m.spec ≡ spec) → IfSome rest (λ (ms : List Managed). map (λ (m : Managed). m.spec) ms ≡ specs)
-    → IfSome (option_and_then (λ (m : Managed). option_map (λ (ms : List Managed). m ∷ ms) rest) first) (λ (ms : List Managed). map (λ (m : Managed). m.spec) ms ≡ spec ∷ specs)
-joined None rest spec specs p q = tt
-joined (Some m) None spec specs p q = tt
-joined (Some m) (Some ms) spec specs p q = λ i. p i ∷ q i
+none_came : (bytes : List ℕ) → bytes ≡ [] → AreBytes bytes
+none_came bytes none = subst AreBytes (sym none) no_bytes
 
-each_of : (conf : Configuration) (specs : List IfSpec) → IfSome (managed_each conf specs) (λ (ms : List Managed). map (λ (m : Managed). m.spec) ms ≡ specs)
-each_of conf [] = refl
-each_of conf (spec ∷ specs) =
-    joined (managed_one conf spec) (managed_each conf specs) spec specs
-    (if_built (is_built (in_force conf.globals (block_for conf.blocks spec.name))) spec (in_force conf.globals (block_for conf.blocks spec.name)))
-    (each_of conf specs)
+came_octets : (event : Event) (bytes : List ℕ) → FitsBytes event bytes → AreBytes bytes
+came_octets (Frame iface len) bytes fits = fits.octets
+came_octets (Carrier iface up) bytes none = none_came bytes none
+came_octets (Duplicate iface addr) bytes none = none_came bytes none
+came_octets (Release iface) bytes none = none_came bytes none
+came_octets (Rebind iface) bytes none = none_came bytes none
+came_octets Stop bytes none = none_came bytes none
+came_octets Quiet bytes none = none_came bytes none
+came_octets End bytes none = none_came bytes none
 
-if_hookless : (b : Bool) (specs : List IfSpec) (each : Option (List Managed)) → IfSome each (λ (ms : List Managed). map (λ (m : Managed). m.spec) ms ≡ specs)
-    → IfSome (cond b each None) (λ (ms : List Managed). map (λ (m : Managed). m.spec) ms ≡ specs)
-if_hookless true specs each p = p
-if_hookless false specs each p = tt
+abbrev IsOctets : Given → Type 0
+IsOctets given = AreBytes given.bytes
 
-all_of : (conf : Configuration) (specs : List IfSpec) → IfSome (managed_of conf specs) (λ (ms : List Managed). map (λ (m : Managed). m.spec) ms ≡ specs)
-all_of conf [] = refl
-all_of conf (spec ∷ specs) = if_hookless conf.globals.no_script (spec ∷ specs) (managed_each conf (spec ∷ specs)) (each_of conf (spec ∷ specs))
+given_octets : (count : ℕ) (given : Given) → FitsGiven count given → IsOctets given
+given_octets count given fits = came_octets given.wake.event given.bytes fits.bytes
+
+-- of a turn and those before it
+up_to : (earlier : List Given) (given : Given) (coming : List Given) → AllByRecursion IsOctets (earlier ++ given ∷ coming) → AllByRecursion IsOctets (earlier ++ given ∷ [])
+up_to [] given coming h = (h.0, tt)
+up_to (g ∷ earlier) given coming h = (h.0, up_to earlier given coming h.1)
+
+life_octets : (count : ℕ) (life : LifeScript) → FitsLife count life → AllByRecursion IsOctets life.turns
+life_octets count life fits =
+    all_map (FitsGiven count) IsOctets (given_octets count) life.turns (recursion_from_All (FitsGiven count) life.turns fits.turns)
 
 module _ (bytes : List ℕ) (script : ScriptLines) (managed : List Managed) (is : IsScript bytes script managed) where
+  -- the managed interfaces are those of the script
   specs_are : map (λ (m : Managed). m.spec) managed ≡ script.ifaces
-  specs_are = subst (λ (o : Option (List Managed)). IfSome o (λ (ms : List Managed). map (λ (m : Managed). m.spec) ms ≡ script.ifaces)) is.settings (all_of is.conf script.ifaces)
+  specs_are = managed_specs is.conf script.ifaces managed is.settings
 
   numbered : AreNumbered managed
   numbered = counted 1 managed (subst (CountsFrom 1) (sym specs_are) is.fits.ifaces.counted)
 
-  module _ (failing : Failing) (rows : List HostRow) (life : LifeScript) where
+  fit : AreManaged managed
+  fit = settled_fit bytes script managed is
+
+  module _ (failing : Failing) (rows : List HostRow) (life : LifeScript) (life_fits : FitsLife (length script.ifaces) life) where
     abbrev world : World
     world = world_in failing (at_first rows) life
 
@@ -97,16 +112,18 @@ module _ (bytes : List ℕ) (script : ScriptLines) (managed : List Managed) (is 
     first_holds = record {
       opening_holds = opening_holds managed script.ifaces (world_in failing (at_first rows) life) (in_order_sorted rows);
       turns_hold = λ earlier given. turn_in_life managed script.ifaces (world_in failing (at_first rows) life) (in_order_sorted rows) earlier given;
-      opening_rests = λ well. opening_rests managed script.ifaces (world_in failing (at_first rows) life) numbered (in_order_sorted rows) well;
+      opening_rests = λ well. opening_rests LeaseRelation leases_based managed script.ifaces (world_in failing (at_first rows) life) fit numbered (in_order_sorted rows) well;
       turns_rest = λ earlier given coming turn well.
           subst (λ (ms : List Met). RestOnEvidence managed script.ifaces (opening_in managed script.ifaces failing (at_first rows) life) ms (lived_on managed script.ifaces failing (at_first rows) life earlier given).world.host.told.rows) (handled_mets earlier given coming turn)
-          (turns_rest managed script.ifaces (world_in failing (at_first rows) life) earlier given numbered (in_order_sorted rows) well);
+          (turns_rest LeaseRelation leases_based managed script.ifaces (world_in failing (at_first rows) life) earlier given fit numbered
+          (up_to earlier given coming (subst (AllByRecursion IsOctets) turn.stands (life_octets (length script.ifaces) life life_fits))) (in_order_sorted rows) well);
     }
 
-  only_first : (failing : Failing) (rows : List HostRow) (lives : List LifeScript) → length lives ≡ 1 → AllHoldRightly managed script.ifaces failing (at_first rows) lives
-  only_first failing rows [] one = absurd (omega (arith, one))
-  only_first failing rows (life ∷ []) one = (first_holds failing rows life, tt)
-  only_first failing rows (life ∷ next ∷ lives) one = absurd (omega (arith, one))
+  only_first : (failing : Failing) (rows : List HostRow) (lives : List LifeScript) → length lives ≡ 1 → All (FitsLife (length script.ifaces)) lives
+      → AllHoldRightly managed script.ifaces failing (at_first rows) lives
+  only_first failing rows [] one fits = absurd (omega (arith, one))
+  only_first failing rows (life ∷ []) one fits = (first_holds failing rows life (All-head (FitsLife (length script.ifaces)) life [] fits), tt)
+  only_first failing rows (life ∷ next ∷ lives) one fits = absurd (omega (arith, one))
 
   pub holds_rightly : AllHoldRightly managed script.ifaces (failing_in script.fails) (at_first script.rows) script.lives
-  holds_rightly = only_first (failing_in script.fails) script.rows script.lives (let fits = is.fits in fits.one)
+  holds_rightly = only_first (failing_in script.fails) script.rows script.lives (let fits = is.fits in fits.one) (let fits = is.fits in fits.lives)

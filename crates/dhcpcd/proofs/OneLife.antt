@@ -1,10 +1,9 @@
 -- The lives of a script that has one.
-use Rattle.std.proofs.Common.{ℕ, ◌≡◌, ◌+◌, List, [], ◌∷◌, ◌++◌, map, length, Option, refl, sym, ap, subst, ◌∙◌, append-nil, arith}
+use Rattle.std.proofs.Common.{ℕ, ◌≡◌, ◌+◌, List, [], ◌∷◌, ◌++◌, map, length, Option, sym, ap, subst, ◌∙◌, append-nil, arith}
 use Rattle.net_types.specs.declared.interface.IfSpec.{IfSpec}
 use Rattle.settings.specs.declared.interfaces.Managed.{Managed}
 use Rattle.script_model.specs.Lines.{Line}
 use Rattle.script_model.specs.Lines as lines
-use Rattle.script_model.specs.ScriptTexts.{LifeScript}
 use Rattle.replay_text.specs.declared.script.LifeLines.{LifeLines}
 use Rattle.replay_text.specs.ScriptContent.{life_of}
 use Rattle.daemon.specs.Streams.{WritesLines}

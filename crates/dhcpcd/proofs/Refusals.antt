@@ -1,5 +1,5 @@
 -- Why bytes are no script.
-use Rattle.std.proofs.Common.{ℕ, ◌≡◌, ◌≤◌, ◌<◌, ◌+◌, List, length, Option, Some, None, inl, sym, ap, subst, ◌∙◌, arith}
+use Rattle.std.proofs.Common.{ℕ, ◌≡◌, ◌≤◌, ◌+◌, List, length, Option, Some, None, inl, sym, ap, subst, ◌∙◌, arith}
 use Rattle.std.specs.Prelude.{flat_map, option_map}
 use Rattle.net_types.specs.declared.interface.IfSpec.{IfSpec}
 use Rattle.net_types.proofs.ReadsLaws.{texts_apart}
@@ -15,9 +15,6 @@ use Rattle.replay_text.specs.ScriptContent.{script_of, conf_lines, HoldsLines}
 use Rattle.replay_text.proofs.ScriptLaws.{script_reads}
 use Rattle.conf_text.specs.ConfLines.{said_by}
 use Rattle.conf_text.specs.Settings.{Configuration, configured, managed_of}
-use Rattle.conf_text.specs.declared.managing.ManagedAnswer.{ManagedAnswer}
-use Rattle.conf_text.specs.declared.managing.ManagedAnswer.TheVariants.{NotBuilt}
-use Rattle.conf_text.specs.Unbuilt.{NamesUnbuilt}
 use Rattle.conf_text.specs.Reading.{IsConfigurationOf, IsNoConfiguration, ConfigurationIsOne}
 use Rattle.conf_text.proofs.ManagedFit.{managed_fit}
 use Rattle.dhcpcd.specs.declared.status.Status.{Status}
@@ -102,13 +99,11 @@ pub refused_for_configuration : (answer : Status) (bytes : List ℕ) (script : S
 refused_for_configuration answer bytes script read refused =
     refused_on (line_feeds script.conf.items + 2) (line_feeds bytes + 1) answer (IsNoConfiguration script.conf.items) (IsNoScript bytes) (omega (arith, enough_lines bytes script read)) (conf_refused bytes script read) refused
 
-pub refused_for_settings : (answer : Status) (found : ManagedAnswer) (place : ℕ) (bytes : List ℕ) (script : Script) (conf : Configuration) → ConfigurationIsOne → IsRead bytes script
-    → IsConfigurationOf script.conf.items conf → found ≡ NotBuilt place → NamesUnbuilt found script.ifaces.items (managed_of conf script.ifaces.items)
-    → IsRefused (line_feeds script.conf.items + place + 2) answer (Unit {0}) → IsRefused (line_feeds bytes + 1) answer (IsNoScript bytes)
-refused_for_settings answer found place bytes script conf one read says is names refused =
-    let unbuilt : NamesUnbuilt (NotBuilt place) script.ifaces.items (managed_of conf script.ifaces.items) =
-    subst (λ (f : ManagedAnswer). NamesUnbuilt f script.ifaces.items (managed_of conf script.ifaces.items)) is names in
-    refused_on (line_feeds script.conf.items + place + 2) (line_feeds bytes + 1) answer (Unit {0}) (IsNoScript bytes) (omega (arith, enough_lines bytes script read, unbuilt.1)) (λ any. settings_refused bytes script conf one read says unbuilt.0) refused
+pub refused_for_settings : (answer : Status) (bytes : List ℕ) (script : Script) (conf : Configuration) → ConfigurationIsOne → IsRead bytes script
+    → IsConfigurationOf script.conf.items conf → managed_of conf script.ifaces.items ≡ None
+    → IsRefused (line_feeds script.conf.items + 2) answer (Unit {0}) → IsRefused (line_feeds bytes + 1) answer (IsNoScript bytes)
+refused_for_settings answer bytes script conf one read says none refused =
+    refused_on (line_feeds script.conf.items + 2) (line_feeds bytes + 1) answer (Unit {0}) (IsNoScript bytes) (omega (arith, enough_lines bytes script read)) (λ any. settings_refused bytes script conf one read says none) refused
 
 pub refused_answer : (answer : Status) (input old new : Option (List ℕ)) (bytes : List ℕ) → IsInput input bytes → length bytes ≤ limit → new ≡ old → IsRefused (line_feeds bytes + 1) answer (IsNoScript bytes) → IsAnswer answer input old new
 refused_answer status.Done input old new bytes read within same refused = absurd refused

@@ -1,15 +1,8 @@
 -- A life over the devices of a script.
 use Rattle.std.specs.Prelude.{IfSome, flat_map}
-use Rattle.std.proofs.Common.{ℕ, ◌≡◌, ◌+◌, ◌≤◌, List, [], ◌∷◌, ◌++◌, length, map, filter, cond, All, Option, Some, None, ◌⊎◌, ⊎_elim, refl, sym, ap, subst, ◌∙◌, arith}
-use Rattle.world.specs.HostCalls.{HostTold}
-use Rattle.world.specs.LinkCalls.{LinkTold, Given}
-use Rattle.world.specs.StoreCalls.{StoreTold}
-use Rattle.world.specs.declared.wakes.Begin.{Begin}
+use Rattle.std.proofs.Common.{ℕ, ◌≡◌, ◌+◌, ◌≤◌, List, [], ◌++◌, length, Option, Some, None, ◌⊎◌, ⊎_elim, sym, ap, subst, ◌∙◌, arith}
 use Rattle.settings.specs.declared.interfaces.Managed.{Managed}
 use Rattle.script_model.specs.declared.failing.FailLine.{FailLine}
-use Rattle.script_model.specs.declared.failing.FailDevice.{FailDevice}
-use Rattle.script_model.specs.declared.failing.FailDevice.TheVariants.{Link, Store, Host, Hooks}
-use Rattle.script_model.specs.FailingCalls.{is_same_device, failing_calls, FitsFail}
 use Rattle.script_model.specs.ScriptTexts.{LifeScript}
 use Rattle.device_calls.specs.Worlds.{Seen, World, told_from, world_from, world_of}
 use Rattle.turn_model.specs.Lives.{OpeningMet, Met, life_after, opening_lines, turn_lines, closing_lines, life_lines}
@@ -17,21 +10,18 @@ use Rattle.turn_model.specs.Foretold.{ForetoldLife, foretold_life}
 use Rattle.script_model.specs.Lines.{Line, lines_text}
 use Rattle.daemon.specs.Streams.{WritesBytes, WritesSome, WritesLines, WritesFront}
 use Rattle.world.specs.declared.rows.HostRow.{HostRow}
-use Rattle.std.specs.List.{AllByRecursion}
-use Rattle.std.proofs.lemmas.List.Elements.{recursion_from_All}
 use Rattle.net_types.specs.declared.interface.IfSpec.{IfSpec}
 use Rattle.daemon.specs.Served.{IsForetold, Served}
 use Rattle.device_calls.specs.Printing.{Prints}
 use Rattle.daemon.specs.declared.serving.ServeEnd.{ServeEnd}
 use Rattle.daemon.specs.declared.serving.ServeEnd.TheVariants as ends
 use Rattle.daemon.specs.Cuts.{turns_left, CutOpening, CutLife, Leaves}
-use Rattle.daemon.proofs.Stretches.{lines_then}
 use Rattle.daemon.proofs.CutOffs.{front_none, front_some}
-use Rattle.daemon.proofs.Fronts.{front_then, front_wider, front_of_life}
+use Rattle.daemon.proofs.Fronts.{front_wider, front_of_life}
 use Rattle.world_mem.specs.LinkRecord.{LinkState}
 use Rattle.world_mem.specs.StoreRecord.{StoreState}
 use Rattle.world_mem.specs.HostRecord.{HostState}
-use Rattle.dhcpcd.specs.Memory.{link_of, store_of, first_host, host_of}
+use Rattle.dhcpcd.specs.Memory.{link_of, store_of, host_of}
 use Rattle.dhcpcd.specs.Replays.{failing_in, at_first, world_in, lines_in}
 
 module _ (managed : List Managed) (specs : List IfSpec) (rows : List HostRow) (fails : List FailLine) (life : LifeScript) where

@@ -53,12 +53,11 @@ fn read_configuration(alloc: Global, text: &[u8]) -> Result<Conf, Status>
     }
 }
 
-/// The lines of the interfaces stand behind those of the configuration.
-fn unbuilt_interface(conf: &[u8], place: usize) -> Status
-    ensures { IsRefused (line_feeds conf.now + place + 2) result (Unit {0}) }
+/// The first interface, whose line stands behind those of the configuration.
+fn first_interface(conf: &[u8]) -> Status
+    ensures { IsRefused (line_feeds conf.now + 2) result (Unit {0}) }
 {
-    let before = (line_feeds(conf) as u64).saturating_add(place as u64);
-    not_built(before.saturating_add(2))
+    not_built((line_feeds(conf) as u64).saturating_add(2))
 }
 
 /// Reads a script and its configuration.
@@ -71,7 +70,7 @@ pub fn settle(alloc: Global, bytes: &[u8]) -> Result<Settled, Status>
     configuration_is_one();
     match managed(alloc, &conf, &script.ifaces) {
         Ok(managed) => Ok(Settled { script, managed }),
-        Err(ManagedAnswer::NotBuilt { place }) => Err(unbuilt_interface(&script.conf, place)),
+        Err(ManagedAnswer::NotBuilt) => Err(first_interface(&script.conf)),
         Err(ManagedAnswer::NoMemory) => Err(Status::NoMemory),
     }
 }

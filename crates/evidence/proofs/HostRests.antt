@@ -1,11 +1,13 @@
 -- The host's addresses are wanted ones, and what is wanted has its basis.
-use Rattle.std.proofs.Common.{◌≡◌, Bool, true, false, ◌&&◌, List, [], ◌∷◌, ◌++◌, refl, sym, ap, subst, ◌∙◌}
+use Rattle.std.proofs.Common.{◌≡◌, ℕ, zero, suc, Bool, true, false, ◌&&◌, List, [], ◌∷◌, ◌++◌, take, refl, sym, ap, subst, ◌∙◌, lit<}
+use Rattle.std.specs.List.{AllByRecursion}
+use Rattle.net_types.specs.Marks.{AreBytes}
 use Rattle.net_types.specs.declared.interface.IfSpec.{IfSpec}
-use Rattle.world.specs.declared.rows.HostRow.{HostRow}
 use Rattle.world.specs.declared.rows.HostRow.TheVariants.{Addr}
-use Rattle.world.specs.LinkCalls.{Given}
+use Rattle.world.specs.LinkCalls.{Given, frame_len}
 use Rattle.world.specs.RowOrder.{has_row}
 use Rattle.settings.specs.declared.interfaces.Managed.{Managed}
+use Rattle.settings.specs.Fitting.{AreManaged}
 use Rattle.settings.specs.ManagedRows.{is_managed}
 use Rattle.host_model.specs.HostTable.{managed_rows}
 use Rattle.host_model.proofs.HostTableRows.{has_filter}
@@ -14,13 +16,20 @@ use Rattle.device_calls.specs.Worlds.{World}
 use Rattle.device_calls.proofs.Running.{run_makes}
 use Rattle.turn_model.specs.Turns.{Life, until, turn_asks}
 use Rattle.turn_model.specs.Opening.{opening_asks}
-use Rattle.turn_model.specs.Lives.{OpeningMet, IsOpening, life_after}
+use Rattle.turn_model.specs.Lives.{IsOpening, life_after}
 use Rattle.turn_model.specs.Foretold.{told_wake, told_bytes, woken, opening_of}
 use Rattle.turn_model.specs.HostInLife.{Running, running_opened, running_turned, running_after, life_run}
 use Rattle.turn_model.proofs.HostInLifeTurns.{opening_holds, turn_in_life}
-use Rattle.evidence.specs.Laws.{AreNumbered, AreMade}
+use Rattle.evidence.specs.Laws.{AreOctets, AreNumbered, AreMade}
 use Rattle.evidence.specs.HeldAddresses.{mets_of, RestOnEvidence, OpeningRests, TurnsRest}
-use Rattle.evidence.proofs.Rows.{have_basis}
+use Rattle.evidence.proofs.Based.{AreBased, have_basis}
+use Rattle.evidence_words.proofs.Carrying.{Relation}
+
+cut_octets : (len : ℕ) (bytes : List ℕ) → AreBytes bytes → AreBytes (take len bytes)
+cut_octets zero bytes octets i = lit< tt
+cut_octets (suc len) [] octets i = octets i
+cut_octets (suc len) (byte ∷ bytes) octets zero = octets zero
+cut_octets (suc len) (byte ∷ bytes) octets (suc i) = cut_octets len bytes (λ k. octets (suc k)) i
 
 module _ (managed : List Managed) where
   pub are_made : (turns : List Given) (running : Running) → AreMade managed running.life (mets_of managed running turns)
@@ -44,33 +53,42 @@ module _ (managed : List Managed) where
   one_more [] running given = refl
   one_more (first ∷ turns) running given = one_more turns (running_turned managed running first) given
 
-  -- ---- the host's rows
+  -- a frame that is cut has octets too
+  mets_octets : (turns : List Given) (running : Running) → AllByRecursion (λ (g : Given). AreBytes g.bytes) turns → AreOctets (mets_of managed running turns)
+  mets_octets [] running octets = tt
+  mets_octets (given ∷ coming) running octets =
+      (cut_octets (frame_len (told_wake given).event) given.bytes octets.0, mets_octets coming (running_turned managed running given) octets.1)
 
+-- ---- the host's rows
+
+module _ (Carries : Relation) (leases : AreBased Carries) (managed : List Managed) where
   both : (a b : Bool) → a ≡ true → b ≡ true → (a && b) ≡ true
   both true b p q = q
   both false b p q = cc
 
-  rest : (specs : List IfSpec) (world : World) (turns : List Given) (after : Running) → AreNumbered managed
+  rest : (specs : List IfSpec) (world : World) (turns : List Given) (after : Running) → AreManaged managed → AreNumbered managed
+      → AllByRecursion (λ (g : Given). AreBytes g.bytes) turns
       → running_after managed turns (running_opened managed specs world) ≡ after
       → managed_rows managed after.world.host.told.rows ≡ rows_of after.life.client
       → RestOnEvidence managed specs (opening_of managed specs world) (mets_of managed (running_opened managed specs world) turns) after.world.host.told.rows
-  rest specs world turns after numbered reached as_wanted index net on_managed has =
+  rest specs world turns after fit numbered octets reached as_wanted index net on_managed has =
       let first : Running = running_opened managed specs world in
       let held : has_row (managed_rows managed after.world.host.told.rows) (Addr index net) ≡ true =
       has_filter (is_managed managed) after.world.host.told.rows (Addr index net) ∙ both _ _ on_managed has in
       let wanted : has_row (rows_of after.life.client) (Addr index net) ≡ true =
       subst (λ rows. has_row rows (Addr index net) ≡ true) as_wanted held in
       let same : after.life ≡ life_after first.life (mets_of managed first turns) =
-      sym (ap (λ (running : Running). running.life) reached) ∙ life_met turns first in
-      have_basis managed specs (opening_of managed specs world) (mets_of managed first turns) numbered (is_opening specs world) (are_made turns first) index net
+      sym (ap (λ (running : Running). running.life) reached) ∙ life_met managed turns first in
+      have_basis Carries leases managed specs (opening_of managed specs world) (mets_of managed first turns)
+      (record { numbered = numbered; opens = is_opening managed specs world; turns = are_made managed turns first }) fit (mets_octets managed turns first octets) index net
       (subst (λ (life : Life). has_row (rows_of life.client) (Addr index net) ≡ true) same wanted)
 
-pub opening_rests : OpeningRests
-opening_rests managed specs world numbered in_order none =
-    rest managed specs world [] (running_opened managed specs world) numbered refl (opening_holds managed specs world in_order none).as_wanted
+pub opening_rests : (Carries : Relation) → AreBased Carries → OpeningRests
+opening_rests Carries leases managed specs world fit numbered in_order none =
+    rest Carries leases managed specs world [] (running_opened managed specs world) fit numbered tt refl (opening_holds managed specs world in_order none).as_wanted
 
-pub turns_rest : TurnsRest
-turns_rest managed specs world earlier given numbered in_order none =
-    rest managed specs world (earlier ++ given ∷ []) (running_turned managed (life_run managed specs world earlier) given) numbered
+pub turns_rest : (Carries : Relation) → AreBased Carries → TurnsRest
+turns_rest Carries leases managed specs world earlier given fit numbered octets in_order none =
+    rest Carries leases managed specs world (earlier ++ given ∷ []) (running_turned managed (life_run managed specs world earlier) given) fit numbered octets
     (one_more managed earlier (running_opened managed specs world) given)
     (turn_in_life managed specs world in_order earlier given none).as_wanted

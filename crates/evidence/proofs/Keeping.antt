@@ -1,51 +1,53 @@
 -- What an interface carries of the turns shown of it, and that each turn keeps it.
-use Rattle.std.proofs.Common.{◌≡◌, ℕ, Bool, true, false, not, ◌&&◌, ◌||◌, List, [], ◌∷◌, ◌++◌, Option, Some, None, refl, sym, ◌∙◌, ap, subst, arith}
+use Rattle.std.proofs.Common.{◌≡◌, ℕ, ◌<◌, ◌^◌, Bool, true, false, not, ◌&&◌, ◌||◌, List, [], ◌∷◌, ◌++◌, Option, Some, None, refl, sym, ◌∙◌, ap, subst, append_assoc, append-nil, arith}
 use Rattle.std.proofs.lemmas.Bool.Decides.{nat_tests}
-use Rattle.std.specs.Prelude.{◌≢◌, ◌==◌, if◌then◌else◌, map, option_to_list}
-use Rattle.net_types.proofs.CaseLaws.{split, gated}
+use Rattle.std.specs.Prelude.{◌≢◌, ◌==◌, if◌then◌else◌}
+use Rattle.net_types.proofs.CaseLaws.{split}
 use Rattle.net_types.specs.declared.address.Mac.{Mac}
 use Rattle.net_types.specs.declared.interface.IfIndex.{IfIndex}
 use Rattle.frame_link.specs.declared.arp.ArpView.{ArpView}
-use Rattle.ipv4ll.specs.declared.link_local.LinkLocal.{LinkLocal}
 use Rattle.ipv4ll.specs.declared.link_local.State.{State}
-use Rattle.ipv4ll.specs.declared.link_local.State.TheVariants.{Off, Armed, Chosen, Waiting}
-use Rattle.ipv4ll.specs.declared.link_local.Waits.TheVariants.{ForNothing}
-use Rattle.ipv4ll.specs.declared.link_local.Fallback.TheVariants.{Choose}
-use Rattle.ipv4ll.specs.Table.{ll_tick, ll_hears, ll_restarts, ll_armed}
+use Rattle.ipv4ll.specs.declared.link_local.State.TheVariants.{Off}
+use Rattle.ipv4ll.specs.Table.{ll_tick, ll_hears}
+use Rattle.v4_frames.specs.Heard.{HeardMessage, heard4_in}
+use Rattle.v4_client.specs.declared.states.Carrier.TheVariants.{Up}
+use Rattle.v4_client.specs.declared.states.Step4.{Step4}
+use Rattle.v4_client.specs.declared.states.Tell.TheVariants.{Server}
+use Rattle.v4_client.specs.Calls.{arp_step, carrier_step, heard_step, rebind_step}
+use Rattle.v4_client.specs.History.{tick_step}
+use Rattle.v4_client.specs.Messages.{Arrival}
 use Rattle.world.specs.declared.wakes.Event.{Event}
 use Rattle.world.specs.declared.wakes.Event.TheVariants.{Frame, Carrier, Duplicate, Release, Rebind, Stop, Quiet, End}
-use Rattle.settings.specs.declared.interfaces.IfConf.{IfConf}
 use Rattle.settings.specs.declared.interfaces.Managed.{Managed}
 use Rattle.client_model.specs.declared.interfaces.Iface.{Iface}
 use Rattle.script_model.specs.IfaceSets.{is_in}
 use Rattle.client_model.specs.declared.steps.Said.{Said}
-use Rattle.client_model.specs.declared.steps.Said.TheVariants.{Arp}
+use Rattle.client_model.specs.ClientSettings.{ask_of, runs_dhcp4}
+use Rattle.client_model.specs.Dhcp4Steps.{arms, arrival_at, dhcp4_packet, dhcp4_step, dhcp4_takes, followed, holds_lease, said_in}
 use Rattle.client_model.specs.IfaceSteps.{IfaceStep, index_of, silent, then_step}
-use Rattle.client_model.specs.LocalSteps.{chooses_local, armed, local_hears}
-use Rattle.client_model.specs.Interfaces.{resting, carrier_comes, restarted, unsent_in, ticked}
-use Rattle.client_model.specs.IfaceTurns.{arp_heard, input_step}
+use Rattle.client_model.specs.LocalSteps.{armed, local_hears}
+use Rattle.client_model.specs.Interfaces.{carried, carrier_comes, carrier_goes, machines_rebind, halted, released, resting, restarted, ticked, told_at_stop, unsent_in}
+use Rattle.client_model.specs.IfaceTurns.{arp_heard, hears_either, hears_message, hears_packet, input_step, taken}
 use Rattle.evidence_words.specs.Entries.{Entry, Offer, offers_on}
-use Rattle.evidence_words.specs.Inputs.{Site, index_at, offers_at, arp_on, carrier_after, has_carrier, is_stop, is_stopped}
+use Rattle.evidence_words.specs.Inputs.{Site, index_at, arp_on, carrier_after, has_carrier, is_stop, is_stopped}
 use Rattle.local_evidence.specs.LinkLocalBasis.{Undisturbed}
+use Rattle.evidence_words.proofs.Carrying.{at_site, entry}
 use Rattle.evidence_words.proofs.Offers.{Offered}
-use Rattle.local_evidence.proofs.Ticks.{Bears, BearsAmid, at_state, tick_amid, heard_bears, quiet_bears, restarted_bears, clean_bears}
+use Rattle.local_evidence.proofs.Ticks.{Bears, BearsAmid, at_state, tick_amid, more_amid, heard_bears, quiet_bears, restarted_bears, clean_bears}
+use Rattle.evidence.proofs.Sane.{is_on, AreOff, Sane, Goes, armed_has, followed_has, step_sane, step_unsaid, tick_goes, packet_goes, begin_goes, rebind_goes, taking, taking_sane, message_goes, local_sane, arms_sane, stops_sane, drops_sane, restarted_sane}
 
--- Without carrier, and after a stop, its machine is off.
 pub record Keeps (site : Site) (clean : Type 0) (f : Iface) (past : List Entry) : Type 0 where
+  pub sane : Sane site.managed f
   pub stopped : f.stopped ≡ is_stopped past
   pub carrier : f.stopped ≡ false → f.up ≡ has_carrier site past
-  pub off : (f.up && not f.stopped) ≡ false → f.local.state ≡ Off
   pub bears : Bears (Undisturbed site) site clean f.local.state past
 
--- the same within a turn, after the tick
+-- the same within a turn, after the ticks
 record KeepsAmid (site : Site) (clean : Type 0) (e : Entry) (said : List Said) (f : Iface) (past : List Entry) : Type 0 where
+  sane : Sane site.managed f
   stopped : f.stopped ≡ is_stopped past
   carrier : f.stopped ≡ false → f.up ≡ has_carrier site past
-  off : (f.up && not f.stopped) ≡ false → f.local.state ≡ Off
   bears : BearsAmid (Undisturbed site) site clean e said past f.local.state
-
-abbrev pub at_site : List Mac → Bool → Managed → Site
-at_site own up managed = record { managed = managed; own = own; up = up }
 
 -- ---- machines that are off
 
@@ -59,197 +61,425 @@ hear_off : (own : List Mac) (iface : IfIndex) (state : State) (arp : ArpView) (a
     → (ll_hears own (at_state iface state) arp at salt).ll.state ≡ Off
 hear_off own iface state arp at salt p = subst (λ s. (ll_hears own (at_state iface s) arp at salt).ll.state ≡ Off) (sym p) refl
 
-restart_off : (iface : IfIndex) (state : State) (at salt : ℕ) → state ≡ Off → (ll_restarts (at_state iface state) at salt).state ≡ Off
-restart_off iface state at salt p = subst (λ s. (ll_restarts (at_state iface s) at salt).state ≡ Off) (sym p) refl
+-- it has carrier and runs
+on_when : (f : Iface) → f.up ≡ true → f.stopped ≡ false → is_on f ≡ true
+on_when f up runs = ap (λ u. u && not f.stopped) up ∙ ap not runs
 
--- arming takes nothing away
-armed_bears : (site : Site) (clean : Type 0) (past : List Entry) (at : ℕ) (iface : IfIndex) (state : State) → Bears (Undisturbed site) site clean state past
-    → Bears (Undisturbed site) site clean (ll_armed (at_state iface state) at ForNothing Choose).state past
-armed_bears site clean past at iface Off b = tt
-armed_bears site clean past at iface (Armed due waits fallback) b = b
-armed_bears site clean past at iface (Chosen conflicts acd) b = b
-armed_bears site clean past at iface (Waiting conflicts due) b = b
-
-armed_conf_bears : (site : Site) (clean : Type 0) (past : List Entry) (conf : IfConf) (at : ℕ) (iface : IfIndex) (state : State)
-    → Bears (Undisturbed site) site clean state past → Bears (Undisturbed site) site clean (armed conf at (at_state iface state)).state past
-armed_conf_bears site clean past conf at iface state b =
-    gated (λ (local : LinkLocal). Bears (Undisturbed site) site clean local.state past) (chooses_local conf) (ll_armed (at_state iface state) at ForNothing Choose) (at_state iface state)
-    (armed_bears site clean past at iface state b) b
+out_when : (f : Iface) → f.up ≡ false → is_on f ≡ false
+out_when f down = ap (λ u. u && not f.stopped) down
 
 -- ---- the input of a turn
-
-abbrev pub entry : (at : ℕ) → Event → List ℕ → List Offer → Entry
-entry at event bytes offers = record { moment = at; event = event; bytes = bytes; offers = offers }
 
 apart : (a b : ℕ) → (a == b) ≡ false → a ≢ b
 apart a b h = grind (arith, nat_tests)
 
-module _ (own : List Mac) (start : Bool) (managed : Managed) (clean : Type 0) (at salt : ℕ) (bytes : List ℕ) (offers : List Offer) (past : List Entry) (said : List Said) where
-  abbrev site : Site
-  site = at_site own start managed
+module _ (site : Site) (clean : Type 0) (at salt : ℕ) (early : at < 10 ^ 15) (bytes : List ℕ) (offers : List Offer) (past : List Entry) where
+  abbrev Spelled : List Said → Type 0
+  Spelled said = Offered site.managed.spec (ask_of site.managed) clean said (offers_on (index_at site) offers)
 
-  abbrev face : Bool → Bool → IfIndex → State → Iface
-  face up stopped iface state = record { managed = managed; up = up; stopped = stopped; local = at_state iface state }
+  abbrev After : Event → Iface → Type 0
+  After event f = Keeps site clean f (entry at event bytes offers ∷ past)
 
-  abbrev AfterInput : Event → IfaceStep → Type 0
-  AfterInput event step = Offered managed.spec clean (said ++ step.said) (offers_on (index_at site) offers) → Keeps site clean step.iface (entry at event bytes offers ∷ past)
+  abbrev AfterInput : Event → List Said → IfaceStep → Type 0
+  AfterInput event said step = Spelled (said ++ step.said) → After event step.iface
 
-  abbrev Before : Event → Bool → Bool → IfIndex → State → Type 0
-  Before event up stopped iface state = KeepsAmid site clean (entry at event bytes offers) said (face up stopped iface state) past
+  abbrev Before : Event → List Said → Iface → Type 0
+  Before event said f = KeepsAmid site clean (entry at event bytes offers) said f past
+
+  bracket : (said more rest : List Said) → Spelled (said ++ (more ++ rest)) → Spelled ((said ++ more) ++ rest)
+  bracket said more rest h = subst Spelled (sym (append_assoc said more rest)) h
 
   -- after a stop
-  stopped_keeps : (event : Event) (up : Bool) (iface : IfIndex) (state : State) → Before event up true iface state
-      → AfterInput event (silent (face up true iface state))
-  stopped_keeps event up iface state b h = record {
-    stopped = stays (is_stop event) (is_stopped past) b.stopped;
-    carrier = λ k. cc;
-    off = b.off;
-    bears = off_bears site clean state _ (b.off (both up));
+  stopped_keeps : (event : Event) (said : List Said) (f : Iface) → f.stopped ≡ true → Before event said f → AfterInput event said (silent f)
+  stopped_keeps event said f over b h = record {
+    sane = b.sane;
+    stopped = over ∙ stays (is_stop event) (is_stopped past) (sym over ∙ b.stopped);
+    carrier = λ runs. absurd (let bad : true ≡ false = sym over ∙ runs in cc);
+    bears = off_bears site clean f.local.state _ (b.sane.off (ap (λ s. f.up && not s) over ∙ neither f.up)).link_local;
   }
     where
       stays : (s t : Bool) → true ≡ t → true ≡ (s || t)
       stays true t p = refl
       stays false t p = p
 
-      both : (up : Bool) → (up && false) ≡ false
-      both true = refl
-      both false = refl
+      neither : (up : Bool) → (up && false) ≡ false
+      neither true = refl
+      neither false = refl
 
-  -- an input that changes nothing
-  same_keeps : (event : Event) (up : Bool) (iface : IfIndex) (state : State) → Before event up false iface state
-      → is_stop event ≡ false → carrier_after (index_at site) event up ≡ up → Undisturbed site (entry at event bytes offers) past
-      → arp_on (index_at site) event bytes ≡ None → AfterInput event (silent (face up false iface state))
-  same_keeps event up iface state b runs carried stays none h = record {
-    stopped = subst (λ s. false ≡ (s || is_stopped past)) (sym runs) b.stopped;
-    carrier = λ k. sym carried ∙ ap (carrier_after (index_at site) event) (b.carrier refl);
-    off = b.off;
-    bears = quiet_bears (Undisturbed site) site clean (entry at event bytes offers) past salt state said b.bears stays none h;
+  -- an input that takes nothing away, and is no packet
+  record Passes (event : Event) (up : Bool) : Type 0 where
+    runs : is_stop event ≡ false
+    carries : carrier_after (index_at site) event up ≡ up
+    stays : Undisturbed site (entry at event bytes offers) past
+    none : arp_on (index_at site) event bytes ≡ None
+
+  -- nothing more comes of it
+  passed_keeps : (event : Event) (said : List Said) (f : Iface) → f.stopped ≡ false → Passes event f.up → Before event said f → AfterInput event said (silent f)
+  passed_keeps event said f runs passes b h = record {
+    sane = b.sane;
+    stopped = b.stopped ∙ sym (ap (λ s. s || is_stopped past) passes.runs);
+    carrier = λ _. sym passes.carries ∙ ap (carrier_after (index_at site) event) (b.carrier runs);
+    bears = quiet_bears (Undisturbed site) site clean (entry at event bytes offers) past salt f.local.state said b.bears passes.stays passes.none h;
   }
 
-  -- a frame on the interface
-  frame_keeps : (index len : ℕ) (up : Bool) (iface : IfIndex) (state : State) (arp : Option ArpView) → Before (Frame index len) up false iface state
-      → arp_on (index_at site) (Frame index len) bytes ≡ arp → AfterInput (Frame index len) (local_hears own at salt arp (face up false iface state))
-  frame_keeps index len up iface state None b heard = same_keeps (Frame index len) up iface state b refl refl tt heard
-  frame_keeps index len up iface state (Some arp) b heard = λ h. record {
+  -- ---- a step of DHCPv4 amid the turn
+
+  step_amid : (event : Event) (said : List Said) (f : Iface) (step : Step4) → Goes site.managed f step → Before event said f
+      → Before event (said ++ said_in step) (dhcp4_step at f step).iface
+  step_amid event said f step goes b = record {
+    sane = step_sane site at f step goes b.sane;
     stopped = b.stopped;
     carrier = b.carrier;
-    off = λ k. hear_off own iface state arp at salt (b.off k);
-    bears = heard_bears (Undisturbed site) site clean (entry at (Frame index len) bytes offers) past salt iface state said arp b.bears tt heard h;
+    bears = more_amid (Undisturbed site) site clean (entry at event bytes offers) past salt said (said_in step) local_then (step_unsaid site at f step goes b.sane)
+        (followed_has (λ s. BearsAmid (Undisturbed site) site clean (entry at event bytes offers) said past s) tt (λ due waits fallback. tt)
+        f.managed.conf at (holds_lease f) step.news f.local.iface f.local.state b.bears);
+  }
+    where
+      local_then : State
+      local_then = (followed f.managed.conf at (holds_lease f) step.news f.local).state
+
+  -- where DHCPv4 runs
+  abbrev perhaps : Bool → Iface → Step4 → IfaceStep
+  perhaps runs f step = if runs then dhcp4_step at f step else silent f
+
+  perhaps_amid : (event : Event) (said : List Said) (runs : Bool) (f : Iface) (step : Step4) → (runs ≡ true → Goes site.managed f step) → Before event said f
+      → Before event (said ++ (perhaps runs f step).said) (perhaps runs f step).iface
+  perhaps_amid event said true f step goes b = step_amid event said f step (goes refl) b
+  perhaps_amid event said false f step goes b = subst (λ (all : List Said). Before event all f) (sym (append-nil said)) b
+
+  perhaps_stopped : (runs : Bool) (f : Iface) (step : Step4) → (perhaps runs f step).iface.stopped ≡ f.stopped
+  perhaps_stopped true f step = refl
+  perhaps_stopped false f step = refl
+
+  perhaps_up : (runs : Bool) (f : Iface) (step : Step4) → (perhaps runs f step).iface.up ≡ f.up
+  perhaps_up true f step = refl
+  perhaps_up false f step = refl
+
+  -- ---- link-local is armed where no lease is held
+
+  arms_keeps : (turns : List Entry) (f : Iface) → is_on f ≡ true → Keeps site clean f turns → Keeps site clean (arms at f).iface turns
+  arms_keeps turns f on k = by (holds_lease f) (arms_sane site.managed at f on k.sane)
+    where
+      armed_when : Bool → Iface
+      armed_when held = (if held then silent f else silent (record f { local = armed f.managed.conf at f.local })).iface
+
+      by : (held : Bool) → Sane site.managed (armed_when held) → Keeps site clean (armed_when held) turns
+      by true sane = k
+      by false sane = record {
+        sane = sane;
+        stopped = k.stopped;
+        carrier = k.carrier;
+        bears = armed_has (λ s. Bears (Undisturbed site) site clean s turns) tt (λ due waits fallback. tt) f.managed.conf at f.local.iface f.local.state k.bears;
+      }
+
+  -- DHCPv4 goes a step where it runs, and then link-local is armed
+  armed_keeps : (event : Event) (said : List Said) (runs : Bool) (f : Iface) (step : Step4) → f.stopped ≡ false → f.up ≡ true → Passes event true
+      → (runs ≡ true → Goes site.managed f step) → Before event said f → AfterInput event said (then_step (perhaps runs f step) (arms at))
+  armed_keeps event said runs f step going up passes goes b h =
+      let first : IfaceStep = perhaps runs f step in
+      let going_then : first.iface.stopped ≡ false = perhaps_stopped runs f step ∙ going in
+      let up_then : first.iface.up ≡ true = perhaps_up runs f step ∙ up in
+      arms_keeps (entry at event bytes offers ∷ past) first.iface (on_when first.iface up_then going_then)
+      (passed_keeps event (said ++ first.said) first.iface going_then (subst (λ (u : Bool). Passes event u) (sym up_then) passes)
+      (perhaps_amid event said runs f step goes b) (bracket said first.said [] (armed_said first.iface (holds_lease first.iface) first.said h)))
+    where
+      -- arming says nothing
+      armed_said : (g : Iface) (held : Bool) (more : List Said)
+          → Spelled (said ++ (more ++ (if held then silent g else silent (record g { local = armed g.managed.conf at g.local })).said)) → Spelled (said ++ (more ++ []))
+      armed_said g true more spelled = spelled
+      armed_said g false more spelled = spelled
+
+  -- ---- frames
+
+  local_keeps : (index len : ℕ) (said : List Said) (f : Iface) (arp : ArpView) → Before (Frame index len) said f
+      → arp_on (index_at site) (Frame index len) bytes ≡ Some arp → AfterInput (Frame index len) said (local_hears site.own at salt arp f)
+  local_keeps index len said f arp b heard h = record {
+    sane = local_sane site.managed f (ll_hears site.own f.local arp at salt) (hear_off site.own f.local.iface f.local.state arp at salt) b.sane;
+    stopped = b.stopped;
+    carrier = b.carrier;
+    bears = heard_bears (Undisturbed site) site clean (entry at (Frame index len) bytes offers) past salt f.local.iface f.local.state said arp b.bears tt heard h;
   }
 
-  -- the carrier of the interface
-  carrier_keeps : (index : ℕ) (to up : Bool) (iface : IfIndex) (state : State) → (index_at site == index) ≡ true → Before (Carrier index to) up false iface state
-      → AfterInput (Carrier index to) (input_step own at salt (Carrier index to) bytes (face up false iface state))
-  carrier_keeps index true true iface state here b =
-      rw here (same_keeps (Carrier index true) true iface state b refl (rw here refl) (λ _ _. refl) refl)
-  carrier_keeps index true false iface state here b =
-      rw here (λ h. record {
-        stopped = b.stopped;
-        carrier = λ k. rw here refl;
-        off = λ k. cc;
-        bears = armed_conf_bears site clean _ managed.conf at iface state (off_bears site clean state _ (b.off refl));
-      })
-  carrier_keeps index false true iface state here b =
-      rw here (λ h. record { stopped = b.stopped; carrier = λ k. rw here refl; off = λ k. refl; bears = tt })
-  carrier_keeps index false false iface state here b =
-      rw here (λ h. record {
-        stopped = b.stopped;
-        carrier = λ k. rw here refl;
-        off = b.off;
-        bears = off_bears site clean state _ (b.off refl);
-      })
+  packet_keeps : (index len : ℕ) (said : List Said) (f : Iface) (arp : ArpView) → Before (Frame index len) said f
+      → arp_on (index_at site) (Frame index len) bytes ≡ Some arp → AfterInput (Frame index len) said (hears_packet site.own at salt arp f)
+  packet_keeps index len said f arp b heard h =
+      let step : Step4 = arp_step site.own at salt arp f.dhcp4 in
+      let first : IfaceStep = dhcp4_packet site.own at salt arp f in
+      local_keeps index len (said ++ said_in step) first.iface arp
+      (step_amid (Frame index len) said f step (packet_goes site.managed f b.sane at salt early site.own arp) b) heard
+      (bracket said (said_in step) (local_hears site.own at salt arp first.iface).said h)
 
-  rebind_keeps : (index : ℕ) (up : Bool) (iface : IfIndex) (state : State) → (index_at site == index) ≡ true → Before (Rebind index) up false iface state
-      → AfterInput (Rebind index) (input_step own at salt (Rebind index) bytes (face up false iface state))
-  rebind_keeps index true iface state here b =
-      rw here (λ h. record {
+  no_packet : (index len : ℕ) (up : Bool) → arp_on (index_at site) (Frame index len) bytes ≡ None → Passes (Frame index len) up
+  no_packet index len up none = record { runs = refl; carries = refl; stays = tt; none = none }
+
+  message_keeps : (index len : ℕ) (said : List Said) (f : Iface) (message : Option HeardMessage) → f.stopped ≡ false → Before (Frame index len) said f
+      → arp_on (index_at site) (Frame index len) bytes ≡ None → AfterInput (Frame index len) said (hears_message at salt message f)
+  message_keeps index len said f None going b none h = passed_keeps (Frame index len) said f going (no_packet index len f.up none) b h
+  message_keeps index len said f (Some heard) going b none h =
+      let arrival : Arrival = arrival_at at heard in
+      let step : Step4 = heard_step salt arrival f.dhcp4 in
+      let with_values : Iface = taking site.managed f b.sane salt arrival early in
+      let taken_amid : Before (Frame index len) said with_values = record {
+        sane = taking_sane site.managed f b.sane salt arrival early;
         stopped = b.stopped;
         carrier = b.carrier;
-        off = λ k. cc;
-        bears = armed_conf_bears site clean _ managed.conf at iface state
-            (quiet_bears (Undisturbed site) site clean (entry at (Rebind index) bytes offers) past salt state said b.bears tt refl h);
-      })
-  rebind_keeps index false iface state here b = rw here (same_keeps (Rebind index) false iface state b refl refl tt refl)
+        bears = b.bears;
+      } in
+      passed_keeps (Frame index len) (said ++ said_in step) (dhcp4_takes at salt arrival f).iface going (no_packet index len f.up none)
+      (step_amid (Frame index len) said with_values step (message_goes site.managed f b.sane salt arrival early) taken_amid)
+      (subst Spelled (sym (append-nil (said ++ said_in step))) h)
 
-  running_keeps : (event : Event) (up : Bool) (iface : IfIndex) (state : State) → Before event up false iface state
-      → AfterInput event (input_step own at salt event bytes (face up false iface state))
-  running_keeps (Frame index len) up iface state b =
-      split (index_at site == index)
-      (λ here. rw here (frame_keeps index len up iface state (arp_heard bytes) b (rw here refl)))
-      (λ elsewhere. rw elsewhere (same_keeps (Frame index len) up iface state b refl refl tt (rw elsewhere refl)))
-  running_keeps (Carrier index to) up iface state b =
-      split (index_at site == index)
-      (λ here. carrier_keeps index to up iface state here b)
-      (λ elsewhere. rw elsewhere (same_keeps (Carrier index to) up iface state b refl (rw elsewhere refl)
-      (λ same up. absurd (apart _ _ elsewhere same)) refl))
-  running_keeps (Duplicate index addr) up iface state b = same_keeps (Duplicate index addr) up iface state b refl refl tt refl
-  running_keeps (Release index) up iface state b =
-      split (index_at site == index)
-      (λ here. rw here (λ h. record { stopped = b.stopped; carrier = b.carrier; off = λ k. refl; bears = tt }))
-      (λ elsewhere. rw elsewhere (same_keeps (Release index) up iface state b refl refl (apart _ _ elsewhere) refl))
-  running_keeps (Rebind index) up iface state b =
-      split (index_at site == index)
-      (λ here. rebind_keeps index up iface state here b)
-      (λ elsewhere. rw elsewhere (same_keeps (Rebind index) up iface state b refl refl tt refl))
-  running_keeps Stop up iface state b = λ h. record { stopped = refl; carrier = λ k. cc; off = λ k. refl; bears = tt }
-  running_keeps Quiet up iface state b = same_keeps Quiet up iface state b refl refl tt refl
-  running_keeps End up iface state b = same_keeps End up iface state b refl refl tt refl
+  frame_keeps : (index len : ℕ) (said : List Said) (f : Iface) (arp : Option ArpView) (message : Option HeardMessage) → f.stopped ≡ false
+      → Before (Frame index len) said f → arp_on (index_at site) (Frame index len) bytes ≡ arp
+      → AfterInput (Frame index len) said (hears_either site.own at salt arp message f)
+  frame_keeps index len said f (Some arp) message going b heard = packet_keeps index len said f arp b heard
+  frame_keeps index len said f None message going b none = message_keeps index len said f message going b none
 
-  input_keeps : (event : Event) (up stopped : Bool) (iface : IfIndex) (state : State) → Before event up stopped iface state
-      → AfterInput event (input_step own at salt event bytes (face up stopped iface state))
-  input_keeps event up true iface state b = stopped_keeps event up iface state b
-  input_keeps event up false iface state b = running_keeps event up iface state b
+  -- ---- the carrier
+
+  -- the carrier comes to machines that are off
+  comes_keeps : (index : ℕ) (said : List Said) (f : Iface) → (index_at site == index) ≡ true → f.stopped ≡ false → f.up ≡ false
+      → Before (Carrier index true) said f → AfterInput (Carrier index true) said (carrier_comes at salt f)
+  comes_keeps index said f here going down b h =
+      arms_keeps turns first.iface (on_when first.iface (perhaps_up (runs_dhcp4 f.managed.conf) lit step) (perhaps_stopped (runs_dhcp4 f.managed.conf) lit step ∙ going))
+      (begun (runs_dhcp4 f.managed.conf) refl)
+    where
+      turns : List Entry
+      turns = entry at (Carrier index true) bytes offers ∷ past
+
+      lit : Iface
+      lit = record f { up = true }
+
+      step : Step4
+      step = carrier_step Up at salt lit.dhcp4
+
+      first : IfaceStep
+      first = perhaps (runs_dhcp4 f.managed.conf) lit step
+
+      off : AreOff f
+      off = b.sane.off (out_when f down)
+
+      lit_sane : Sane site.managed lit
+      lit_sane = record {
+        same = b.sane.same;
+        settings = b.sane.settings;
+        hosts = b.sane.hosts;
+        off = λ out. absurd (let bad : true ≡ false = sym (on_when lit refl going) ∙ out in cc);
+        without = b.sane.without;
+        aside = b.sane.aside;
+      }
+
+      goes : runs_dhcp4 f.managed.conf ≡ true → Goes site.managed lit step
+      goes runs = begin_goes site.managed lit lit_sane at salt early (on_when lit refl going) runs
+
+      begun : (runs : Bool) → runs_dhcp4 f.managed.conf ≡ runs → Keeps site clean (perhaps runs lit step).iface turns
+      begun true runs = record {
+        sane = step_sane site at lit step (goes runs) lit_sane;
+        stopped = b.stopped;
+        carrier = λ _. rw here refl;
+        bears = followed_has (λ s. Bears (Undisturbed site) site clean s turns) tt (λ due waits fallback. tt) f.managed.conf at (holds_lease f) step.news
+            f.local.iface f.local.state (off_bears site clean f.local.state turns off.link_local);
+      }
+      begun false runs = record {
+        sane = lit_sane;
+        stopped = b.stopped;
+        carrier = λ _. rw here refl;
+        bears = off_bears site clean f.local.state turns off.link_local;
+      }
+
+  -- what comes of a carrier, by the one before
+  abbrev carried_from : (to before : Bool) → Iface → IfaceStep
+  carried_from true before f = if before then silent f else carrier_comes at salt f
+  carried_from false before f = if before then carrier_goes at salt f else silent f
+
+  carrier_keeps : (index : ℕ) (to up : Bool) (said : List Said) (f : Iface) → (index_at site == index) ≡ true → f.stopped ≡ false → f.up ≡ up
+      → Before (Carrier index to) said f → AfterInput (Carrier index to) said (carried_from to up f)
+  carrier_keeps index true true said f here going up b =
+      passed_keeps (Carrier index true) said f going (record { runs = refl; carries = rw here (sym up); stays = λ _ _. refl; none = refl }) b
+  carrier_keeps index true false said f here going down b = comes_keeps index said f here going down b
+  carrier_keeps index false true said f here going up b = λ h. record {
+    sane = drops_sane site.managed at salt early (record f { up = false }) b.sane.same b.sane.settings b.sane.hosts;
+    stopped = b.stopped;
+    carrier = λ _. rw here refl;
+    bears = tt;
+  }
+  carrier_keeps index false false said f here going down b = λ h. record {
+    sane = b.sane;
+    stopped = b.stopped;
+    carrier = λ _. rw here down;
+    bears = off_bears site clean f.local.state _ (b.sane.off (out_when f down)).link_local;
+  }
+
+  carried_keeps : (index : ℕ) (to : Bool) (said : List Said) (f : Iface) → (index_at site == index) ≡ true → f.stopped ≡ false
+      → Before (Carrier index to) said f → AfterInput (Carrier index to) said (carried at salt to f)
+  carried_keeps index true said f here going b = carrier_keeps index true f.up said f here going refl b
+  carried_keeps index false said f here going b = carrier_keeps index false f.up said f here going refl b
+
+  -- ---- the other inputs
+
+  quietly : (event : Event) (up : Bool) → is_stop event ≡ false → carrier_after (index_at site) event up ≡ up
+      → Undisturbed site (entry at event bytes offers) past → arp_on (index_at site) event bytes ≡ None → Passes event up
+  quietly event up runs carries stays none = record { runs = runs; carries = carries; stays = stays; none = none }
+
+  rebind_keeps : (index : ℕ) (up : Bool) (said : List Said) (f : Iface) → f.stopped ≡ false → f.up ≡ up → Before (Rebind index) said f
+      → AfterInput (Rebind index) said (if up then machines_rebind at salt f else silent f)
+  rebind_keeps index true said f going up b =
+      armed_keeps (Rebind index) said (runs_dhcp4 f.managed.conf) f (rebind_step at salt f.dhcp4) going up (quietly (Rebind index) true refl refl tt refl)
+      (rebind_goes site.managed f b.sane at salt early (on_when f up going)) b
+  rebind_keeps index false said f going down b = passed_keeps (Rebind index) said f going (quietly (Rebind index) f.up refl refl tt refl) b
+
+  release_keeps : (index : ℕ) (said : List Said) (f : Iface) → Before (Release index) said f → AfterInput (Release index) said (released at salt f)
+  release_keeps index said f b h = record {
+    sane = stops_sane site.managed at salt early f b.sane.same b.sane.settings b.sane.hosts Server;
+    stopped = b.stopped;
+    carrier = b.carrier;
+    bears = tt;
+  }
+
+  stop_keeps : (said : List Said) (f : Iface) → Before Stop said f → AfterInput Stop said (halted at salt f)
+  stop_keeps said f b h = record {
+    sane = stops_sane site.managed at salt early (record f { stopped = true }) b.sane.same b.sane.settings b.sane.hosts (told_at_stop f.managed.conf);
+    stopped = refl;
+    carrier = λ runs. cc;
+    bears = tt;
+  }
+
+  mine : (f : Iface) (index : ℕ) {v : Bool} → f.managed ≡ site.managed → (index_of f == index) ≡ v → (index_at site == index) ≡ v
+  mine f index same h = sym (ap (λ (m : Managed). m.spec.index.number == index) same) ∙ h
+
+  running_keeps : (event : Event) (said : List Said) (f : Iface) → f.stopped ≡ false → Before event said f
+      → AfterInput event said (taken site.own at salt event bytes f)
+  running_keeps (Frame index len) said f going b =
+      split (index_of f == index)
+      (λ here. rw here (frame_keeps index len said f (arp_heard bytes) (heard4_in f.managed.spec.mac bytes) going b (rw (mine f index b.sane.same here) refl)))
+      (λ elsewhere. rw elsewhere (passed_keeps (Frame index len) said f going (no_packet index len f.up (rw (mine f index b.sane.same elsewhere) refl)) b))
+  running_keeps (Carrier index to) said f going b =
+      split (index_of f == index)
+      (λ here. rw here (carried_keeps index to said f (mine f index b.sane.same here) going b))
+      (λ elsewhere. rw elsewhere (passed_keeps (Carrier index to) said f going (quietly (Carrier index to) f.up refl (rw (mine f index b.sane.same elsewhere) refl)
+      (λ same up. absurd (apart _ _ (mine f index b.sane.same elsewhere) same)) refl) b))
+  running_keeps (Duplicate index addr) said f going b =
+      passed_keeps (Duplicate index addr) said f going (quietly (Duplicate index addr) f.up refl refl tt refl) b
+  running_keeps (Release index) said f going b =
+      split (index_of f == index)
+      (λ here. rw here (release_keeps index said f b))
+      (λ elsewhere. rw elsewhere (passed_keeps (Release index) said f going (quietly (Release index) f.up refl refl
+      (apart _ _ (mine f index b.sane.same elsewhere)) refl) b))
+  running_keeps (Rebind index) said f going b =
+      split (index_of f == index)
+      (λ here. rw here (rebind_keeps index f.up said f going refl b))
+      (λ elsewhere. rw elsewhere (passed_keeps (Rebind index) said f going (quietly (Rebind index) f.up refl refl tt refl) b))
+  running_keeps Stop said f going b = stop_keeps said f b
+  running_keeps Quiet said f going b = passed_keeps Quiet said f going (quietly Quiet f.up refl refl tt refl) b
+  running_keeps End said f going b = passed_keeps End said f going (quietly End f.up refl refl tt refl) b
+
+  input_by : (stopped : Bool) (event : Event) (said : List Said) (f : Iface) → f.stopped ≡ stopped → Before event said f
+      → AfterInput event said (if stopped then silent f else taken site.own at salt event bytes f)
+  input_by true event said f over b = stopped_keeps event said f over b
+  input_by false event said f going b = running_keeps event said f going b
+
+  input_keeps : (event : Event) (said : List Said) (f : Iface) → Before event said f → AfterInput event said (input_step site.own at salt event bytes f)
+  input_keeps event said f b = input_by f.stopped event said f refl b
 
 -- ---- a turn
 
-module _ (own : List Mac) (start : Bool) (clean : Type 0) (salt : ℕ) (e : Entry) (past : List Entry) where
+module _ (site : Site) (clean : Type 0) (salt : ℕ) (e : Entry) (early : e.moment < 10 ^ 15) (past : List Entry) where
   abbrev from_tick : Iface → IfaceStep
-  from_tick f = then_step (ticked e.moment salt f) (input_step own e.moment salt e.event e.bytes)
+  from_tick f = then_step (ticked e.moment salt f) (input_step site.own e.moment salt e.event e.bytes)
 
-  abbrev AfterTurn : Managed → IfaceStep → Type 0
-  AfterTurn managed step = Offered managed.spec clean step.said (offers_on managed.spec.index.number e.offers) → Keeps (at_site own start managed) clean step.iface (e ∷ past)
+  abbrev AfterTurn : IfaceStep → Type 0
+  AfterTurn step =
+      Offered site.managed.spec (ask_of site.managed) clean step.said (offers_on (index_at site) e.offers) → Keeps site clean step.iface (e ∷ past)
 
-  tick_keeps : (f : Iface) → Keeps (at_site own start f.managed) (Unit {0}) f past → AfterTurn f.managed (from_tick f)
-  tick_keeps f k =
-      let step = ll_tick f.local e.moment salt in
-      input_keeps own start f.managed clean e.moment salt e.bytes e.offers past (map Arp (option_to_list step.out.arp)) e.event f.up f.stopped step.ll.iface step.ll.state
-      (record {
+  -- after both ticks
+  ticks_amid : (f : Iface) → Keeps site (Unit {0}) f past → KeepsAmid site clean e (ticked e.moment salt f).said (ticked e.moment salt f).iface past
+  ticks_amid f k =
+      let step : Step4 = tick_step e.moment salt f.dhcp4 in
+      let goes : Goes site.managed f step = tick_goes site.managed f k.sane e.moment salt early in
+      let first : Iface = (dhcp4_step e.moment f step).iface in
+      record {
+        sane = local_sane site.managed first (ll_tick first.local e.moment salt) (tick_off first.local.iface first.local.state e.moment salt)
+            (step_sane site e.moment f step goes k.sane);
         stopped = k.stopped;
         carrier = k.carrier;
-        off = λ h. tick_off f.local.iface f.local.state e.moment salt (k.off h);
-        bears = tick_amid (Undisturbed (at_site own start f.managed)) (at_site own start f.managed) clean e past salt f.local.iface f.local.state k.bears;
-      })
+        bears = tick_amid (Undisturbed site) site clean e past salt (said_in step) first.local.iface first.local.state
+            (step_unsaid site e.moment f step goes k.sane)
+            (followed_has (λ s. Bears (Undisturbed site) site (Unit {0}) s past) tt (λ due waits fallback. tt)
+            f.managed.conf e.moment (holds_lease f) step.news f.local.iface f.local.state k.bears);
+      }
+
+  tick_keeps : (f : Iface) → Keeps site (Unit {0}) f past → AfterTurn (from_tick f)
+  tick_keeps f k =
+      input_keeps site clean e.moment salt early e.bytes e.offers past e.event (ticked e.moment salt f).said (ticked e.moment salt f).iface (ticks_amid f k)
 
   choice : {A : Type 0} (P : A → Type 0) (b : Bool) (x y : A) → (b ≡ true → P x) → (b ≡ false → P y) → P (if b then x else y)
   choice P true x y p q = p refl
   choice P false x y p q = q refl
 
-  pub turn_keeps : (unsent : ℕ) (f : Iface) → Keeps (at_site own start f.managed) (is_in unsent (index_of f) ≡ false) f past
-      → AfterTurn f.managed (from_tick (unsent_in unsent e.moment salt f))
+  pub turn_keeps : (unsent : ℕ) (f : Iface) → Keeps site (is_in unsent (index_of f) ≡ false) f past
+      → AfterTurn (from_tick (unsent_in unsent e.moment salt f))
   turn_keeps unsent f k =
-      choice (λ g. AfterTurn f.managed (from_tick g)) (is_in unsent (index_of f)) (restarted e.moment salt f) f
+      choice (λ g. AfterTurn (from_tick g)) (is_in unsent (index_of f)) (restarted e.moment salt f) f
       (λ failed. tick_keeps (restarted e.moment salt f) (record {
+        sane = restarted_sane site.managed e.moment salt early f k.sane;
         stopped = k.stopped;
         carrier = k.carrier;
-        off = λ h. restart_off f.local.iface f.local.state e.moment salt (k.off h);
-        bears = restarted_bears (Undisturbed (at_site own start f.managed)) (at_site own start f.managed) _ past f.local.iface f.local.state e.moment salt k.bears;
+        bears = restarted_bears (Undisturbed site) site _ past f.local.iface f.local.state e.moment salt k.bears;
       }))
       (λ fine. tick_keeps f (record {
+        sane = k.sane;
         stopped = k.stopped;
         carrier = k.carrier;
-        off = k.off;
-        bears = clean_bears (Undisturbed (at_site own start f.managed)) (at_site own start f.managed) _ past f.local.state fine k.bears;
+        bears = clean_bears (Undisturbed site) site _ past f.local.state fine k.bears;
       }))
 
 -- ---- the opening
 
--- after what an opening shows, which is a turn without input
-pub opens_keeps : (own : List Mac) (clean : Type 0) (at moment : ℕ) (offers : List Offer) (m : Managed) (up : Bool)
-    → Keeps (at_site own up m) clean (if up then carrier_comes at (resting m) else silent (resting m)).iface (entry moment Quiet [] offers ∷ [])
-opens_keeps own clean at moment offers m true = record {
-  stopped = refl;
-  carrier = λ k. refl;
-  off = λ k. cc;
-  bears = armed_conf_bears (at_site own true m) clean (entry moment Quiet [] offers ∷ []) m.conf at m.spec.index Off tt;
+rests_sane : (m : Managed) (up : Bool) → Sane m (record (resting m) { up = up })
+rests_sane m up = record {
+  same = refl;
+  settings = refl;
+  hosts = record { state = tt; kept = tt; held = tt };
+  off = λ out. record { link_local = refl; dhcp4 = refl };
+  without = λ none. refl;
+  aside = λ held. refl;
 }
-opens_keeps own clean at moment offers m false = record { stopped = refl; carrier = λ k. refl; off = λ k. refl; bears = tt }
+
+-- after what an opening shows, which is a turn without input
+pub opens_keeps : (own : List Mac) (clean : Type 0) (at salt : ℕ) → at < 10 ^ 15 → (offers : List Offer) (m : Managed) (up : Bool)
+    → Keeps (at_site own up m) clean (if up then carrier_comes at salt (resting m) else silent (resting m)).iface (entry at Quiet [] offers ∷ [])
+opens_keeps own clean at salt early offers m true =
+    arms_keeps (at_site own true m) clean at salt early [] offers [] turns first.iface (on_first (runs_dhcp4 m.conf)) (begun (runs_dhcp4 m.conf) refl)
+  where
+    site : Site
+    site = at_site own true m
+
+    turns : List Entry
+    turns = entry at Quiet [] offers ∷ []
+
+    lit : Iface
+    lit = record (resting m) { up = true }
+
+    step : Step4
+    step = carrier_step Up at salt lit.dhcp4
+
+    first_when : Bool → IfaceStep
+    first_when runs = if runs then dhcp4_step at lit step else silent lit
+
+    first : IfaceStep
+    first = first_when (runs_dhcp4 m.conf)
+
+    on_first : (runs : Bool) → is_on (first_when runs).iface ≡ true
+    on_first true = refl
+    on_first false = refl
+
+    begun : (runs : Bool) → runs_dhcp4 m.conf ≡ runs → Keeps site clean (first_when runs).iface turns
+    begun true runs = record {
+      sane = step_sane site at lit step (begin_goes m lit (rests_sane m true) at salt early refl runs) (rests_sane m true);
+      stopped = refl;
+      carrier = λ _. refl;
+      bears = tt;
+    }
+    begun false runs = record { sane = rests_sane m true; stopped = refl; carrier = λ _. refl; bears = tt }
+opens_keeps own clean at salt early offers m false =
+    record { sane = rests_sane m false; stopped = refl; carrier = λ _. refl; bears = tt }

@@ -1,6 +1,9 @@
+pub mod Sane
 pub mod Keeping
 pub mod Turns
 pub mod Rows
+pub mod Based
 pub mod HostRests
 pub mod Numbered
 pub mod Foretold
+pub mod Leasing

@@ -1,12 +1,10 @@
 -- Which interface an address row comes from, and the basis that it has there.
-use Rattle.std.proofs.Common.{ℕ, ◌≡◌, Bool, true, false, cond, not, ◌&&◌, ◌||◌, List, [], ◌∷◌, ◌⊎◌, inl, inr, Option, Some, None, refl, sym, ap, subst, ◌∙◌}
-use Rattle.std.specs.Prelude.{filter, flat_map, nat_lt}
-use Rattle.std.specs.List.{AllByRecursion, Contains}
+use Rattle.std.proofs.Common.{ℕ, ◌≡◌, Bool, true, false, cond, not, ◌&&◌, ◌||◌, List, [], ◌∷◌, ◌++◌, ◌⊎◌, inl, inr, Option, Some, None, refl, sym, ap, subst, ◌∙◌}
+use Rattle.std.specs.Prelude.{filter, flat_map, nat_lt, ◌==◌, option_and_then}
+use Rattle.std.specs.List.{AllByRecursion}
 use Rattle.std.proofs.lemmas.List.Folds.{list_any-append}
-use Rattle.std.proofs.lemmas.List.Elements.{All-contains_itself, recursion_from_All}
 use Rattle.std.specs.BTreeMap.{is_at}
 use Rattle.std.specs.Cmp.{Equal-is}
-use Rattle.net_types.proofs.AllLaws.{all_both}
 use Rattle.net_types.specs.declared.address.Ip4.{Ip4}
 use Rattle.net_types.specs.declared.address.Net4.{Net4}
 use Rattle.net_types.specs.declared.address.Net.{Net}
@@ -20,32 +18,32 @@ use Rattle.ipv4ll.specs.declared.link_local.State.{State}
 use Rattle.ipv4ll.specs.declared.link_local.State.TheVariants.{Off, Armed, Chosen, Waiting}
 use Rattle.ipv4ll.specs.Choice.{IsChoice}
 use Rattle.ipv4ll.specs.Table.{held_in}
+use Rattle.v4_options.specs.declared.code.TheConstants.{CLASSLESS_ROUTES, ROUTERS}
+use Rattle.v4_options.specs.declared.routes.ClasslessRoute.{ClasslessRoute}
+use Rattle.v4_options.specs.Numbers.{addrs_in}
+use Rattle.v4_options.specs.Routes.{routes_in}
+use Rattle.lease_text.specs.Leases.{LeaseContent}
+use Rattle.v4_client.specs.Clients.{held_of}
 use Rattle.world.specs.declared.rows.HostRow.{HostRow}
 use Rattle.world.specs.declared.rows.HostRow.TheVariants.{Addr, Route}
-use Rattle.world.specs.declared.rows.Via.TheVariants.{OnLink}
+use Rattle.world.specs.declared.rows.Via.TheVariants.{OnLink, Gate4}
 use Rattle.world.specs.RowOrder.{row_iface, row_net, row_cmp, has_row}
 use Rattle.world.proofs.ExactRows.{row_cmp_exact}
 use Rattle.world.proofs.RowLists.{in_order_has}
 use Rattle.settings.specs.declared.interfaces.StaticLine.{StaticLine}
-use Rattle.settings.specs.declared.interfaces.Managed.{Managed}
 use Rattle.client_model.specs.declared.interfaces.Iface.{Iface}
-use Rattle.script_model.specs.IfaceSets.{is_up}
 use Rattle.net_types.specs.Networks.{network_of, is_within}
-use Rattle.client_model.specs.WantedRows.{metric_of, is_kept, router_routes, address_rows, static_rows, local_net, local_rows, iface_rows}
-use Rattle.client_model.proofs.SameInterfaces.{managed_in}
+use Rattle.client_model.specs.Clients.{Client, rows_of}
+use Rattle.client_model.specs.WantedRows.{metric_of, is_kept, gateway_routes, router_routes, address_rows, static_rows, value_in, classless_rows, preferred, lease_routes, lease_rows, local_net, local_rows, iface_rows}
 use Rattle.host_model.proofs.HostTableRows.{has_filter}
-use Rattle.turn_model.specs.Turns.{Life}
-use Rattle.turn_model.specs.Lives.{life_after}
-use Rattle.evidence_words.specs.Entries.{Entry, opening_entry, shown_of}
+use Rattle.evidence_words.specs.Entries.{Entry}
 use Rattle.evidence_words.specs.Inputs.{Site}
 use Rattle.local_evidence.specs.LinkLocalBasis.{Undisturbed, StrongBasis}
-use Rattle.evidence.specs.Laws.{Basis, site_of, StrongestBasis, AddressesHave, AddressesHaveBasis}
-use Rattle.local_evidence.proofs.Weakening.{local_weaker}
-use Rattle.evidence_words.proofs.Offers.{number_of}
+use Rattle.evidence.specs.StaticBasis.{StaticBasis}
 use Rattle.local_evidence.proofs.Phases.{HeldSince, Carries}
 use Rattle.local_evidence.proofs.Ticks.{Bears}
-use Rattle.evidence.proofs.Keeping.{Keeps, at_site}
-use Rattle.evidence.proofs.Turns.{KeptOne, KeptAfter, turns_kept, own_stays, opening_kept, opened_own}
+use Rattle.evidence_words.proofs.Carrying.{at_site}
+use Rattle.evidence.proofs.Keeping.{Keeps}
 
 either : (a b : Bool) → (a || b) ≡ true → (a ≡ true) ⊎ (b ≡ true)
 either true b e = inl refl
@@ -57,10 +55,10 @@ second : (a b : Bool) → (a && b) ≡ true → b ≡ true
 second true b e = e
 second false b e = cc
 
-record Giver (P : Iface → Type 0) (row : HostRow) : Type 0 where
-  iface : Iface
-  is_such : P iface
-  gives : has_row (iface_rows iface) row ≡ true
+pub record Giver (P : Iface → Type 0) (row : HostRow) : Type 0 where
+  pub iface : Iface
+  pub is_such : P iface
+  pub gives : has_row (iface_rows iface) row ≡ true
 
 giver : (P : Iface → Type 0) (row : HostRow) (ifaces : List Iface) → AllByRecursion P ifaces
     → has_row (flat_map iface_rows ifaces) row ≡ true → Giver P row
@@ -70,6 +68,13 @@ giver P row (iface ∷ ifaces) all has =
       | inl here ↦ record { iface = iface; is_such = all.0; gives = here }
       | inr later ↦ giver P row ifaces all.1 later
     ]
+
+-- an interface that gives a row which the client wants
+pub wanted_giver : (P : Iface → Type 0) (row : HostRow) (client : Client) → AllByRecursion P client.ifaces → has_row (rows_of client) row ≡ true → Giver P row
+wanted_giver P row client all has =
+    let rows : List HostRow = flat_map iface_rows client.ifaces in
+    giver P row client.ifaces all
+    (second _ _ (sym (has_filter (is_kept rows) rows row) ∙ sym (in_order_has (filter (is_kept rows) rows) row) ∙ has))
 
 -- ---- routes are no addresses
 
@@ -85,6 +90,28 @@ module _ (index : IfIndex) (net : Net) where
   no_router : (iface : IfIndex) (address : Net4) (router : Option Ip4) → has_row (router_routes iface address router) (Addr index net) ≡ false
   no_router iface address None = refl
   no_router iface address (Some router) = no_gateway (is_within router address) iface (Family.V4 (record { ip = router; len = 32 })) (metric_of iface)
+
+  no_classless : (on_link : Bool) (iface : IfIndex) (address : Net4) (route : ClasslessRoute)
+      → has_row (cond on_link (Route iface (Family.V4 route.dest) OnLink (metric_of iface) ∷ [])
+      (Route iface (Family.V4 route.dest) (Gate4 route.via) (metric_of iface) ∷ gateway_routes iface address route.via)) (Addr index net) ≡ false
+  no_classless true iface address route = refl
+  no_classless false iface address route =
+      no_gateway (is_within route.via address) iface (Family.V4 (record { ip = route.via; len = 32 })) (metric_of iface)
+
+  neither : (a b : Bool) → a ≡ false → b ≡ false → (a || b) ≡ false
+  neither true b p q = absurd cc
+  neither false b p q = q
+
+  no_routes : (iface : IfIndex) (address : Net4) (routes : List ClasslessRoute) → has_row (flat_map (classless_rows iface address) routes) (Addr index net) ≡ false
+  no_routes iface address [] = refl
+  no_routes iface address (route ∷ routes) =
+      list_any-append (is_at (row_cmp (Addr index net))) (classless_rows iface address route) (flat_map (classless_rows iface address) routes)
+      ∙ neither _ _ (no_classless (route.via.number == 0) iface address route) (no_routes iface address routes)
+
+  no_lease_routes : (iface : IfIndex) (address : Net4) (routes : Option (List ClasslessRoute)) (routers : Option (List Ip4))
+      → has_row (lease_routes iface address routes routers) (Addr index net) ≡ false
+  no_lease_routes iface address (Some routes) routers = no_routes iface address routes
+  no_lease_routes iface address None routers = no_router iface address (option_and_then preferred routers)
 
   or_none : (a b : Bool) → b ≡ false → (a || b) ≡ true → a ≡ true
   or_none true b none e = refl
@@ -116,6 +143,23 @@ module _ (index : IfIndex) (net : Net) where
           (sym (list_any-append (is_at (row_cmp (Addr index net))) (address_rows iface line.address) (router_routes iface line.address line.router)) ∙ has));
     },
   )
+
+  record OfLease (iface : IfIndex) (held : Option LeaseContent) : Type 0 where
+    lease : LeaseContent
+    is_held : held ≡ Some lease
+    same : Addr index net ≡ Addr iface (Family.V4 lease.net)
+
+  of_lease : (iface : IfIndex) (held : Option LeaseContent) → has_row (lease_rows iface held) (Addr index net) ≡ true → OfLease iface held
+  of_lease iface None has = cc
+  of_lease iface (Some lease) has =
+      let classless : Option (List ClasslessRoute) = option_and_then routes_in (value_in CLASSLESS_ROUTES lease.values) in
+      let routers : Option (List Ip4) = option_and_then addrs_in (value_in ROUTERS lease.values) in
+      record {
+        lease = lease;
+        is_held = refl;
+        same = of_address iface lease.net (or_none _ _ (no_lease_routes iface lease.net classless routers)
+            (sym (list_any-append (is_at (row_cmp (Addr index net))) (address_rows iface lease.net) (lease_routes iface lease.net classless routers)) ∙ has));
+      }
 
   of_local : (iface : IfIndex) (held : Option Ip4) → has_row (local_rows iface held) (Addr index net) ≡ true
       → (addr : Ip4) × (held ≡ Some addr) × (Addr index net ≡ Addr iface (Family.V4 (local_net addr)))
@@ -156,75 +200,68 @@ module _ (index : IfIndex) (net : Net) where
   both_up false true h = cc
   both_up false false h = cc
 
-  iface_basis : (own : List Mac) (start : Bool) (clean : Type 0) (iface : Iface) (past : List Entry) → Keeps (at_site own start iface.managed) clean iface past
-      → has_row (iface_rows iface) (Addr index net) ≡ true → (index ≡ iface.managed.spec.index) × StrongestBasis (at_site own start iface.managed) net past
-  iface_basis own start clean iface past k has =
-      by_place (either _ _ (sym (list_any-append _ (static_rows iface.managed.spec.index (iface.up && not iface.stopped) iface.managed.conf.line)
-      (local_rows iface.managed.spec.index (held_in iface.local.state))) ∙ has))
-    where
-      by_place : (has_row (static_rows iface.managed.spec.index (iface.up && not iface.stopped) iface.managed.conf.line) (Addr index net) ≡ true)
-          ⊎ (has_row (local_rows iface.managed.spec.index (held_in iface.local.state)) (Addr index net) ≡ true)
-          → (index ≡ iface.managed.spec.index) × StrongestBasis (at_site own start iface.managed) net past
-      by_place (inl h) =
-          let g = of_line iface.managed.spec.index (iface.up && not iface.stopped) iface.managed.conf.line h in
-          let on : (iface.up ≡ true) × (iface.stopped ≡ false) = both_up iface.up iface.stopped g.0 in (
-            same_index iface.managed.spec.index (Family.V4 g.1.the_line.address) g.1.same,
-            inl (record {
-              line = g.1.the_line;
-              of_line = g.1.is_line;
-              gives = same_net iface.managed.spec.index (Family.V4 g.1.the_line.address) g.1.same;
-              up = sym (k.carrier on.1) ∙ on.0;
-              running = sym k.stopped ∙ on.1;
-            }),
-          )
-      by_place (inr h) =
-          let g = of_local iface.managed.spec.index (held_in iface.local.state) h in (
-            same_index iface.managed.spec.index (Family.V4 (local_net g.0)) g.2,
-            inr (state_basis (at_site own start iface.managed) clean past g.0 iface.local.state g.1 (same_net iface.managed.spec.index (Family.V4 (local_net g.0)) g.2) k.bears),
-          )
+  -- `Lease` is what is known of an address that a lease gives
+  module _ (Lease : Net → Type 0) (own : List Mac) (start : Bool) (clean : Type 0) (iface : Iface) (past : List Entry) where
+    abbrev site : Site
+    site = at_site own start iface.managed
 
--- ---- the law
+    abbrev here : IfIndex
+    here = iface.managed.spec.index
 
-all_managed : (ifaces : List Iface) (managed : List Managed) → managed_in ifaces ≡ managed → AllByRecursion (λ iface. Contains managed iface.managed) ifaces
-all_managed ifaces managed same =
-    mapped ifaces (subst (λ ms. AllByRecursion (Contains managed) ms) (sym same) (recursion_from_All (Contains managed) managed (All-contains_itself managed)))
-  where
-    mapped : (fs : List Iface) → AllByRecursion (Contains managed) (managed_in fs) → AllByRecursion (λ iface. Contains managed iface.managed) fs
-    mapped [] h = tt
-    mapped (iface ∷ fs) h = (h.0, mapped fs h.1)
+    abbrev line_rows : List HostRow
+    line_rows = static_rows here (iface.up && not iface.stopped) iface.managed.conf.line
 
--- a link-local address was undisturbed from the turn of its first probe on
-pub have_strong_basis : AddressesHave StrongestBasis
-have_strong_basis managed specs opening mets numbered is made index net has =
-    let start : ℕ → Bool = λ number. is_up opening.begin.up number in
-    let life : Life = life_after opening.life mets in
-    let shown : List Entry = shown_of opening mets in
-    let all : KeptAfter start managed life shown =
-    turns_kept start managed numbered mets opening.life (opening_entry opening ∷ []) (opening_kept managed specs opening is) made in
-    let rows : List HostRow = flat_map iface_rows life.client.ifaces in
-    let kept : has_row (filter (is_kept rows) rows) (Addr index net) ≡ true = sym (in_order_has (filter (is_kept rows) rows) (Addr index net)) ∙ has in
-    let g = giver (λ iface. KeptOne start life.client.own life.unsent shown iface × Contains managed iface.managed) (Addr index net) life.client.ifaces
-    (all_both _ _ _ (λ iface k c. (k, c)) life.client.ifaces all.kept (all_managed life.client.ifaces managed all.of_managed))
-    (second _ _ (sym (has_filter (is_kept rows) rows (Addr index net)) ∙ kept)) in
-    let b = iface_basis index net life.client.own (start (number_of g.iface.managed)) _ g.iface shown g.is_such.0 g.gives in
-    record {
-      holder = g.iface.managed;
-      among = g.is_such.1;
-      is_here = b.0;
-      basis = subst (λ own. StrongestBasis (at_site own (start (number_of g.iface.managed)) g.iface.managed) net shown)
-          (own_stays managed mets opening.life made ∙ opened_own managed specs opening is) b.1;
-    }
+    abbrev leased_rows : List HostRow
+    leased_rows = lease_rows here (held_of iface.dhcp4)
 
-weaker : (site : Site) (net : Net) (past : List Entry) → StrongestBasis site net past → Basis site net past
-weaker site net past (inl static) = inl static
-weaker site net past (inr local) = inr (local_weaker site net past local)
+    abbrev own_rows : List HostRow
+    own_rows = local_rows here (held_in iface.local.state)
 
-pub have_basis : AddressesHaveBasis
-have_basis managed specs opening mets numbered is made index net has =
-    let strong = have_strong_basis managed specs opening mets numbered is made index net has in
-    record {
-      holder = strong.holder;
-      among = strong.among;
-      is_here = strong.is_here;
-      basis = weaker (site_of managed specs opening strong.holder) net (shown_of opening mets) strong.basis;
-    }
+    abbrev HasRow : List HostRow → Type 0
+    HasRow rows = has_row rows (Addr index net) ≡ true
+
+    abbrev Found : Type 0
+    Found = (index ≡ here) × (StaticBasis site net past ⊎ (StrongBasis site net past ⊎ Lease net))
+
+    by_line : Keeps site clean iface past → HasRow line_rows → Found
+    by_line k h =
+        let g = of_line here (iface.up && not iface.stopped) iface.managed.conf.line h in
+        let on : (iface.up ≡ true) × (iface.stopped ≡ false) = both_up iface.up iface.stopped g.0 in (
+          same_index here (Family.V4 g.1.the_line.address) g.1.same,
+          inl (record {
+            line = g.1.the_line;
+            of_line = g.1.is_line;
+            gives = same_net here (Family.V4 g.1.the_line.address) g.1.same;
+            up = sym (k.carrier on.1) ∙ on.0;
+            running = sym k.stopped ∙ on.1;
+          }),
+        )
+
+    by_choice : Keeps site clean iface past → HasRow own_rows → Found
+    by_choice k h =
+        let g = of_local here (held_in iface.local.state) h in (
+          same_index here (Family.V4 (local_net g.0)) g.2,
+          inr (inl (state_basis site clean past g.0 iface.local.state g.1 (same_net here (Family.V4 (local_net g.0)) g.2) k.bears)),
+        )
+
+    -- what is known of the lease that is held
+    abbrev pub Leases : Type 0
+    Leases = (lease : LeaseContent) → held_of iface.dhcp4 ≡ Some lease → Lease (Family.V4 lease.net)
+
+    by_lease : Leases → HasRow leased_rows → Found
+    by_lease leases h =
+        let g = of_lease here (held_of iface.dhcp4) h in (
+          same_index here (Family.V4 g.lease.net) g.same,
+          inr (inr (subst Lease (sym (same_net here (Family.V4 g.lease.net) g.same)) (leases g.lease g.is_held))),
+        )
+
+    pub iface_basis : Keeps site clean iface past → Leases → HasRow (iface_rows iface) → Found
+    iface_basis k leases has =
+        elim (either _ _ (sym (list_any-append (is_at (row_cmp (Addr index net))) (line_rows ++ leased_rows) own_rows) ∙ has)) [
+          | inl other ↦
+              elim (either _ _ (sym (list_any-append (is_at (row_cmp (Addr index net))) line_rows leased_rows) ∙ other)) [
+                | inl line ↦ by_line k line
+                | inr leased ↦ by_lease leases leased
+              ]
+          | inr choice ↦ by_choice k choice
+        ]

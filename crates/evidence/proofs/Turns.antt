@@ -1,33 +1,37 @@
 -- Over every list of turns each interface keeps what it carries.
-use Rattle.std.proofs.Common.{◌≡◌, ℕ, Bool, false, List, [], ◌∷◌, nat_eq, refl, sym, ap, subst, ◌∙◌}
-use Rattle.std.specs.Prelude.{map}
+use Rattle.std.proofs.Common.{◌≡◌, ℕ, ◌<◌, ◌^◌, Bool, false, List, [], ◌∷◌, nat_eq, refl, sym, ap, subst, ◌∙◌, arith}
+use Rattle.std.specs.Prelude.{map, max}
 use Rattle.std.specs.List.{AllByRecursion, IsDistinct}
 use Rattle.net_types.specs.declared.address.Mac.{Mac}
 use Rattle.net_types.specs.declared.interface.IfSpec.{IfSpec}
 use Rattle.machine.specs.Moment.{moment_of}
+use Rattle.v4_message.specs.Requests.{AskContent}
+use Rattle.v4_client.specs.Settings.{SettingsContent}
 use Rattle.world.specs.declared.wakes.Event.TheVariants.{Quiet}
 use Rattle.settings.specs.declared.interfaces.Managed.{Managed}
 use Rattle.script_model.specs.IfaceSets.{is_in, is_up}
 use Rattle.client_model.specs.declared.interfaces.Iface.{Iface}
+use Rattle.client_model.specs.ClientSettings.{ask_of, settings_of}
 use Rattle.client_model.specs.IfaceSteps.{IfaceStep, index_of}
-use Rattle.client_model.specs.Interfaces.{opened}
+use Rattle.client_model.specs.Interfaces.{opened, resting}
 use Rattle.client_model.specs.IfaceTurns.{iface_turned}
-use Rattle.client_model.specs.Clients.{Client}
-use Rattle.client_model.proofs.SameInterfaces.{managed_in, opened_same, turned_same, all_turned, all_opened}
+use Rattle.client_model.specs.Clients.{Client, ClientStep}
+use Rattle.client_model.proofs.SameInterfaces.{managed_in, IsSame, opened_is_same, turned_is_same, all_turned, all_opened}
 use Rattle.turn_model.specs.Turns.{Life, turn_moment, input_of, step_of}
 use Rattle.turn_model.specs.Opening.{opening_step}
 use Rattle.turn_model.specs.Lives.{OpeningMet, IsOpening, Met, life_after}
 use Rattle.evidence_words.specs.Entries.{Offer, Entry, offers_on, entry_of, opening_entry, shown_after}
 use Rattle.evidence.specs.Laws.{AreNumbered, AreMade}
+use Rattle.evidence_words.proofs.Carrying.{Relation, IsCarried, at_site, entry}
 use Rattle.evidence_words.proofs.Made.{all_offers, marked_all, Shown, turn_shows, opening_shows}
 use Rattle.evidence_words.proofs.Offers.{Offered, number_of, offered}
-use Rattle.evidence.proofs.Keeping.{Keeps, at_site, entry, opens_keeps, turn_keeps}
+use Rattle.evidence.proofs.Keeping.{Keeps, opens_keeps, turn_keeps}
 
-module _ (start : ℕ → Bool) where
-  -- what an interface carries of what was shown
-  abbrev pub KeptOne : List Mac → (unsent : ℕ) → List Entry → Iface → Type 0
-  KeptOne own unsent shown iface =
-      Keeps (at_site own (start (number_of iface.managed)) iface.managed) (is_in unsent (index_of iface) ≡ false) iface shown
+module _ (Carries : Relation) (carried : IsCarried Carries) (start : ℕ → Bool) where
+  -- what is carried of an interface, whose client has the settings that the configuration gives
+  pub record KeptOne (own : List Mac) (unsent : ℕ) (shown : List Entry) (iface : Iface) : Type 0 where
+    pub settings : iface.dhcp4.settings ≡ settings_of iface.managed
+    pub carries : Carries (at_site own (start (number_of iface.managed)) iface.managed) (is_in unsent (index_of iface) ≡ false) iface shown
 
   abbrev KeptBy : Client → (unsent : ℕ) → List Entry → Type 0
   KeptBy client unsent shown = AllByRecursion (KeptOne client.own unsent shown) client.ifaces
@@ -52,28 +56,42 @@ module _ (start : ℕ → Bool) where
     abbrev step_for : Iface → IfaceStep
     step_for iface = iface_turned life.client.own (input_of life met.wake met.bytes) iface
 
-    abbrev OfferedFor : IfaceStep → Managed → Type 0
-    OfferedFor step m = Offered m.spec (is_in failed (number_of m) ≡ false) step.said (offers_on (number_of m) turn_entry.offers)
+    abbrev OfferedFor : IfaceStep → Managed → AskContent → Type 0
+    OfferedFor step m ask = Offered m.spec ask (is_in failed (number_of m) ≡ false) step.said (offers_on (number_of m) turn_entry.offers)
 
-    one_kept : (iface : Iface) → OfferedFor (step_for iface) (step_for iface).iface.managed → KeptOne life.client.own life.unsent shown iface
+    -- by what its DHCPv4 client says of itself
+    abbrev OfferedBy : IfaceStep → Type 0
+    OfferedBy step = OfferedFor step step.iface.managed step.iface.dhcp4.settings.ask
+
+    one_kept : turn_entry.moment < 10 ^ 15 → (iface : Iface) → OfferedBy (step_for iface) → KeptOne life.client.own life.unsent shown iface
         → KeptOne life.client.own failed (turn_entry ∷ shown) (step_for iface).iface
-    one_kept iface offers kept =
-        subst (λ m. OfferedFor (step_for iface) m
-        → Keeps (at_site life.client.own (start (number_of m)) m) (is_in failed (number_of m) ≡ false) (step_for iface).iface (turn_entry ∷ shown))
-        (sym (turned_same life.client.own (input_of life met.wake met.bytes) iface))
-        (turn_keeps life.client.own (start (number_of iface.managed)) (is_in failed (index_of iface) ≡ false) met.wake.salt
-        turn_entry shown life.unsent iface kept)
-        offers
+    one_kept early iface offers kept =
+        let step : IfaceStep = step_for iface in
+        let same : IsSame iface step.iface = turned_is_same life.client.own (input_of life met.wake met.bytes) iface in
+        let settings : step.iface.dhcp4.settings ≡ settings_of step.iface.managed = same.settings ∙ kept.settings ∙ ap settings_of (sym same.managed) in
+        record {
+          settings = settings;
+          carries = subst (λ m. OfferedFor step m (ask_of m)
+              → Carries (at_site life.client.own (start (number_of m)) m) (is_in failed (number_of m) ≡ false) step.iface (turn_entry ∷ shown))
+              (sym same.managed)
+              (carried.turns (at_site life.client.own (start (number_of iface.managed)) iface.managed) (is_in failed (index_of iface) ≡ false) met.wake.salt
+              turn_entry early shown life.unsent iface refl kept.carries)
+              (subst (λ (a : AskContent). OfferedFor step step.iface.managed a) (ap (λ (set : SettingsContent). set.ask) settings) offers);
+        }
 
-    all_kept : (ifaces : List Iface) → AllByRecursion (λ step. OfferedFor step step.iface.managed) (map step_for ifaces)
+    all_kept : turn_entry.moment < 10 ^ 15 → (ifaces : List Iface) → AllByRecursion OfferedBy (map step_for ifaces)
         → AllByRecursion (KeptOne life.client.own life.unsent shown) ifaces
         → AllByRecursion (KeptOne life.client.own failed (turn_entry ∷ shown)) (map (λ step. step.iface) (map step_for ifaces))
-    all_kept [] offers kept = tt
-    all_kept (iface ∷ ifaces) offers kept = (one_kept iface offers.0 kept.0, all_kept ifaces offers.1 kept.1)
+    all_kept early [] offers kept = tt
+    all_kept early (iface ∷ ifaces) offers kept = (one_kept early iface offers.0 kept.0, all_kept early ifaces offers.1 kept.1)
 
   pub record KeptAfter (managed : List Managed) (life : Life) (shown : List Entry) : Type 0 where
     pub of_managed : managed_in life.client.ifaces ≡ managed
+    pub early : life.now < 10 ^ 15
     pub kept : Kept life shown
+
+  still_early : (life : Life) (at now : ℕ) → life.now < 10 ^ 15 → now ≡ max life.now (moment_of at) → now < 10 ^ 15
+  still_early life at now early e = omega arith
 
   turned_kept : (managed : List Managed) → AreNumbered managed → (life : Life) (met : Met) (shown : List Entry) → KeptAfter managed life shown
       → Shown (step_of life met.wake met.bytes) (turn_moment life met.wake) met.calls met.life → KeptAfter managed met.life (entry_of met ∷ shown)
@@ -82,10 +100,11 @@ module _ (start : ℕ → Bool) where
       all_turned life.client.own (input_of life met.wake met.bytes) life.client.ifaces ∙ k.of_managed in
       record {
         of_managed = ap (λ (client : Client). managed_in client.ifaces) made.client ∙ same;
+        early = still_early life met.wake.at met.life.now k.early made.now;
         kept = kept_same met.life.client (step_of life met.wake met.bytes).client met.life.unsent (failed life met made.taken shown)
             (entry_of met) (turn_entry life met made.taken shown) shown made.client made.unsent
             (λ i. entry (made.now i) met.wake.event met.bytes (made.offers i))
-            (all_kept life met made.taken shown life.client.ifaces
+            (all_kept life met made.taken shown (still_early life met.wake.at (turn_moment life met.wake) k.early refl) life.client.ifaces
             (offered (map (step_for life met made.taken shown) life.client.ifaces) made.taken 0 made.answered (subst (λ ms. IsDistinct nat_eq (map number_of ms)) (sym same) numbered))
             k.kept);
       }
@@ -105,26 +124,73 @@ own_stays managed (met ∷ mets) life made =
 
 -- ---- the opening
 
-each_opened : (own : List Mac) (up at unsent moment : ℕ) (offers : List Offer) (managed : List Managed)
-    → AllByRecursion (KeptOne (λ index. is_up up index) own unsent (entry moment Quiet [] offers ∷ [])) (map (λ (step : IfaceStep). step.iface) (map (opened up at) managed))
-each_opened own up at unsent moment offers [] = tt
-each_opened own up at unsent moment offers (m ∷ managed) = (
-  subst (λ (n : Managed). Keeps (at_site own (is_up up (number_of n)) n) (is_in unsent (index_of (opened up at m).iface) ≡ false) (opened up at m).iface (entry moment Quiet [] offers ∷ []))
-      (sym (opened_same up at m)) (opens_keeps own (is_in unsent (index_of (opened up at m).iface) ≡ false) at moment offers m (is_up up (number_of m))),
-  each_opened own up at unsent moment offers managed,
-)
+module _ (Carries : Relation) (carried : IsCarried Carries) (own : List Mac) (up at salt unsent : ℕ) (early : at < 10 ^ 15) (offers : List Offer) where
+  abbrev started : ℕ → Bool
+  started index = is_up up index
 
-pub opening_kept : (managed : List Managed) (specs : List IfSpec) (opening : OpeningMet) → IsOpening managed specs opening
-    → KeptAfter (λ index. is_up opening.begin.up index) managed opening.life (opening_entry opening ∷ [])
-opening_kept managed specs opening is =
+  abbrev opening_shown : Entry
+  opening_shown = entry at Quiet [] offers
+
+  abbrev OpenedFor : IfaceStep → Managed → AskContent → Type 0
+  OpenedFor step m ask = Offered m.spec ask (is_in unsent (number_of m) ≡ false) step.said (offers_on (number_of m) offers)
+
+  abbrev OpenedBy : IfaceStep → Type 0
+  OpenedBy step = OpenedFor step step.iface.managed step.iface.dhcp4.settings.ask
+
+  one_opened : (m : Managed) → OpenedBy (opened up at salt m) → KeptOne Carries carried started own unsent (opening_shown ∷ []) (opened up at salt m).iface
+  one_opened m shows =
+      let step : IfaceStep = opened up at salt m in
+      let same : IsSame (resting m) step.iface = opened_is_same up at salt m in
+      let settings : step.iface.dhcp4.settings ≡ settings_of step.iface.managed = same.settings ∙ ap settings_of (sym same.managed) in
+      record {
+        settings = settings;
+        carries = subst (λ n. OpenedFor step n (ask_of n)
+            → Carries (at_site own (started (number_of n)) n) (is_in unsent (number_of n) ≡ false) step.iface (opening_shown ∷ []))
+            (sym same.managed)
+            (carried.opens own (is_in unsent (number_of m) ≡ false) at salt early offers m (started (number_of m)))
+            (subst (λ (a : AskContent). OpenedFor step step.iface.managed a) (ap (λ (set : SettingsContent). set.ask) settings) shows);
+      }
+
+  each_opened : (managed : List Managed) → AllByRecursion OpenedBy (map (opened up at salt) managed)
+      → AllByRecursion (KeptOne Carries carried started own unsent (opening_shown ∷ [])) (map (λ (step : IfaceStep). step.iface) (map (opened up at salt) managed))
+  each_opened [] shows = tt
+  each_opened (m ∷ managed) shows = (one_opened m shows.0, each_opened managed shows.1)
+
+first_early : (at now : ℕ) → now ≡ moment_of at → now < 10 ^ 15
+first_early at now e = omega arith
+
+pub opening_kept : (Carries : Relation) (carried : IsCarried Carries) (managed : List Managed) → AreNumbered managed → (specs : List IfSpec) (opening : OpeningMet)
+    → IsOpening managed specs opening
+    → KeptAfter Carries carried (λ index. is_up opening.begin.up index) managed opening.life (opening_entry opening ∷ [])
+opening_kept Carries carried managed numbered specs opening is =
     let made = opening_shows managed specs opening.begin opening.calls opening.life is in
+    let step : ClientStep = opening_step managed specs opening.begin in
+    let at : ℕ = moment_of opening.begin.at in
+    let unsent : ℕ = marked_all step.sends made.taken 0 in
+    let same : managed_in step.client.ifaces ≡ managed = all_opened opening.begin.up at opening.begin.salt managed in
     record {
-      of_managed = ap (λ (client : Client). managed_in client.ifaces) made.client ∙ all_opened opening.begin.up (moment_of opening.begin.at) managed;
-      kept = kept_same (λ index. is_up opening.begin.up index) opening.life.client (opening_step managed specs opening.begin).client opening.life.unsent opening.life.unsent
-          (opening_entry opening) (opening_entry opening) [] made.client refl refl
-          (each_opened (opening_step managed specs opening.begin).client.own opening.begin.up (moment_of opening.begin.at) opening.life.unsent _ _ managed);
+      of_managed = ap (λ (client : Client). managed_in client.ifaces) made.client ∙ same;
+      early = first_early opening.begin.at opening.life.now made.now;
+      kept = kept_same Carries carried (λ index. is_up opening.begin.up index) opening.life.client step.client opening.life.unsent unsent
+          (opening_entry opening) (entry at Quiet [] (all_offers step.sends made.taken)) [] made.client made.unsent
+          (λ i. entry (made.now i) Quiet [] (made.offers i))
+          (each_opened Carries carried step.client.own opening.begin.up at opening.begin.salt unsent (first_early opening.begin.at at refl)
+          (all_offers step.sends made.taken) managed
+          (offered (map (opened opening.begin.up at opening.begin.salt) managed) made.taken 0 made.answered
+          (subst (λ ms. IsDistinct nat_eq (map number_of ms)) (sym same) numbered)));
     }
 
 pub opened_own : (managed : List Managed) (specs : List IfSpec) (opening : OpeningMet) → IsOpening managed specs opening
     → opening.life.client.own ≡ map (λ spec. spec.mac) specs
 opened_own managed specs opening is = ap (λ (client : Client). client.own) (opening_shows managed specs opening.begin opening.calls opening.life is).client
+
+-- ---- what an interface carries of static lines and of link-local addresses
+
+abbrev pub KeepsRelation : Relation
+KeepsRelation site clean f past = Keeps site clean f past
+
+pub keeps_carried : IsCarried KeepsRelation
+keeps_carried = record {
+  opens = λ own clean at salt early offers m up shows. opens_keeps own clean at salt early offers m up;
+  turns = λ site clean salt e early past unsent f same k shows. turn_keeps site clean salt e early past unsent f k shows;
+}

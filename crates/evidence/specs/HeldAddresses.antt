@@ -1,7 +1,9 @@
 -- That the addresses which the host holds have their basis, in a life over devices that tell what they hold and which of
 -- their calls fail.
 use Rattle.std.specs.Prelude.{◌≡◌, ◌<◌, true, List, [], ◌∷◌, ◌++◌, length}
+use Rattle.std.specs.List.{AllByRecursion}
 use Rattle.net_types.specs.declared.address.Net.{Net}
+use Rattle.net_types.specs.Marks.{AreBytes}
 use Rattle.net_types.specs.declared.interface.IfSpec.{IfSpec}
 use Rattle.net_types.specs.declared.interface.IfIndex.{IfIndex}
 use Rattle.world.specs.declared.rows.HostRow.{HostRow}
@@ -9,6 +11,7 @@ use Rattle.world.specs.declared.rows.HostRow.TheVariants.{Addr}
 use Rattle.world.specs.LinkCalls.{Given}
 use Rattle.world.specs.RowOrder.{has_row}
 use Rattle.settings.specs.declared.interfaces.Managed.{Managed}
+use Rattle.settings.specs.Fitting.{AreManaged}
 use Rattle.settings.specs.ManagedRows.{is_managed}
 use Rattle.host_model.specs.HostTable.{InRowOrder, NoneFails, unknown_table}
 use Rattle.client_model.specs.Clients.{rows_of}
@@ -31,14 +34,15 @@ RestOnEvidence managed specs opening mets rows = (index : IfIndex) (net : Net) �
 
 -- so after an opening in which no host call failed
 abbrev pub OpeningRests : Type 0
-OpeningRests = (managed : List Managed) (specs : List IfSpec) (world : World) → AreNumbered managed → InRowOrder world.host.told.rows
+OpeningRests = (managed : List Managed) (specs : List IfSpec) (world : World) → AreManaged managed → AreNumbered managed → InRowOrder world.host.told.rows
     → let after = running_opened managed specs world in
     NoneFails managed world.host.failing (rows_of after.life.client) (unknown_table world.host.told)
     → RestOnEvidence managed specs (opening_of managed specs world) [] after.world.host.told.rows
 
 -- and after each turn in which none failed
 abbrev pub TurnsRest : Type 0
-TurnsRest = (managed : List Managed) (specs : List IfSpec) (world : World) (earlier : List Given) (given : Given) → AreNumbered managed → InRowOrder world.host.told.rows
+TurnsRest = (managed : List Managed) (specs : List IfSpec) (world : World) (earlier : List Given) (given : Given) → AreManaged managed → AreNumbered managed
+    → AllByRecursion (λ (g : Given). AreBytes g.bytes) (earlier ++ given ∷ []) → InRowOrder world.host.told.rows
     → let before = life_run managed specs world earlier in
     let after = running_turned managed before given in
     NoneFails managed world.host.failing (rows_of after.life.client) (table_of before)

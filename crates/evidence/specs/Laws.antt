@@ -1,34 +1,42 @@
 -- That the addresses which the client wants have their basis, and that this says something.
-use Rattle.std.specs.Prelude.{◌≡◌, ℕ, ◌<◌, true, List, [], ◌∷◌, map, nat_eq, ◌⊎◌}
-use Rattle.std.specs.List.{Contains, IsDistinct}
-use Rattle.net_types.specs.declared.address.Ip4.{Ip4}
+use Rattle.std.specs.Prelude.{◌≡◌, ℕ, true, false, List, [], ◌∷◌, map, nat_eq, ◌⊎◌}
+use Rattle.std.specs.List.{AllByRecursion, Contains, IsDistinct}
 use Rattle.net_types.specs.declared.address.Net.{Net}
-use Rattle.net_types.specs.declared.address.Net.TheVariants.{V4}
 use Rattle.net_types.specs.declared.interface.IfSpec.{IfSpec}
 use Rattle.net_types.specs.declared.interface.IfIndex.{IfIndex}
+use Rattle.net_types.specs.Marks.{AreBytes}
 use Rattle.world.specs.declared.rows.HostRow.TheVariants.{Addr}
 use Rattle.world.specs.RowOrder.{has_row}
 use Rattle.settings.specs.declared.interfaces.Managed.{Managed}
+use Rattle.settings.specs.Fitting.{AreManaged}
 use Rattle.script_model.specs.IfaceSets.{is_up}
 use Rattle.script_model.specs.Scripts.{CountsFrom}
+use Rattle.client_model.specs.ClientSettings.{runs_dhcp4}
 use Rattle.client_model.specs.Clients.{rows_of}
-use Rattle.client_model.specs.WantedRows.{local_net}
 use Rattle.device_calls.specs.Programs.{Makes}
 use Rattle.turn_model.specs.Turns.{Life, turn_asks}
 use Rattle.turn_model.specs.Lives.{OpeningMet, IsOpening, Met, life_after}
 use Rattle.evidence_words.specs.Entries.{Entry, shown_of}
 use Rattle.evidence_words.specs.Inputs.{Site}
-use Rattle.evidence_words.specs.Probed.{probes_taken}
 use Rattle.evidence.specs.StaticBasis.{StaticBasis}
 use Rattle.local_evidence.specs.LinkLocalBasis.{LinkLocalBasis, StrongBasis}
+use Rattle.lease_evidence.specs.LeaseBasis.{LeaseBasis, now_in}
 
--- Why an address may be held, in what was shown.
+-- a lease gives the address, now
+abbrev pub LeasedBasis : Site → Net → List Entry → Type 0
+LeasedBasis site net past = LeaseBasis site net (now_in past) past
+
+-- Why an address may be held, in what was shown: by a static line, as a link-local address, or for a lease.
 abbrev pub Basis : Site → Net → List Entry → Type 0
-Basis site net past = StaticBasis site net past ⊎ LinkLocalBasis site net past
+Basis site net past = StaticBasis site net past ⊎ (LinkLocalBasis site net past ⊎ LeasedBasis site net past)
 
 -- The same, with the stronger fact on link-local addresses.
 abbrev pub StrongestBasis : Site → Net → List Entry → Type 0
-StrongestBasis site net past = StaticBasis site net past ⊎ StrongBasis site net past
+StrongestBasis site net past = StaticBasis site net past ⊎ (StrongBasis site net past ⊎ LeasedBasis site net past)
+
+-- where DHCPv4 doesn't run there is no lease
+abbrev pub BasisWithoutDhcp4 : Site → Net → List Entry → Type 0
+BasisWithoutDhcp4 site net past = runs_dhcp4 site.managed.conf ≡ false → StaticBasis site net past ⊎ LinkLocalBasis site net past
 
 -- `specs` are all interfaces of the host
 abbrev pub site_of : List Managed → List IfSpec → OpeningMet → Managed → Site
@@ -39,7 +47,8 @@ site_of managed specs opening m = record {
 }
 
 -- The address is on a managed interface and has a basis of this kind there.
-pub record HasBasisOf (Kind : Site → Net → List Entry → Type 0) (managed : List Managed) (specs : List IfSpec) (opening : OpeningMet) (mets : List Met) (index : IfIndex) (net : Net) : Type 0 where
+pub record HasBasisOf (Kind : Site → Net → List Entry → Type 0) (managed : List Managed) (specs : List IfSpec)
+    (opening : OpeningMet) (mets : List Met) (index : IfIndex) (net : Net) : Type 0 where
   pub holder : Managed
   pub among : Contains managed holder
   pub is_here : index ≡ holder.spec.index
@@ -57,15 +66,30 @@ abbrev pub AreMade : List Managed → Life → List Met → Type 0
 AreMade managed from [] = Unit {0}
 AreMade managed from (met ∷ mets) = Makes (turn_asks managed from met.wake met.bytes) met.calls met.life × AreMade managed met.life mets
 
+-- the frames that came in are octets
+abbrev pub AreOctets : List Met → Type 0
+AreOctets mets = AllByRecursion (λ met. AreBytes met.bytes) mets
+
 -- Each address that the client wants after an opening and some turns has a basis of this kind in them.
-abbrev pub AddressesHave : (Site → Net → List Entry → Type 0) → Type 0
-AddressesHave Kind = (managed : List Managed) (specs : List IfSpec) (opening : OpeningMet) (mets : List Met)
-    → AreNumbered managed → IsOpening managed specs opening → AreMade managed opening.life mets → (index : IfIndex) (net : Net)
+abbrev pub AddressesHave : (Site → Net → List Entry → Type 0) → List Managed → List IfSpec → OpeningMet → List Met → Type 0
+AddressesHave Kind managed specs opening mets = (index : IfIndex) (net : Net)
     → has_row (rows_of (life_after opening.life mets).client) (Addr index net) ≡ true
     → HasBasisOf Kind managed specs opening mets index net
 
+-- a life of some turns
+pub record IsLife (managed : List Managed) (specs : List IfSpec) (opening : OpeningMet) (mets : List Met) : Type 0 where
+  pub numbered : AreNumbered managed
+  pub opens : IsOpening managed specs opening
+  pub turns : AreMade managed opening.life mets
+
 abbrev pub AddressesHaveBasis : Type 0
-AddressesHaveBasis = AddressesHave Basis
+AddressesHaveBasis = (managed : List Managed) (specs : List IfSpec) (opening : OpeningMet) (mets : List Met)
+    → IsLife managed specs opening mets → AreManaged managed → AreOctets mets → AddressesHave Basis managed specs opening mets
+
+-- This needs nothing of the settings, nor of the frames that came in.
+abbrev pub OthersHaveBasis : Type 0
+OthersHaveBasis = (managed : List Managed) (specs : List IfSpec) (opening : OpeningMet) (mets : List Met)
+    → IsLife managed specs opening mets → AddressesHave BasisWithoutDhcp4 managed specs opening mets
 
 -- Interfaces that count from a number on have unlike numbers.
 abbrev pub CountedAreNumbered : Type 0

@@ -1,5 +1,5 @@
 -- An example: an interface without static line chooses 169.254.1.1 by itself, and another host uses the address later.
-use Rattle.std.specs.Prelude.{ℕ, Bool, true, false, List, [], ◌∷◌, None}
+use Rattle.std.specs.Prelude.{ℕ, true, false, List, [], ◌∷◌, None}
 use Rattle.net_types.specs.declared.address.Ip4.{Ip4}
 use Rattle.net_types.specs.declared.address.Mac.{Mac}
 use Rattle.net_types.specs.declared.address.Net.{Net}
@@ -39,7 +39,17 @@ interface = record {
     name = record { bytes = 101 ∷ 116 ∷ 104 ∷ 48 ∷ 0 ∷ 0 ∷ 0 ∷ 0 ∷ 0 ∷ 0 ∷ 0 ∷ 0 ∷ 0 ∷ 0 ∷ 0 ∷ []; len = 4 };
     mac = client_mac;
   };
-  conf = record { nodhcp = true; noipv4ll = false; line = None };
+  conf = record {
+    nodhcp = true;
+    noipv4ll = false;
+    nodelay = false;
+    noarp = false;
+    broadcast = false;
+    release = false;
+    timeout = 30;
+    reboot = 5;
+    line = None;
+  };
 }
 
 abbrev given : ℕ → Event → List ℕ → Given

@@ -5,14 +5,16 @@ ghost use Rattle.client_model.specs.Clients.{rows_of};
 ghost use Rattle.turn_model.specs.Lives.{IsOpening, life_after};
 ghost use Rattle.evidence_words.specs.Entries.{shown_of};
 ghost use Rattle.evidence.specs.HeldAddresses.{ForetoldAreMet, OpeningRests, TurnsRest};
-ghost use Rattle.evidence.specs.Laws.{AddressesHaveBasis, AreMade, CountedAreNumbered, site_of};
+ghost use Rattle.evidence.specs.Laws.{AddressesHaveBasis, AreMade, CountedAreNumbered, OthersHaveBasis, site_of};
 ghost use Rattle.local_evidence.specs.LinkLocalBasis.{LinkLocalBasis};
 ghost use Rattle.evidence.specs.SevenTurns.{chosen_net, interface, opens, seven_shown, seven_turns};
 
 /// Law: over every list of turns and outcomes, each address that the client wants has its basis in what the life showed
-/// of its interface: a static line, or a choice that passed its probes (RFC 3927, sections 2.2.1 and 2.5).
+/// of its interface: a static line, a choice that passed its probes (RFC 3927, sections 2.2.1 and 2.5), or a lease that a
+/// server granted (RFC 2131, section 4.4). Where DHCPv4 doesn't run it is one of the first two.
 pub fn addresses_have_a_basis()
-    ensures { AddressesHaveBasis }
+    ensures each { AddressesHaveBasis }
+    ensures without_dhcp4 { OthersHaveBasis }
 {}
 
 /// Law: over devices that tell what they hold and which of their calls fail, after an opening and after every turn in which

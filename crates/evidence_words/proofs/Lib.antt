@@ -1,3 +1,4 @@
+pub mod Carrying
 pub mod Made
 pub mod Offers
 pub mod Probing

@@ -12,7 +12,7 @@ use Rattle.host_model.specs.declared.changes.HostChange.{HostChange}
 use Rattle.host_model.specs.HostTurn.{changes}
 use Rattle.client_model.specs.Clients.{ClientStep, Sending, rows_of}
 use Rattle.device_calls.specs.Calls.{Call}
-use Rattle.device_calls.specs.Programs.{Asks, Done, Then, after, Answers, calls_with, result_with, Makes}
+use Rattle.device_calls.specs.Programs.{Asks, Done, after, Answers, calls_with, result_with, Makes}
 use Rattle.device_calls.proofs.Programs.{MakesBoth, makes_both}
 use Rattle.turn_model.specs.Turns.{Life, marked, offering, known_with, changing, rows_on, hosting_listed, hosting, acting, step_of, turn_moment, stop_after, turn_asks}
 use Rattle.turn_model.specs.Opening.{removing, clearing_listed, clearing, FileRead, reading, file_names, opening_step, opening_asks}

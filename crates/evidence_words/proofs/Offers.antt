@@ -8,6 +8,7 @@ use Rattle.std.specs.Int.{bit_at}
 use Rattle.std.specs.List.{AllByRecursion, IsDistinct}
 use Rattle.net_types.proofs.AllLaws.{all_both, all_join, all_mapped}
 use Rattle.net_types.specs.declared.interface.IfSpec.{IfSpec}
+use Rattle.v4_message.specs.Requests.{AskContent}
 use Rattle.settings.specs.declared.interfaces.Managed.{Managed}
 use Rattle.script_model.specs.IfaceSets.{is_in}
 use Rattle.client_model.specs.declared.steps.Said.{Said}
@@ -44,12 +45,12 @@ stays_marked index (s ∷ sends) (false ∷ taken) set h = stays_marked index se
 
 -- ---- what was said and what was offered
 
--- Each frame spells what was said, and it was taken where no send failed.
-abbrev pub Offered : IfSpec → (clean : Type 0) → List Said → List Offer → Type 0
-Offered spec clean [] [] = Unit {0}
-Offered spec clean [] (o ∷ offers) = ⊥
-Offered spec clean (say ∷ said) [] = ⊥
-Offered spec clean (say ∷ said) (o ∷ offers) = (o.bytes ≡ (spelled spec say).bytes) × (clean → o.taken ≡ true) × Offered spec clean said offers
+-- Each frame spells what was said, and it was taken where no send failed. `ask` is what the DHCPv4 client says of itself.
+abbrev pub Offered : IfSpec → (ask : AskContent) → (clean : Type 0) → List Said → List Offer → Type 0
+Offered spec ask clean [] [] = Unit {0}
+Offered spec ask clean [] (o ∷ offers) = ⊥
+Offered spec ask clean (say ∷ said) [] = ⊥
+Offered spec ask clean (say ∷ said) (o ∷ offers) = (o.bytes ≡ (spelled spec ask say).bytes) × (clean → o.taken ≡ true) × Offered spec ask clean said offers
 
 -- the offers of some frames on an interface
 abbrev found : ℕ → List Sending → List Bool → List Offer
@@ -68,12 +69,12 @@ none index (s ∷ sends) (ok ∷ taken) h = rw h.0 (none index sends taken h.1)
 same_number : (a b : ℕ) → (a == b) ≡ true → a ≡ b
 same_number a b h = grind (arith, nat_tests)
 
-one_more : (spec : IfSpec) (say : Said) (s : Sending) → s.bytes ≡ (spelled spec say).bytes → (s.iface.number == spec.index.number) ≡ true
+one_more : (spec : IfSpec) (ask : AskContent) (say : Said) (s : Sending) → s.bytes ≡ (spelled spec ask say).bytes → (s.iface.number == spec.index.number) ≡ true
     → (sends : List Sending) (said : List Said) (ok : Bool) (taken : List Bool) (set : ℕ)
-    → Offered spec (Clean spec.index.number sends taken (marked set s.iface.number ok)) said (found spec.index.number sends taken)
-    → Offered spec (Clean spec.index.number (s ∷ sends) (ok ∷ taken) set) (say ∷ said) (found spec.index.number (s ∷ sends) (ok ∷ taken))
-one_more spec say s bytes mine sends said true taken set h = rw mine (bytes, (λ _. refl), h)
-one_more spec say s bytes mine sends said false taken set h = rw mine (bytes, (λ k. absurd (failed k)), h)
+    → Offered spec ask (Clean spec.index.number sends taken (marked set s.iface.number ok)) said (found spec.index.number sends taken)
+    → Offered spec ask (Clean spec.index.number (s ∷ sends) (ok ∷ taken) set) (say ∷ said) (found spec.index.number (s ∷ sends) (ok ∷ taken))
+one_more spec ask say s bytes mine sends said true taken set h = rw mine (bytes, (λ _. refl), h)
+one_more spec ask say s bytes mine sends said false taken set h = rw mine (bytes, (λ k. absurd (failed k)), h)
   where
     failed : is_in (marked_all sends taken (with_iface s.iface.number set)) spec.index.number ≡ false → ⊥
     failed k =
@@ -86,20 +87,20 @@ one_more spec say s bytes mine sends said false taken set h = rw mine (bytes, (�
 equal_number : (n : ℕ) → (n == n) ≡ true
 equal_number n = grind (arith, nat_tests)
 
-mine : (spec : IfSpec) (say : Said) → ((spelled spec say).iface.number == spec.index.number) ≡ true
-mine spec say = equal_number spec.index.number
+mine : (spec : IfSpec) (ask : AskContent) (say : Said) → ((spelled spec ask say).iface.number == spec.index.number) ≡ true
+mine spec ask say = equal_number spec.index.number
 
 -- the frames of the interface in front of those of others
-offered-own : (spec : IfSpec) (said : List Said) (sends : List Sending) (taken : List Bool) (set : ℕ)
-    → length taken ≡ length (map (spelled spec) said ++ sends) → AllByRecursion (λ s. (s.iface.number == spec.index.number) ≡ false) sends
-    → Offered spec (Clean spec.index.number (map (spelled spec) said ++ sends) taken set) said
-    (found spec.index.number (map (spelled spec) said ++ sends) taken)
-offered-own spec [] sends taken set len apart =
-    subst (λ offers. Offered spec (Clean spec.index.number sends taken set) [] offers) (sym (none spec.index.number sends taken apart)) tt
-offered-own spec (say ∷ said) sends [] set len apart = absurd (omega arith)
-offered-own spec (say ∷ said) sends (ok ∷ taken) set len apart =
-    one_more spec say (spelled spec say) refl (mine spec say) _ said ok taken set
-    (offered-own spec said sends taken (marked set spec.index.number ok) (omega arith) apart)
+offered-own : (spec : IfSpec) (ask : AskContent) (said : List Said) (sends : List Sending) (taken : List Bool) (set : ℕ)
+    → length taken ≡ length (map (spelled spec ask) said ++ sends) → AllByRecursion (λ s. (s.iface.number == spec.index.number) ≡ false) sends
+    → Offered spec ask (Clean spec.index.number (map (spelled spec ask) said ++ sends) taken set) said
+    (found spec.index.number (map (spelled spec ask) said ++ sends) taken)
+offered-own spec ask [] sends taken set len apart =
+    subst (λ offers. Offered spec ask (Clean spec.index.number sends taken set) [] offers) (sym (none spec.index.number sends taken apart)) tt
+offered-own spec ask (say ∷ said) sends [] set len apart = absurd (omega arith)
+offered-own spec ask (say ∷ said) sends (ok ∷ taken) set len apart =
+    one_more spec ask say (spelled spec ask say) refl (mine spec ask say) _ said ok taken set
+    (offered-own spec ask said sends taken (marked set spec.index.number ok) (omega arith) apart)
 
 -- the outcomes past those of what was said
 abbrev beyond : List Said → List Bool → List Bool
@@ -107,11 +108,11 @@ beyond [] taken = taken
 beyond (say ∷ said) [] = []
 beyond (say ∷ said) (ok ∷ taken) = beyond said taken
 
-beyond-length : (spec : IfSpec) (said : List Said) (sends : List Sending) (taken : List Bool)
-    → length taken ≡ length (map (spelled spec) said ++ sends) → length (beyond said taken) ≡ length sends
-beyond-length spec [] sends taken len = len
-beyond-length spec (say ∷ said) sends [] len = absurd (omega arith)
-beyond-length spec (say ∷ said) sends (ok ∷ taken) len = beyond-length spec said sends taken (omega arith)
+beyond-length : (spec : IfSpec) (ask : AskContent) (said : List Said) (sends : List Sending) (taken : List Bool)
+    → length taken ≡ length (map (spelled spec ask) said ++ sends) → length (beyond said taken) ≡ length sends
+beyond-length spec ask [] sends taken len = len
+beyond-length spec ask (say ∷ said) sends [] len = absurd (omega arith)
+beyond-length spec ask (say ∷ said) sends (ok ∷ taken) len = beyond-length spec ask said sends taken (omega arith)
 
 -- the set past them
 abbrev set_after : IfSpec → List Said → List Bool → ℕ → ℕ
@@ -124,48 +125,51 @@ record Passes (index : ℕ) (offers : List Offer) (rest : List Offer) (now rest_
   same : offers ≡ rest
   clean : now → rest_clean
 
-not_mine : (spec : IfSpec) (index : ℕ) (say : Said) → (spec.index.number == index) ≡ false → ((spelled spec say).iface.number == index) ≡ false
-not_mine spec index say h = h
+not_mine : (spec : IfSpec) (ask : AskContent) (index : ℕ) (say : Said) → (spec.index.number == index) ≡ false → ((spelled spec ask say).iface.number == index) ≡ false
+not_mine spec ask index say h = h
 
 passed : (s : Sending) (index : ℕ) → (s.iface.number == index) ≡ false → (sends : List Sending) (ok : Bool) (taken : List Bool)
     → found index (s ∷ sends) (ok ∷ taken) ≡ found index sends taken
 passed s index other sends ok taken = rw other refl
 
-passes : (spec : IfSpec) (index : ℕ) → (spec.index.number == index) ≡ false → (said : List Said) (sends : List Sending) (taken : List Bool) (set : ℕ)
-    → length taken ≡ length (map (spelled spec) said ++ sends)
-    → Passes index (found index (map (spelled spec) said ++ sends) taken) (found index sends (beyond said taken))
-    (Clean index (map (spelled spec) said ++ sends) taken set) (Clean index sends (beyond said taken) (set_after spec said taken set))
-passes spec index other [] sends taken set len = record { same = refl; clean = λ k. k }
-passes spec index other (say ∷ said) sends [] set len = absurd (omega arith)
-passes spec index other (say ∷ said) sends (ok ∷ taken) set len =
-    let more = passes spec index other said sends taken (marked set spec.index.number ok) (omega arith) in
+passes : (spec : IfSpec) (ask : AskContent) (index : ℕ) → (spec.index.number == index) ≡ false → (said : List Said) (sends : List Sending) (taken : List Bool) (set : ℕ)
+    → length taken ≡ length (map (spelled spec ask) said ++ sends)
+    → Passes index (found index (map (spelled spec ask) said ++ sends) taken) (found index sends (beyond said taken))
+    (Clean index (map (spelled spec ask) said ++ sends) taken set) (Clean index sends (beyond said taken) (set_after spec said taken set))
+passes spec ask index other [] sends taken set len = record { same = refl; clean = λ k. k }
+passes spec ask index other (say ∷ said) sends [] set len = absurd (omega arith)
+passes spec ask index other (say ∷ said) sends (ok ∷ taken) set len =
+    let more = passes spec ask index other said sends taken (marked set spec.index.number ok) (omega arith) in
     record {
-      same = passed (spelled spec say) index (not_mine spec index say other) (map (spelled spec) said ++ sends) ok taken ∙ more.same;
+      same = passed (spelled spec ask say) index (not_mine spec ask index say other) (map (spelled spec ask) said ++ sends) ok taken ∙ more.same;
       clean = more.clean;
     }
 
-offered-clean : (spec : IfSpec) (clean other : Type 0) → (other → clean) → (said : List Said) (offers : List Offer)
-    → Offered spec clean said offers → Offered spec other said offers
-offered-clean spec clean other f [] [] h = h
-offered-clean spec clean other f [] (o ∷ offers) h = h
-offered-clean spec clean other f (say ∷ said) [] h = h
-offered-clean spec clean other f (say ∷ said) (o ∷ offers) h = (h.0, (λ k. h.1 (f k)), offered-clean spec clean other f said offers h.2)
+offered-clean : (spec : IfSpec) (ask : AskContent) (clean other : Type 0) → (other → clean) → (said : List Said) (offers : List Offer)
+    → Offered spec ask clean said offers → Offered spec ask other said offers
+offered-clean spec ask clean other f [] [] h = h
+offered-clean spec ask clean other f [] (o ∷ offers) h = h
+offered-clean spec ask clean other f (say ∷ said) [] h = h
+offered-clean spec ask clean other f (say ∷ said) (o ∷ offers) h = (h.0, (λ k. h.1 (f k)), offered-clean spec ask clean other f said offers h.2)
 
 -- ---- all interfaces of a turn
 
 abbrev spec_of : IfaceStep → IfSpec
 spec_of step = step.iface.managed.spec
 
-said_elsewhere : (spec : IfSpec) (index : ℕ) (said : List Said) → (spec.index.number == index) ≡ false
-    → AllByRecursion (λ s. (s.iface.number == index) ≡ false) (map (spelled spec) said)
-said_elsewhere spec index [] h = tt
-said_elsewhere spec index (say ∷ said) h = (not_mine spec index say h, said_elsewhere spec index said h)
+abbrev ask_in : IfaceStep → AskContent
+ask_in step = step.iface.dhcp4.settings.ask
+
+said_elsewhere : (spec : IfSpec) (ask : AskContent) (index : ℕ) (said : List Said) → (spec.index.number == index) ≡ false
+    → AllByRecursion (λ s. (s.iface.number == index) ≡ false) (map (spelled spec ask) said)
+said_elsewhere spec ask index [] h = tt
+said_elsewhere spec ask index (say ∷ said) h = (not_mine spec ask index say h, said_elsewhere spec ask index said h)
 
 elsewhere : (index : ℕ) (steps : List IfaceStep) → AllByRecursion (λ step. (index == (spec_of step).index.number) ≡ false) steps
     → AllByRecursion (λ s. (s.iface.number == index) ≡ false) (flat_map sends_of steps)
 elsewhere index [] h = tt
 elsewhere index (step ∷ steps) h =
-    all_join _ (sends_of step) (flat_map sends_of steps) (said_elsewhere (spec_of step) index step.said (turn_round _ _ h.0)) (elsewhere index steps h.1)
+    all_join _ (sends_of step) (flat_map sends_of steps) (said_elsewhere (spec_of step) (ask_in step) index step.said (turn_round _ _ h.0)) (elsewhere index steps h.1)
   where
     turn_round : (a b : ℕ) → (a == b) ≡ false → (b == a) ≡ false
     turn_round a b h = grind (arith, nat_tests)
@@ -176,7 +180,7 @@ number_of m = m.spec.index.number
 -- Where no two interfaces have one number, the offers on each are the frames for what it said.
 pub offered : (steps : List IfaceStep) (taken : List Bool) (set : ℕ) → length taken ≡ length (flat_map sends_of steps)
     → IsDistinct nat_eq (map number_of (managed_in (map (λ step. step.iface) steps)))
-    → AllByRecursion (λ step. Offered (spec_of step) (Clean (spec_of step).index.number (flat_map sends_of steps) taken set) step.said
+    → AllByRecursion (λ step. Offered (spec_of step) (ask_in step) (Clean (spec_of step).index.number (flat_map sends_of steps) taken set) step.said
     (found (spec_of step).index.number (flat_map sends_of steps) taken)) steps
 offered [] taken set len apart = tt
 offered (step ∷ steps) taken set len apart =
@@ -185,10 +189,10 @@ offered (step ∷ steps) taken set len apart =
     all_mapped _ (λ step. step.iface) steps (all_mapped _ (λ iface. iface.managed) (map (λ step. step.iface) steps)
     (all_mapped _ number_of (managed_in (map (λ step. step.iface) steps)) head)) in
     let later = offered steps (beyond step.said taken) (set_after (spec_of step) step.said taken set)
-    (beyond-length (spec_of step) step.said (flat_map sends_of steps) taken len) (IsDistinct-tail nat_eq _ _ apart) in (
-      offered-own (spec_of step) step.said (flat_map sends_of steps) taken set len (elsewhere (spec_of step).index.number steps others),
+    (beyond-length (spec_of step) (ask_in step) step.said (flat_map sends_of steps) taken len) (IsDistinct-tail nat_eq _ _ apart) in (
+      offered-own (spec_of step) (ask_in step) step.said (flat_map sends_of steps) taken set len (elsewhere (spec_of step).index.number steps others),
       all_both _ _ _ (λ other apart_from h.
-          let p = passes (spec_of step) (spec_of other).index.number apart_from step.said (flat_map sends_of steps) taken set len in
-          subst (λ offers. Offered (spec_of other) (Clean (spec_of other).index.number (flat_map sends_of (step ∷ steps)) taken set) other.said offers) (sym p.same)
-          (offered-clean (spec_of other) _ _ p.clean other.said _ h)) steps others later,
+          let p = passes (spec_of step) (ask_in step) (spec_of other).index.number apart_from step.said (flat_map sends_of steps) taken set len in
+          subst (λ offers. Offered (spec_of other) (ask_in other) (Clean (spec_of other).index.number (flat_map sends_of (step ∷ steps)) taken set) other.said offers) (sym p.same)
+          (offered-clean (spec_of other) (ask_in other) _ _ p.clean other.said _ h)) steps others later,
     )

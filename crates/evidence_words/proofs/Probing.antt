@@ -1,25 +1,20 @@
 -- What conflict detection carries of the turns shown while it probes.
-use Rattle.std.proofs.Common.{◌≡◌, ℕ, zero, suc, ◌+◌, ◌<◌, ◌≤◌, true, false, List, [], ◌∷◌, ◌++◌, Option, Some, None, inl, inr, ◌⊎◌, refl, sym, ap, subst, ◌∙◌, add-one, arith, append_assoc}
+use Rattle.std.proofs.Common.{◌≡◌, ℕ, zero, suc, ◌+◌, ◌<◌, ◌≤◌, Bool, true, false, ◌&&◌, ◌||◌, List, [], ◌∷◌, ◌++◌, inl, inr, refl, sym, subst, add-one, arith}
 use Rattle.std.proofs.lemmas.Slice.Eq.{bytes_eq-Decides}
-use Rattle.std.specs.Prelude.{MatchOption, bytes_eq}
-use Rattle.std.specs.List.{AllByRecursion}
+use Rattle.std.specs.Prelude.{bytes_eq}
 use Rattle.machine.proofs.Entries.{since-map}
-use Rattle.net_types.proofs.AllLaws.{all_map, all_join}
 use Rattle.net_types.specs.declared.address.Ip4.{Ip4}
 use Rattle.net_types.specs.declared.interface.IfIndex.{IfIndex}
-use Rattle.net_types.specs.AddressText.{FitsIp4}
 use Rattle.frame_link.specs.Packets.{probe_text}
-use Rattle.arp_acd.specs.declared.detection.ArpSay.TheVariants.{Probe, Announce}
-use Rattle.arp_acd.specs.declared.detection.Phase.{Phase}
-use Rattle.arp_acd.specs.declared.detection.Phase.TheVariants.{Probing, Announcing, Held, Over}
+use Rattle.arp_acd.specs.declared.detection.ArpSay.TheVariants.{Probe}
 use Rattle.arp_acd.specs.Table as detection
 use Rattle.arp_acd.proofs.Standing.{wait_after, waits, one_second}
-use Rattle.ipv4ll.specs.Choice.{IsChoice}
 use Rattle.evidence_words.specs.Entries.{Entry, Offer}
+use Rattle.client_model.specs.ClientSettings.{ask_of}
 use Rattle.client_model.specs.declared.steps.Said.{Said}
 use Rattle.client_model.specs.declared.steps.Said.TheVariants.{Arp}
-use Rattle.evidence_words.specs.Inputs.{Site, offers_at, uses, contests}
-use Rattle.evidence_words.specs.Probed.{TurnWord, AsProbe, probe_taken, Probes, EachAfter, Probed}
+use Rattle.evidence_words.specs.Inputs.{Site, offers_at, contests}
+use Rattle.evidence_words.specs.Probed.{TurnWord, AsProbe, probe_taken, Probes}
 use Rattle.evidence_words.proofs.Offers.{Offered}
 
 module _ (C : TurnWord) (site : Site) (addr : Ip4) where
@@ -45,11 +40,23 @@ module _ (C : TurnWord) (site : Site) (addr : Ip4) where
       bound m w b later h le = omega arith
 
   pub probe_offered : (clean : Type 0) (more : List Said) (offers : List Offer)
-      → Offered site.managed.spec clean (Arp (Probe addr) ∷ more) offers → clean → probe_taken site addr offers ≡ true
+      → Offered site.managed.spec (ask_of site.managed) clean (Arp (Probe addr) ∷ more) offers → clean → probe_taken site addr offers ≡ true
   probe_offered clean more [] h k = absurd h
   probe_offered clean more (o ∷ offers) h k =
       let same : bytes_eq o.bytes (probe_text site.managed.spec.mac addr) ≡ true = (bytes_eq-Decides o.bytes (probe_text site.managed.spec.mac addr)).1 h.0 in
       rw (h.1 k) (rw same refl)
+
+  -- a probe after other messages
+  pub probe_among : (clean : Type 0) (front more : List Said) (offers : List Offer)
+      → Offered site.managed.spec (ask_of site.managed) clean ((front ++ Arp (Probe addr) ∷ []) ++ more) offers → clean → probe_taken site addr offers ≡ true
+  probe_among clean [] more offers h k = probe_offered clean more offers h k
+  probe_among clean (say ∷ front) more [] h k = absurd h
+  probe_among clean (say ∷ front) more (o ∷ offers) h k =
+      rw (probe_among clean front more offers h.2 k) (or_true (o.taken && bytes_eq o.bytes (probe_text site.managed.spec.mac addr)))
+    where
+      or_true : (b : Bool) → (b || true) ≡ true
+      or_true true = refl
+      or_true false = refl
 
   pub probe_said : (iface : IfIndex) (n due salt : ℕ) (e : Entry) (past : List Entry) → n < 3 → due ≤ e.moment → ProbesOf n due past
       → C e past → contests site addr e ≡ false → probe_taken site addr (offers_at site e) ≡ true

@@ -1,18 +1,25 @@
 -- Steps that follow one another, and what was asked in them.
-use Rattle.std.proofs.Common.{◌≡◌, ◌++◌, List, [], refl, sym, ap, ◌∙◌, append_assoc, append-nil, false, ℕ}
-use Rattle.std.specs.Prelude.{map}
+use Rattle.std.proofs.Common.{◌≡◌, ◌++◌, List, [], ◌∷◌, Bool, false, refl, sym, ap, ◌∙◌, append_assoc, append-nil, ℕ}
+use Rattle.std.specs.Prelude.{map, is_some, option_to_list}
 use Rattle.std.proofs.lemmas.List.{map-append}
 use Rattle.machine.specs.Moment.{is_due}
-use Rattle.ipv4ll.specs.Table.{due_of}
+use Rattle.v4_client.specs.declared.states.Step4.{Step4}
+use Rattle.v4_client.specs.Clients.{ClientContent, OutContent, held_of}
+use Rattle.v4_client.specs.Moves.{IsStep4}
+use Rattle.v4_client.specs.Settings.{SettingsContent}
 use Rattle.settings.specs.declared.interfaces.Managed.{Managed}
 use Rattle.client_model.specs.declared.interfaces.Iface.{Iface}
 use Rattle.client_model.specs.declared.steps.News.{News}
+use Rattle.client_model.specs.declared.steps.Said.{Said}
+use Rattle.client_model.specs.declared.steps.Said.TheVariants.{Arp, Dhcp4}
 use Rattle.client_model.specs.declared.steps.TimedMachine.{TimedMachine}
-use Rattle.client_model.specs.declared.steps.TimedMachine.TheVariants.{LinkLocal}
-use Rattle.client_model.specs.IfaceSteps.{Report, IfaceStep, news_of, silent, then_step}
+use Rattle.client_model.specs.declared.steps.TimedMachine.TheVariants as machine
+use Rattle.client_model.specs.IfaceSteps.{Report, IfaceStep, news_of, silent, then_step, with_news}
+use Rattle.client_model.specs.Dhcp4Steps.{after_dhcp4, dhcp4_step, followed, lease_news}
 use Rattle.client_model.specs.Interfaces.{machine_due, machine_ticked}
 use Rattle.client_model.specs.Clients.{Sending, sends_of, spelled}
-use Rattle.iface_core.specs.Outcomes.{Asked, Goes}
+use Rattle.client_model.proofs.SameInterfaces.{StepSame}
+use Rattle.iface_core.specs.Outcomes.{Asked, Follows, Goes, Tells}
 
 -- nothing is asked in a silent step
 pub goes_silent : (iface new : Iface) (asked : Asked) → new ≡ iface → Goes (silent iface) new asked asked
@@ -23,10 +30,15 @@ goes_quiet step new asked quiet = rw quiet (goes_silent new new asked refl)
 
 -- a machine that isn't due ticks in silence
 pub not_due : (machine : TimedMachine) (at salt : ℕ) (iface : Iface) → is_due (machine_due machine iface) at ≡ false → machine_ticked machine at salt iface ≡ silent iface
-not_due LinkLocal at salt iface h = rw h refl
+not_due machine.Dhcp4 at salt iface h = rw h refl
+not_due machine.LinkLocal at salt iface h = rw h refl
+
+-- by what an interface's messages are spelled
+abbrev spelled_by : Managed → SettingsContent → List Said → List Sending
+spelled_by managed settings said = map (spelled managed.spec settings.ask) said
 
 -- What is said first and then is offered in that order.
-pub goes_then : (first : IfaceStep) (next : Iface → IfaceStep) (amid new : Iface) (none some all : Asked) → (next first.iface).iface.managed ≡ first.iface.managed
+pub goes_then : (first : IfaceStep) (next : Iface → IfaceStep) (amid new : Iface) (none some all : Asked) → StepSame first.iface (next first.iface)
     → Goes first amid none some → Goes (next amid) new some all → Goes (then_step first next) new none all
 goes_then first next amid new none some all same one two = record {
   goes_on = two.goes_on ∙ ap (λ (i : Iface). (next i).iface) one.goes_on;
@@ -48,5 +60,37 @@ goes_then first next amid new none some all same one two = record {
 
     together : sends_of first ++ sends_of (next first.iface) ≡ sends_of (then_step first next)
     together =
-        ap (λ (m : Managed). map (spelled m.spec) first.said ++ sends_of (next first.iface)) (sym same)
-        ∙ sym (map-append (spelled (next first.iface).iface.managed.spec) first.said (next first.iface).said)
+        (λ i. spelled_by (sym same.managed i) (sym same.settings i) first.said ++ sends_of (next first.iface))
+        ∙ sym (map-append (spelled (next first.iface).iface.managed.spec (next first.iface).iface.dhcp4.settings.ask) first.said (next first.iface).said)
+
+-- What is new comes first.
+pub goes_with_news : (news : News) (before new : Iface) (step : IfaceStep) (none some all : Asked) → Tells (news ∷ []) none some → Goes step new some all
+    → Goes (with_news news before step) new none all
+goes_with_news news before new step none some all one two = record {
+  goes_on = two.goes_on;
+  offers = two.offers ∙ ap (λ (s : List Sending). s ++ sends_of step) one.offers_no_more;
+  tells = two.tells ∙ ap (λ (n : List News). n ++ news_of step) one.tells ∙ append_assoc none.news (news ∷ []) (news_of step);
+}
+
+-- ---- DHCPv4
+
+-- the news of the reports that tell it
+reported : (before after : Iface) (news : List News) → map (λ (report : Report). report.news) (map (λ (n : News). record { before = before; news = n; after = after }) news) ≡ news
+reported before after [] = refl
+reported before after (n ∷ news) = ap (λ (ns : List News). n ∷ ns) (reported before after news)
+
+-- A step of the client, and what its interface takes over of it, is a step of the interface.
+pub goes_dhcp4 : (at : ℕ) (held : Bool) (old new : Iface) (step : Step4) (c client : ClientContent) (out : OutContent) (before after : Asked)
+    → held ≡ is_some (held_of c) → IsStep4 step c client out → Follows at held out (record old { dhcp4 = client }) new before after
+    → Goes (dhcp4_step at (record old { dhcp4 = c }) step) new before after
+goes_dhcp4 at held old new step c client out before after was is follows = record {
+  goes_on =
+      follows.goes_on
+      ∙ (λ i. record old { dhcp4 = is.goes_on i; local = followed old.managed.conf at (was i) (is.answers i).news old.local });
+  offers =
+      follows.offers
+      ∙ (λ i. before.sends ++ map (spelled old.managed.spec (is.goes_on i).settings.ask) (map Dhcp4 (option_to_list (is.answers i).say) ++ map Arp (option_to_list (is.answers i).arp)));
+  tells =
+      follows.tells ∙ (λ i. before.news ++ lease_news (is.answers i).news)
+      ∙ ap (λ (n : List News). before.news ++ n) (sym (reported (record old { dhcp4 = c }) (after_dhcp4 at step (record old { dhcp4 = c })) (lease_news step.news)));
+}

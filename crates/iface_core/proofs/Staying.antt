@@ -1,10 +1,23 @@
 -- A turn leaves an interface its configuration, and its address one that a host may choose.
-use Rattle.std.proofs.Common.{ℕ, ◌≡◌, Bool, true, false, List, [], Option, Some, None, nat_eq, refl, sym, subst, ◌∙◌, if◌then◌else◌}
+use Rattle.std.proofs.Common.{ℕ, ◌≡◌, ◌+◌, ◌*◌, Bool, true, false, List, [], Option, Some, None, nat_eq, refl, sym, subst, ◌∙◌, if◌then◌else◌}
+use Rattle.std.specs.Prelude.{is_some}
 use Rattle.net_types.specs.declared.address.Mac.{Mac}
 use Rattle.frame_link.specs.declared.arp.ArpView.{ArpView}
 use Rattle.ipv4ll.specs.declared.link_local.LinkLocal.{LinkLocal}
-use Rattle.ipv4ll.specs.declared.link_local.Waits.TheVariants.{ForNothing}
+use Rattle.ipv4ll.specs.declared.link_local.Waits.{Waits}
+use Rattle.ipv4ll.specs.declared.link_local.Waits.TheVariants.{ForLease, ForNothing}
+use Rattle.ipv4ll.specs.declared.link_local.Fallback.{Fallback}
 use Rattle.ipv4ll.specs.declared.link_local.Fallback.TheVariants.{Choose}
+use Rattle.v4_frames.specs.Heard.{HeardMessage, heard4_in}
+use Rattle.v4_client.specs.declared.moments.TheConstants.{SECOND}
+use Rattle.v4_client.specs.declared.states.Carrier.TheVariants.{Up}
+use Rattle.v4_client.specs.declared.states.News4.{News4}
+use Rattle.v4_client.specs.declared.states.News4.TheVariants as news
+use Rattle.v4_client.specs.declared.states.Step4.{Step4}
+use Rattle.v4_client.specs.Calls.{arp_step, brought, carrier_step, heard_step, rebind_step}
+use Rattle.v4_client.specs.Clients.{ClientContent, held_of}
+use Rattle.v4_client.specs.History.{tick_step}
+use Rattle.settings.specs.declared.interfaces.IfConf.{IfConf}
 use Rattle.ipv4ll.specs.Table.{ll_armed}
 use Rattle.ipv4ll.specs.History.{Arm, Tick, Heard, Unsent}
 use Rattle.ipv4ll.proofs.Chosen.{step_in, InState}
@@ -15,10 +28,12 @@ use Rattle.settings.specs.declared.interfaces.Managed.{Managed}
 use Rattle.settings.specs.Fitting.{FitsManaged}
 use Rattle.script_model.specs.IfaceSets.{is_up, is_in}
 use Rattle.client_model.specs.declared.interfaces.Iface.{Iface}
-use Rattle.client_model.specs.IfaceSteps.{IfaceStep, index_of, silent}
-use Rattle.client_model.specs.LocalSteps.{chooses_local, local_hears}
-use Rattle.client_model.specs.Interfaces.{resting, begins, machines_off, carrier_comes, carrier_goes, opened, restarted, unsent_in, ticked, carried, released, rebound, halted}
-use Rattle.client_model.specs.IfaceTurns.{Turn, hears, arp_heard, taken, input_step, iface_turned}
+use Rattle.client_model.specs.ClientSettings.{runs_dhcp4}
+use Rattle.client_model.specs.IfaceSteps.{IfaceStep, index_of, silent, then_step}
+use Rattle.client_model.specs.LocalSteps.{armed, armed_for_lease, chooses_local, fallback_of, local_hears, tick_local}
+use Rattle.client_model.specs.Dhcp4Steps.{arms, arrival_at, begin_dhcp4, dhcp4_packet, dhcp4_step, followed, holds_lease, rebind_dhcp4, tick_dhcp4}
+use Rattle.client_model.specs.Interfaces.{resting, begins, machines_rebind, carrier_comes, carrier_goes, opened, restarted, unsent_in, ticked, carried, released, rebound, halted}
+use Rattle.client_model.specs.IfaceTurns.{Turn, hears, hears_either, hears_message, hears_packet, arp_heard, taken, input_step, iface_turned}
 use Rattle.client_model.specs.Fitting.{FitsIface}
 
 pub record Stays (old new : Iface) : Type 0 where
@@ -40,51 +55,118 @@ restarted_stays at salt iface = record { managed = refl; local = λ h. (step_in 
 unsent_stays : (set at salt : ℕ) (iface : Iface) → Stays iface (unsent_in set at salt iface)
 unsent_stays set at salt iface = gated (Stays iface) (is_in set (index_of iface)) (restarted at salt iface) iface (restarted_stays at salt iface) (itself iface)
 
+both_stays : (iface : Iface) (first : IfaceStep) (next : Iface → IfaceStep) → StepStays iface first → StepStays first.iface (next first.iface) → StepStays iface (then_step first next)
+both_stays iface first next one two = in_turn iface first.iface (next first.iface).iface one two
+
+-- ---- link-local
+
+arm_in : (local : LinkLocal) (due : ℕ) (waits : Waits) (fallback : Fallback) → InState local.state → InState (ll_armed local due waits fallback).state
+arm_in local due waits fallback h = (step_in [] local.iface local.state (Arm due due waits fallback) h).chosen
+
+armed_in : (conf : IfConf) (at : ℕ) (local : LinkLocal) → InState local.state → InState (armed conf at local).state
+armed_in conf at local h =
+    gated (λ (l : LinkLocal). InState l.state) (runs_dhcp4 conf) (armed_for_lease conf at local) _
+    (gated (λ (l : LinkLocal). InState l.state) (nat_eq conf.timeout 0) local (ll_armed local (at + SECOND * conf.timeout) ForLease (fallback_of (chooses_local conf))) h
+    (arm_in local (at + SECOND * conf.timeout) ForLease (fallback_of (chooses_local conf)) h))
+    (gated (λ (l : LinkLocal). InState l.state) (chooses_local conf) (ll_armed local at ForNothing Choose) local (arm_in local at ForNothing Choose h) h)
+
+followed_in : (conf : IfConf) (at : ℕ) (held : Bool) (said : News4) (local : LinkLocal) → InState local.state → InState (followed conf at held said local).state
+followed_in conf at held news.Nothing local h = h
+followed_in conf at held news.Bound local h = tt
+followed_in conf at held news.Reboot local h = tt
+followed_in conf at held news.Renew local h = h
+followed_in conf at held news.Rebind local h = h
+followed_in conf at held news.Nak local h = gated (λ (l : LinkLocal). InState l.state) held (armed conf at local) local (armed_in conf at local h) h
+followed_in conf at held news.Expire local h = gated (λ (l : LinkLocal). InState l.state) held (armed conf at local) local (armed_in conf at local h) h
+followed_in conf at held news.Stop local h = h
+
+tick_local_stays : (at salt : ℕ) (iface : Iface) → StepStays iface (tick_local at salt iface)
+tick_local_stays at salt iface = record { managed = refl; local = λ h. (step_in [] iface.local.iface iface.local.state (Tick at salt) h).chosen }
+
+arms_stays : (at : ℕ) (iface : Iface) → StepStays iface (arms at iface)
+arms_stays at iface =
+    gated (StepStays iface) (holds_lease iface) (silent iface) (silent (record iface { local = armed iface.managed.conf at iface.local })) (itself iface)
+    (record { managed = refl; local = armed_in iface.managed.conf at iface.local })
+
+-- ---- DHCPv4
+
+dhcp4_stays_from : (at : ℕ) (iface : Iface) (c : ClientContent) (step : Step4) → StepStays iface (dhcp4_step at (record iface { dhcp4 = c }) step)
+dhcp4_stays_from at iface c step = record { managed = refl; local = followed_in iface.managed.conf at (is_some (held_of c)) step.news iface.local }
+
+dhcp4_stays : (at : ℕ) (iface : Iface) (step : Step4) → StepStays iface (dhcp4_step at iface step)
+dhcp4_stays at iface step = dhcp4_stays_from at iface iface.dhcp4 step
+
+begin_stays : (at salt : ℕ) (iface : Iface) → StepStays iface (begin_dhcp4 at salt iface)
+begin_stays at salt iface =
+    gated (StepStays iface) (runs_dhcp4 iface.managed.conf) (dhcp4_step at iface (carrier_step Up at salt iface.dhcp4)) (silent iface)
+    (dhcp4_stays at iface (carrier_step Up at salt iface.dhcp4)) (itself iface)
+
+rebind_stays : (at salt : ℕ) (iface : Iface) → StepStays iface (rebind_dhcp4 at salt iface)
+rebind_stays at salt iface =
+    gated (StepStays iface) (runs_dhcp4 iface.managed.conf) (dhcp4_step at iface (rebind_step at salt iface.dhcp4)) (silent iface)
+    (dhcp4_stays at iface (rebind_step at salt iface.dhcp4)) (itself iface)
+
+-- ---- the interface
+
 ticked_stays : (at salt : ℕ) (iface : Iface) → StepStays iface (ticked at salt iface)
-ticked_stays at salt iface = record { managed = refl; local = λ h. (step_in [] iface.local.iface iface.local.state (Tick at salt) h).chosen }
+ticked_stays at salt iface =
+    let first : IfaceStep = tick_dhcp4 at salt iface in
+    both_stays iface first (tick_local at salt) (dhcp4_stays at iface (tick_step at salt iface.dhcp4)) (tick_local_stays at salt first.iface)
 
-armed_in : (b : Bool) (at : ℕ) (local : LinkLocal) → InState local.state → InState (if b then ll_armed local at ForNothing Choose else local).state
-armed_in true at local h = (step_in [] local.iface local.state (Arm at at ForNothing Choose) h).chosen
-armed_in false at local h = h
+begins_stays : (at salt : ℕ) (iface : Iface) → StepStays iface (begins at salt iface)
+begins_stays at salt iface =
+    both_stays iface (begin_dhcp4 at salt iface) (arms at) (begin_stays at salt iface) (arms_stays at (begin_dhcp4 at salt iface).iface)
 
-begins_stays : (at : ℕ) (iface : Iface) → StepStays iface (begins at iface)
-begins_stays at iface = record { managed = refl; local = armed_in (chooses_local iface.managed.conf) at iface.local }
+comes_stays : (at salt : ℕ) (iface : Iface) → StepStays iface (carrier_comes at salt iface)
+comes_stays at salt iface =
+    let stays : StepStays (record iface { up = true }) (begins at salt (record iface { up = true })) = begins_stays at salt (record iface { up = true }) in
+    record { managed = stays.managed; local = stays.local }
 
-comes_stays : (at : ℕ) (iface : Iface) → StepStays iface (carrier_comes at iface)
-comes_stays at iface = record { managed = refl; local = armed_in (chooses_local iface.managed.conf) at iface.local }
+goes_stays : (at salt : ℕ) (iface : Iface) → StepStays iface (carrier_goes at salt iface)
+goes_stays at salt iface = record { managed = refl; local = λ h. tt }
 
-goes_stays : (iface : Iface) → StepStays iface (carrier_goes iface)
-goes_stays iface = record { managed = refl; local = λ h. tt }
+carried_stays : (at salt : ℕ) (up : Bool) (iface : Iface) → StepStays iface (carried at salt up iface)
+carried_stays at salt true iface = gated (StepStays iface) iface.up (silent iface) (carrier_comes at salt iface) (itself iface) (comes_stays at salt iface)
+carried_stays at salt false iface = gated (StepStays iface) iface.up (carrier_goes at salt iface) (silent iface) (goes_stays at salt iface) (itself iface)
 
-carried_stays : (at : ℕ) (up : Bool) (iface : Iface) → StepStays iface (carried at up iface)
-carried_stays at true iface = gated (StepStays iface) iface.up (silent iface) (carrier_comes at iface) (itself iface) (comes_stays at iface)
-carried_stays at false iface = gated (StepStays iface) iface.up (carrier_goes iface) (silent iface) (goes_stays iface) (itself iface)
+released_stays : (at salt : ℕ) (iface : Iface) → StepStays iface (released at salt iface)
+released_stays at salt iface = record { managed = refl; local = λ h. tt }
 
-released_stays : (iface : Iface) → StepStays iface (released iface)
-released_stays iface = record { managed = refl; local = λ h. tt }
+rebound_stays : (at salt : ℕ) (iface : Iface) → StepStays iface (rebound at salt iface)
+rebound_stays at salt iface =
+    gated (StepStays iface) iface.up (machines_rebind at salt iface) (silent iface)
+    (both_stays iface (rebind_dhcp4 at salt iface) (arms at) (rebind_stays at salt iface) (arms_stays at (rebind_dhcp4 at salt iface).iface)) (itself iface)
 
-rebound_stays : (at : ℕ) (iface : Iface) → StepStays iface (rebound at iface)
-rebound_stays at iface = gated (StepStays iface) iface.up (begins at iface) (silent iface) (begins_stays at iface) (itself iface)
-
-halted_stays : (iface : Iface) → StepStays iface (halted iface)
-halted_stays iface = record { managed = refl; local = λ h. tt }
+halted_stays : (at salt : ℕ) (iface : Iface) → StepStays iface (halted at salt iface)
+halted_stays at salt iface = record { managed = refl; local = λ h. tt }
 
 module _ (own : List Mac) (at salt : ℕ) (bytes : List ℕ) where
-  local_hears_stays : (arp : Option ArpView) (iface : Iface) → StepStays iface (local_hears own at salt arp iface)
-  local_hears_stays None iface = itself iface
-  local_hears_stays (Some arp) iface = record { managed = refl; local = λ h. (step_in own iface.local.iface iface.local.state (Heard arp at salt) h).chosen }
+  packet_stays : (arp : ArpView) (iface : Iface) → StepStays iface (hears_packet own at salt arp iface)
+  packet_stays arp iface =
+      let first : IfaceStep = dhcp4_packet own at salt arp iface in
+      both_stays iface first (local_hears own at salt arp) (dhcp4_stays at iface (arp_step own at salt arp iface.dhcp4))
+      (record { managed = refl; local = λ h. (step_in own first.iface.local.iface first.iface.local.state (Heard arp at salt) h).chosen })
+
+  message_stays : (message : Option HeardMessage) (iface : Iface) → StepStays iface (hears_message at salt message iface)
+  message_stays None iface = itself iface
+  message_stays (Some heard) iface =
+      dhcp4_stays_from at iface (brought (arrival_at at heard) iface.dhcp4) (heard_step salt (arrival_at at heard) iface.dhcp4)
+
+  either_stays : (arp : Option ArpView) (message : Option HeardMessage) (iface : Iface) → StepStays iface (hears_either own at salt arp message iface)
+  either_stays (Some arp) message iface = packet_stays arp iface
+  either_stays None message iface = message_stays message iface
 
   -- of an input that names an interface
   named_stays : (index : ℕ) (iface : Iface) (step : IfaceStep) → StepStays iface step → StepStays iface (if nat_eq (index_of iface) index then step else silent iface)
   named_stays index iface step stays = gated (StepStays iface) (nat_eq (index_of iface) index) step (silent iface) stays (itself iface)
 
   taken_stays : (event : Event) (iface : Iface) → StepStays iface (taken own at salt event bytes iface)
-  taken_stays (Frame index len) iface = named_stays index iface (hears own at salt bytes iface) (local_hears_stays (arp_heard bytes) iface)
-  taken_stays (Carrier index up) iface = named_stays index iface (carried at up iface) (carried_stays at up iface)
+  taken_stays (Frame index len) iface = named_stays index iface (hears own at salt bytes iface) (either_stays (arp_heard bytes) (heard4_in iface.managed.spec.mac bytes) iface)
+  taken_stays (Carrier index up) iface = named_stays index iface (carried at salt up iface) (carried_stays at salt up iface)
   taken_stays (Duplicate index addr) iface = itself iface
-  taken_stays (Release index) iface = named_stays index iface (released iface) (released_stays iface)
-  taken_stays (Rebind index) iface = named_stays index iface (rebound at iface) (rebound_stays at iface)
-  taken_stays Stop iface = halted_stays iface
+  taken_stays (Release index) iface = named_stays index iface (released at salt iface) (released_stays at salt iface)
+  taken_stays (Rebind index) iface = named_stays index iface (rebound at salt iface) (rebound_stays at salt iface)
+  taken_stays Stop iface = halted_stays at salt iface
   taken_stays Quiet iface = itself iface
   taken_stays End iface = itself iface
 
@@ -103,9 +185,9 @@ turn_stays own turn iface =
 pub stays_fit : (old new : Iface) → Stays old new → FitsIface old → FitsIface new
 stays_fit old new stays fits = record { managed = subst FitsManaged (sym stays.managed) fits.managed; local = stays.local fits.local }
 
-pub opened_fits : (up at : ℕ) (managed : Managed) → FitsManaged managed → FitsIface (opened up at managed).iface
-opened_fits up at managed fits =
-    stays_fit (resting managed) (opened up at managed).iface
-    (gated (StepStays (resting managed)) (is_up up managed.spec.index.number) (carrier_comes at (resting managed)) (silent (resting managed))
-    (comes_stays at (resting managed)) (itself (resting managed)))
+pub opened_fits : (up at salt : ℕ) (managed : Managed) → FitsManaged managed → FitsIface (opened up at salt managed).iface
+opened_fits up at salt managed fits =
+    stays_fit (resting managed) (opened up at salt managed).iface
+    (gated (StepStays (resting managed)) (is_up up managed.spec.index.number) (carrier_comes at salt (resting managed)) (silent (resting managed))
+    (comes_stays at salt (resting managed)) (itself (resting managed)))
     (record { managed = fits; local = tt })

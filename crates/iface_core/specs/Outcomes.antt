@@ -1,10 +1,15 @@
 -- What an interface asks of the outside, in the words of the definitions.
-use Rattle.std.specs.Prelude.{◌≡◌, List, ◌++◌, map}
+use Rattle.std.specs.Prelude.{◌≡◌, ℕ, Bool, List, ◌++◌, map, option_to_list}
+use Rattle.net_types.specs.declared.interface.IfSpec.{IfSpec}
+use Rattle.v4_message.specs.Requests.{AskContent}
+use Rattle.v4_client.specs.Clients.{OutContent}
 use Rattle.client_model.specs.declared.interfaces.Iface.{Iface}
 use Rattle.client_model.specs.declared.steps.News.{News}
 use Rattle.client_model.specs.IfaceSteps.{IfaceStep, news_of}
+use Rattle.client_model.specs.declared.steps.Said.TheVariants.{Arp, Dhcp4}
 use Rattle.client_model.specs.Clients as client
-use Rattle.client_model.specs.Clients.{sends_of}
+use Rattle.client_model.specs.Clients.{sends_of, spelled}
+use Rattle.client_model.specs.Dhcp4Steps.{followed, lease_news}
 use Rattle.iface_core.specs.declared.outs.Sending.{Sending}
 use Rattle.iface_core.specs.declared.outs.Outs.{Outs}
 
@@ -38,3 +43,17 @@ pub record Goes (step : IfaceStep) (iface : Iface) (before after : Asked) : Type
   pub goes_on : iface ≡ step.iface
   pub offers : after.sends ≡ before.sends ++ sends_of step
   pub tells : after.news ≡ before.news ++ news_of step
+
+-- by what an interface's messages are spelled
+abbrev pub spec_in : Iface → IfSpec
+spec_in iface = iface.managed.spec
+
+abbrev pub ask_in : Iface → AskContent
+ask_in iface = iface.dhcp4.settings.ask
+
+-- The interface takes over what its DHCPv4 client says, which held a lease before or didn't.
+pub record Follows (at : ℕ) (held : Bool) (out : OutContent) (old new : Iface) (before after : Asked) : Type 0 where
+  pub goes_on : new ≡ record old { local = followed old.managed.conf at held out.news old.local }
+  pub offers : after.sends
+      ≡ before.sends ++ map (spelled (spec_in old) (ask_in old)) (map Dhcp4 (option_to_list out.say) ++ map Arp (option_to_list out.arp))
+  pub tells : after.news ≡ before.news ++ lease_news out.news

@@ -1,18 +1,28 @@
-ghost use Rattle.std.specs.Prelude.{◌≡◌, IfOk, OnOk};
+//! A managed interface: how it opens, its carrier, and what it is told.
+ghost use Rattle.std.specs.Prelude.{◌≡◌, ◌<◌, ◌^◌, IfOk, IfSome, OnOk, option_map};
+ghost use Rattle.net_types.specs.NameText.{FitsName};
+ghost use Rattle.lease_text.specs.Bounds.{FitsLease};
+ghost use Rattle.lease_text.specs.Leases.{lease_content};
 ghost use Rattle.world.specs.Rows.{IsInterface};
 ghost use Rattle.ipv4ll.specs.Table.{held_in};
+ghost use Rattle.v4_client.specs.Clients.{held_of};
+ghost use Rattle.v4_client.specs.Moments.{earlier};
 ghost use Rattle.script_model.specs.IfaceSets.{is_in};
-ghost use Rattle.client_model.specs.IfaceSteps.{silent};
-ghost use Rattle.client_model.specs.LocalSteps.{chooses_local, arms};
 ghost use Rattle.client_model.specs.Interfaces as run;
 ghost use Rattle.iface_core.specs.Outcomes.{Goes, asked_in};
 
+use crate::dhcp4::{begin_dhcp4, client_of, drop_dhcp4, rebind_dhcp4, stop_dhcp4};
+use crate::local::{arm_unless_held, drop_local};
 use crate::outs::Outs;
 use client_model::{Iface, News, TimedMachine};
-use ipv4ll::{Fallback, Waits, ll_arm, ll_drop, ll_held, ll_off};
+use ipv4ll::{ll_held, ll_off};
+use lease_text::Lease4;
 use machine::Machine;
 use net_types::{IfIndex, Ip4, NoMemory};
 use settings::{IfConf, Managed};
+use std::alloc::{AllocError, Global};
+use v4_client::{Tell, held4};
+use world::Begin;
 
 /// Whether a set of interfaces has this one: bit `i - 1` is interface `i`.
 pub fn contains(set: u64, index: IfIndex) -> bool
@@ -22,116 +32,162 @@ pub fn contains(set: u64, index: IfIndex) -> bool
     (set >> (index.number - 1)) % 2 == 1
 }
 
-/// Opens a managed interface at the moment `at`, at which a life begins. `up` has the interfaces with carrier.
-pub fn iface_open(managed: &Managed, up: u64, at: u64, outs: &mut Outs) -> Result<Iface, NoMemory>
-    requires { IsInterface managed.now.spec.index.number }
-    ensures { IfOk result (λ iface. Goes (run.opened up at managed.now) iface (asked_in outs.old) (asked_in outs.new)) }
+/// Opens a managed interface, as a life begins.
+pub fn iface_open(
+    alloc: Global,
+    managed: &Managed,
+    begin: Begin,
+    outs: &mut Outs,
+) -> Result<Iface, NoMemory>
+    requires index { IsInterface managed.now.spec.index.number }
+    requires name { FitsName managed.now.spec.name }
+    requires at { begin.at < 10 ^ 15 }
+    ensures { IfOk result (λ iface. Goes (run.opened begin.up begin.at begin.salt managed.now) iface (asked_in outs.old) (asked_in outs.new)) }
 {
-    let mut iface = rest(managed);
-    if contains(up, managed.spec.index) {
-        gain_carrier(&mut iface, at, outs)?;
+    let mut iface = rest(alloc, managed)?;
+    if contains(begin.up, managed.spec.index) {
+        gain_carrier(&mut iface, begin.at, begin.salt, outs)?;
     }
     Ok(iface)
 }
 
 /// An interface before its opening.
-fn rest(managed: &Managed) -> Iface
-    ensures { result ≡ run.resting managed.now }
+fn rest(alloc: Global, managed: &Managed) -> Result<Iface, AllocError>
+    requires { FitsName managed.now.spec.name }
+    ensures { IfOk result (λ iface. iface ≡ run.resting managed.now) }
 {
-    Iface {
+    Ok(Iface {
         managed: *managed,
         up: false,
         stopped: false,
+        dhcp4: client_of(alloc, managed)?,
         local: ll_off(managed.spec.index),
-    }
+    })
 }
 
 /// Machines that are off begin.
-fn begin(iface: &mut Iface, at: u64)
-    ensures { run.begins at iface.old ≡ silent iface.new }
+fn begin(iface: &mut Iface, at: u64, salt: u64, outs: &mut Outs) -> Result<(), NoMemory>
+    requires { at < 10 ^ 15 }
+    ensures { OnOk result (Goes (run.begins at salt iface.old) iface.new (asked_in outs.old) (asked_in outs.new)) }
 {
-    arm_local(iface, at);
+    begin_dhcp4(iface, at, salt, outs)?;
+    arm_unless_held(iface, at);
+    Ok(())
 }
 
-/// Link-local is armed, due at once, since no lease is waited for.
-fn arm_local(iface: &mut Iface, at: u64)
-    ensures { arms at iface.old ≡ silent iface.new }
+/// The machines are off, and nobody is told.
+fn drop_machines(iface: &mut Iface, at: u64, salt: u64, outs: &mut Outs) -> Result<(), NoMemory>
+    requires { at < 10 ^ 15 }
+    ensures { OnOk result (Goes (run.machines_drop at salt iface.old) iface.new (asked_in outs.old) (asked_in outs.new)) }
 {
-    if chooses_local(&iface.managed.conf) {
-        ll_arm(&mut iface.local, at, Waits::ForNothing, Fallback::Choose);
-    }
+    drop_dhcp4(iface, at, salt, outs)?;
+    drop_local(iface);
+    Ok(())
 }
 
-/// A link-local address is chosen where no lease and no static line gives an address, and it isn't forbidden.
-fn chooses_local(conf: &IfConf) -> bool
-    ensures { result ≡ chooses_local conf.now }
+/// The machines stop; `tell` says whether the server of a held lease is told.
+fn stop_machines(
+    iface: &mut Iface,
+    tell: Tell,
+    at: u64,
+    salt: u64,
+    outs: &mut Outs,
+) -> Result<(), NoMemory>
+    requires { at < 10 ^ 15 }
+    ensures { OnOk result (Goes (run.machines_stop tell at salt iface.old) iface.new (asked_in outs.old) (asked_in outs.new)) }
 {
-    conf.nodhcp && !conf.noipv4ll && conf.line.is_none()
+    stop_dhcp4(iface, tell, at, salt, outs)?;
+    drop_local(iface);
+    Ok(())
 }
 
-/// The machines are off.
-fn switch_off(iface: &mut Iface)
-    ensures { run.machines_off iface.old ≡ silent iface.new }
-{
-    ll_drop(&mut iface.local);
-}
-
-fn gain_carrier(iface: &mut Iface, at: u64, outs: &mut Outs) -> Result<(), NoMemory>
-    ensures { OnOk result (Goes (run.carrier_comes at iface.old) iface.new (asked_in outs.old) (asked_in outs.new)) }
+fn gain_carrier(iface: &mut Iface, at: u64, salt: u64, outs: &mut Outs) -> Result<(), NoMemory>
+    requires { at < 10 ^ 15 }
+    ensures { OnOk result (Goes (run.carrier_comes at salt iface.old) iface.new (asked_in outs.old) (asked_in outs.new)) }
 {
     outs.tell(News::CarrierCame)?;
     iface.up = true;
-    begin(iface, at);
-    Ok(())
+    begin(iface, at, salt, outs)
 }
 
-fn lose_carrier(iface: &mut Iface, outs: &mut Outs) -> Result<(), NoMemory>
-    ensures { OnOk result (Goes (run.carrier_goes iface.old) iface.new (asked_in outs.old) (asked_in outs.new)) }
+fn lose_carrier(iface: &mut Iface, at: u64, salt: u64, outs: &mut Outs) -> Result<(), NoMemory>
+    requires { at < 10 ^ 15 }
+    ensures { OnOk result (Goes (run.carrier_goes at salt iface.old) iface.new (asked_in outs.old) (asked_in outs.new)) }
 {
     outs.tell(News::CarrierWent)?;
     iface.up = false;
-    switch_off(iface);
-    Ok(())
+    drop_machines(iface, at, salt, outs)
 }
 
 /// The carrier comes or goes. One that is as before changes nothing.
-pub fn carry(iface: &mut Iface, up: bool, at: u64, outs: &mut Outs) -> Result<(), NoMemory>
-    ensures { OnOk result (Goes (run.carried at up iface.old) iface.new (asked_in outs.old) (asked_in outs.new)) }
+pub fn carry(
+    iface: &mut Iface,
+    up: bool,
+    at: u64,
+    salt: u64,
+    outs: &mut Outs,
+) -> Result<(), NoMemory>
+    requires { at < 10 ^ 15 }
+    ensures { OnOk result (Goes (run.carried at salt up iface.old) iface.new (asked_in outs.old) (asked_in outs.new)) }
 {
     match (up, iface.up) {
         (true, true) => Ok(()),
-        (true, false) => gain_carrier(iface, at, outs),
-        (false, true) => lose_carrier(iface, outs),
+        (true, false) => gain_carrier(iface, at, salt, outs),
+        (false, true) => lose_carrier(iface, at, salt, outs),
         (false, false) => Ok(()),
     }
 }
 
 /// What the machines hold is given back, and they are off.
-pub fn release(iface: &mut Iface, outs: &mut Outs) -> Result<(), NoMemory>
-    ensures { OnOk result (Goes (run.released iface.old) iface.new (asked_in outs.old) (asked_in outs.new)) }
+pub fn release(iface: &mut Iface, at: u64, salt: u64, outs: &mut Outs) -> Result<(), NoMemory>
+    requires { at < 10 ^ 15 }
+    ensures { OnOk result (Goes (run.released at salt iface.old) iface.new (asked_in outs.old) (asked_in outs.new)) }
 {
     outs.tell(News::Released)?;
-    switch_off(iface);
+    stop_machines(iface, Tell::Server, at, salt, outs)
+}
+
+fn rebind_machines(iface: &mut Iface, at: u64, salt: u64, outs: &mut Outs) -> Result<(), NoMemory>
+    requires { at < 10 ^ 15 }
+    ensures { OnOk result (Goes (run.machines_rebind at salt iface.old) iface.new (asked_in outs.old) (asked_in outs.new)) }
+{
+    rebind_dhcp4(iface, at, salt, outs)?;
+    arm_unless_held(iface, at);
     Ok(())
 }
 
-/// Machines that are off begin, where there is carrier.
-pub fn rebind(iface: &mut Iface, at: u64)
-    ensures { run.rebound at iface.old ≡ silent iface.new }
+/// A lease that is held is confirmed anew, and machines that are off begin, where there is carrier.
+pub fn rebind(iface: &mut Iface, at: u64, salt: u64, outs: &mut Outs) -> Result<(), NoMemory>
+    requires { at < 10 ^ 15 }
+    ensures { OnOk result (Goes (run.rebound at salt iface.old) iface.new (asked_in outs.old) (asked_in outs.new)) }
 {
     if iface.up {
-        begin(iface, at);
+        rebind_machines(iface, at, salt, outs)
+    } else {
+        Ok(())
+    }
+}
+
+/// Whether the server of a held lease is told at a stop.
+fn told_at_stop(conf: &IfConf) -> Tell
+    ensures { result ≡ run.told_at_stop conf.now }
+{
+    if conf.release {
+        Tell::Server
+    } else {
+        Tell::Nobody
     }
 }
 
 /// Nothing is in force after a stop.
-pub fn halt(iface: &mut Iface, outs: &mut Outs) -> Result<(), NoMemory>
-    ensures { OnOk result (Goes (run.halted iface.old) iface.new (asked_in outs.old) (asked_in outs.new)) }
+pub fn halt(iface: &mut Iface, at: u64, salt: u64, outs: &mut Outs) -> Result<(), NoMemory>
+    requires { at < 10 ^ 15 }
+    ensures { OnOk result (Goes (run.halted at salt iface.old) iface.new (asked_in outs.old) (asked_in outs.new)) }
 {
     outs.tell(News::Stopped)?;
     iface.stopped = true;
-    switch_off(iface);
-    Ok(())
+    let tell = told_at_stop(&iface.managed.conf);
+    stop_machines(iface, tell, at, salt, outs)
 }
 
 /// The next moment at which a machine of the interface is due.
@@ -139,7 +195,19 @@ pub fn machine_due(iface: &Iface, machine: TimedMachine) -> Option<u64>
     ensures { result ≡ run.machine_due machine iface.now }
 {
     match machine {
+        TimedMachine::Dhcp4 => iface.dhcp4.due(),
         TimedMachine::LinkLocal => iface.local.due(),
+    }
+}
+
+/// The earlier of two moments, where there are any.
+pub fn earlier_of(a: Option<u64>, b: Option<u64>) -> Option<u64>
+    ensures { result ≡ earlier a b }
+{
+    match (a, b) {
+        (Some(a), Some(b)) => Some(a.min(b)),
+        (Some(a), None) => Some(a),
+        (None, b) => b,
     }
 }
 
@@ -147,7 +215,10 @@ pub fn machine_due(iface: &Iface, machine: TimedMachine) -> Option<u64>
 pub fn iface_due(iface: &Iface) -> Option<u64>
     ensures { result ≡ run.iface_due iface.now }
 {
-    machine_due(iface, TimedMachine::LinkLocal)
+    earlier_of(
+        machine_due(iface, TimedMachine::Dhcp4),
+        machine_due(iface, TimedMachine::LinkLocal),
+    )
 }
 
 /// The link-local address that the interface holds.
@@ -155,4 +226,12 @@ pub fn iface_held(iface: &Iface) -> Option<Ip4>
     ensures { result ≡ held_in iface.now.local.state }
 {
     ll_held(&iface.local)
+}
+
+/// The DHCPv4 lease that the interface holds.
+pub fn iface_lease(iface: &Iface) -> Option<&Lease4>
+    ensures value { option_map (λ lease. lease_content lease.now) result ≡ held_of iface.now.dhcp4 }
+    ensures fits { IfSome (option_map (λ lease. lease_content lease.now) result) FitsLease }
+{
+    held4(&iface.dhcp4)
 }

@@ -3,15 +3,17 @@
 //! `iface_open` at the start of a life, then `iface_turn` in each turn. Moments are in milliseconds since 1970.
 #![tactic(auto)]
 
+mod dhcp4;
 mod inputs;
 mod interfaces;
+mod local;
 mod outs;
 mod turns;
 
+pub use dhcp4::runs_dhcp4;
 pub use inputs::{Turn, TurnInput};
-pub use interfaces::{contains, iface_due, iface_held, iface_open, machine_due};
+pub use interfaces::{
+    contains, earlier_of, iface_due, iface_held, iface_lease, iface_open, machine_due,
+};
 pub use outs::{Outs, Sending};
 pub use turns::{iface_input, iface_tick, iface_turn, iface_unsent};
-
-#[cfg(test)]
-mod tests;

@@ -1,15 +1,21 @@
+//! What a turn asks of the outside, and what is new in it.
 ghost use Rattle.std.specs.Prelude.{◌≡◌, [], ◌∷◌, IfOk, OnOk, map, option_to_list};
-ghost use Rattle.client_model.specs.declared.steps.Said.TheVariants.{Arp};
+ghost use Rattle.v4_message.specs.Requests.{AskFits, ask_content};
+ghost use Rattle.client_model.specs.declared.steps.Said.TheVariants.{Arp, Dhcp4};
 ghost use Rattle.client_model.specs.LocalSteps.{local_news};
+ghost use Rattle.client_model.specs.Dhcp4Steps.{lease_news};
 ghost use Rattle.client_model.specs.Clients.{spelled};
-ghost use Rattle.iface_core.specs.Outcomes.{Offers, Tells, sending_of, asked_in};
+ghost use Rattle.iface_core.specs.Outcomes.{Offers, Tells, ask_in, sending_of, asked_in, spec_in};
 
 use arp_acd::ArpSay;
-use client_model::{News, Said};
+use client_model::{Iface, News, Said};
 use frame_link::arp_frame;
 use ipv4ll::LlNews;
 use net_types::{IfIndex, IfSpec, Ip4, NoMemory};
 use std::alloc::Global;
+use v4_client::{News4, Say4, ask4};
+use v4_frames::build4;
+use v4_message::Ask4;
 
 /// A frame that is offered on an interface.
 #[derive(Debug, Drop)]
@@ -26,9 +32,6 @@ pub struct Outs {
     pub news: Vec<News>,
 }
 
-/// A probe's sender (RFC 5227, section 2.1.1).
-const UNSPECIFIED: Ip4 = Ip4 { number: 0 };
-
 impl Outs {
     /// Nothing is asked, and nothing is new.
     pub fn new(alloc: Global) -> Outs
@@ -41,22 +44,32 @@ impl Outs {
         }
     }
 
-    /// Offers the frame of a message.
-    pub fn say(&mut self, spec: &IfSpec, message: Said) -> Result<(), NoMemory>
-        ensures { OnOk result (Offers (spelled spec.now message ∷ []) (asked_in self.old) (asked_in self.new)) }
+    /// Offers the frame of a message of the interface.
+    fn say(&mut self, iface: &Iface, message: Said) -> Result<(), NoMemory>
+        ensures { OnOk result (Offers (spelled (spec_in iface.now) (ask_in iface.now) message ∷ []) (asked_in self.old) (asked_in self.new)) }
     {
-        let sending = spell(self.alloc, spec, message)?;
+        let sending = spell(self.alloc, &iface.managed.spec, ask4(&iface.dhcp4), message)?;
         self.sends.push(sending)?;
         Ok(())
     }
 
-    /// Offers the frame of an ARP message, where there is one.
-    pub fn say_arp(&mut self, spec: &IfSpec, message: Option<ArpSay>) -> Result<(), NoMemory>
-        ensures { OnOk result (Offers (map (spelled spec.now) (map Arp (option_to_list message))) (asked_in self.old) (asked_in self.new)) }
+    /// Offers the frame of a DHCPv4 message, where there is one.
+    pub fn say_dhcp4(&mut self, iface: &Iface, message: Option<Say4>) -> Result<(), NoMemory>
+        ensures { OnOk result (Offers (map (spelled (spec_in iface.now) (ask_in iface.now)) (map Dhcp4 (option_to_list message))) (asked_in self.old) (asked_in self.new)) }
     {
         match message {
             None => Ok(()),
-            Some(message) => self.say(spec, Said::Arp(message)),
+            Some(message) => self.say(iface, Said::Dhcp4(message)),
+        }
+    }
+
+    /// Offers the frame of an ARP message, where there is one.
+    pub fn say_arp(&mut self, iface: &Iface, message: Option<ArpSay>) -> Result<(), NoMemory>
+        ensures { OnOk result (Offers (map (spelled (spec_in iface.now) (ask_in iface.now)) (map Arp (option_to_list message))) (asked_in self.old) (asked_in self.new)) }
+    {
+        match message {
+            None => Ok(()),
+            Some(message) => self.say(iface, Said::Arp(message)),
         }
     }
 
@@ -66,6 +79,22 @@ impl Outs {
     {
         self.news.push(news)?;
         Ok(())
+    }
+
+    /// Tells what has become of a DHCPv4 lease.
+    pub fn tell_lease(&mut self, news: News4) -> Result<(), NoMemory>
+        ensures { OnOk result (Tells (lease_news news) (asked_in self.old) (asked_in self.new)) }
+    {
+        match news {
+            News4::Nothing => Ok(()),
+            News4::Bound => self.tell(News::Lease4(News4::Bound)),
+            News4::Reboot => self.tell(News::Lease4(News4::Reboot)),
+            News4::Renew => self.tell(News::Lease4(News4::Renew)),
+            News4::Rebind => self.tell(News::Lease4(News4::Rebind)),
+            News4::Nak => self.tell(News::Lease4(News4::Nak)),
+            News4::Expire => self.tell(News::Lease4(News4::Expire)),
+            News4::Stop => self.tell(News::Lease4(News4::Stop)),
+        }
     }
 
     /// Tells what has become of a link-local address.
@@ -82,15 +111,19 @@ impl Outs {
 }
 
 /// The frame of a message.
-fn spell(alloc: Global, spec: &IfSpec, message: Said) -> Result<Sending, NoMemory>
-    ensures { IfOk result (λ sending. sending_of sending ≡ spelled spec.now message) }
+fn spell(alloc: Global, spec: &IfSpec, ask: &Ask4, message: Said) -> Result<Sending, NoMemory>
+    requires { AskFits (ask_content ask.now) }
+    ensures { IfOk result (λ sending. sending_of sending ≡ spelled spec.now (ask_content ask.now) message) }
 {
-    let frame = match message {
-        Said::Arp(ArpSay::Probe(addr)) => arp_frame(spec.mac, UNSPECIFIED, addr),
-        Said::Arp(ArpSay::Announce(addr)) => arp_frame(spec.mac, addr, addr),
+    let bytes = match message {
+        Said::Dhcp4(say) => build4(alloc, &say.sent(), ask)?,
+        Said::Arp(ArpSay::Probe(addr)) => {
+            arp_frame(spec.mac, Ip4::UNSPECIFIED, addr).to_vec(alloc)?
+        }
+        Said::Arp(ArpSay::Announce(addr)) => arp_frame(spec.mac, addr, addr).to_vec(alloc)?,
     };
     Ok(Sending {
         iface: spec.index,
-        bytes: frame.to_vec(alloc)?,
+        bytes,
     })
 }

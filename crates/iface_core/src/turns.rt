@@ -2,20 +2,24 @@ ghost use Rattle.std.specs.Prelude.{◌≡◌, ◌==◌, ◌<◌, ◌^◌, OnOk,
 ghost use Rattle.machine.specs.Moment.{is_due};
 ghost use Rattle.world.specs.Rows.{IsInterface};
 ghost use Rattle.client_model.specs.IfaceSteps.{index_of};
-ghost use Rattle.client_model.specs.LocalSteps.{local_hears};
+ghost use Rattle.v4_frames.specs.Heard.{heard4_in};
 ghost use Rattle.client_model.specs.Interfaces as run;
-ghost use Rattle.client_model.specs.IfaceTurns.{arp_heard, hears, iface_turned};
+ghost use Rattle.client_model.specs.IfaceTurns.{arp_heard, hears, hears_message, hears_packet, iface_turned};
 ghost use Rattle.iface_core.specs.Inputs.{input_of, turn_of};
 ghost use Rattle.iface_core.specs.Outcomes.{Goes, asked_in};
 
+use crate::dhcp4::{hear_message, hear_packet, tick_dhcp4};
 use crate::inputs::{Turn, TurnInput};
 use crate::interfaces::{carry, contains, halt, machine_due, rebind, release};
+use crate::local::{hear_local, tick_local};
 use crate::outs::Outs;
 use client_model::{Iface, TimedMachine};
 use frame_link::{ArpView, arp_of, eth_of};
-use ipv4ll::{ll_heard, ll_unsent};
-use machine::{Machine, has_come};
+use ipv4ll::ll_unsent;
+use machine::has_come;
 use net_types::{Mac, NoMemory};
+use v4_client::unsent4;
+use v4_frames::heard4_of;
 
 /// The kind of an Ethernet frame that carries ARP (RFC 826).
 const ARP_KIND: u16 = 0x0806;
@@ -25,6 +29,7 @@ pub fn iface_unsent(iface: &mut Iface, at: u64, salt: u64)
     requires { at < 10 ^ 15 }
     ensures { iface.new ≡ run.restarted at salt iface.old }
 {
+    unsent4(&mut iface.dhcp4, at, salt);
     ll_unsent(&mut iface.local, at, salt);
 }
 
@@ -41,11 +46,8 @@ pub fn iface_tick(
     ensures { OnOk result (Goes (run.machine_ticked machine at salt iface.old) iface.new (asked_in outs.old) (asked_in outs.new)) }
 {
     match machine {
-        TimedMachine::LinkLocal => {
-            let out = iface.local.tick(at, salt);
-            outs.say_arp(&iface.managed.spec, out.arp)?;
-            outs.tell_local(out.news)
-        }
+        TimedMachine::Dhcp4 => tick_dhcp4(iface, at, salt, outs),
+        TimedMachine::LinkLocal => tick_local(iface, at, salt, outs),
     }
 }
 
@@ -86,14 +88,15 @@ pub fn iface_input(
             bytes,
         } if is_numbered(iface, index) => hear(iface, bytes, turn, own, outs),
         TurnInput::Carrier { iface: index, up } if is_numbered(iface, index) => {
-            carry(iface, up, turn.at, outs)
+            carry(iface, up, turn.at, turn.salt, outs)
         }
-        TurnInput::Release { iface: index } if is_numbered(iface, index) => release(iface, outs),
+        TurnInput::Release { iface: index } if is_numbered(iface, index) => {
+            release(iface, turn.at, turn.salt, outs)
+        }
         TurnInput::Rebind { iface: index } if is_numbered(iface, index) => {
-            rebind(iface, turn.at);
-            Ok(())
+            rebind(iface, turn.at, turn.salt, outs)
         }
-        TurnInput::Stop => halt(iface, outs),
+        TurnInput::Stop => halt(iface, turn.at, turn.salt, outs),
         TurnInput::Frame { .. } => Ok(()),
         TurnInput::Carrier { .. } => Ok(()),
         TurnInput::Duplicate { .. } => Ok(()),
@@ -109,7 +112,38 @@ fn is_numbered(iface: &Iface, number: u32) -> bool
     iface.managed.spec.index.number == number
 }
 
-/// Hears a frame, of any destination.
+/// Both machines hear an ARP packet.
+fn hear_arp(
+    iface: &mut Iface,
+    arp: &ArpView,
+    turn: &Turn<'_>,
+    own: &[Mac],
+    outs: &mut Outs,
+) -> Result<(), NoMemory>
+    requires { turn.now.at < 10 ^ 15 }
+    ensures { OnOk result (Goes (hears_packet own.now turn.now.at turn.now.salt arp.now iface.old) iface.new (asked_in outs.old) (asked_in outs.new)) }
+{
+    hear_packet(iface, arp, turn.at, turn.salt, own, outs)?;
+    hear_local(iface, arp, turn.at, turn.salt, own, outs)
+}
+
+/// A server's message, where the frame has one for the interface.
+fn hear_dhcp4(
+    iface: &mut Iface,
+    bytes: &[u8],
+    turn: &Turn<'_>,
+    outs: &mut Outs,
+) -> Result<(), NoMemory>
+    requires { turn.now.at < 10 ^ 15 }
+    ensures { OnOk result (Goes (hears_message turn.now.at turn.now.salt (heard4_in iface.old.managed.spec.mac bytes.now) iface.old) iface.new (asked_in outs.old) (asked_in outs.new)) }
+{
+    match heard4_of(iface.managed.spec.mac, bytes) {
+        None => Ok(()),
+        Some(heard) => hear_message(iface, &heard, turn.at, turn.salt, outs),
+    }
+}
+
+/// Hears a frame: an ARP packet of any destination, or a server's message.
 fn hear(
     iface: &mut Iface,
     bytes: &[u8],
@@ -121,12 +155,8 @@ fn hear(
     ensures { OnOk result (Goes (hears own.now turn.now.at turn.now.salt bytes.now iface.old) iface.new (asked_in outs.old) (asked_in outs.new)) }
 {
     match arp_in_frame(bytes) {
-        None => Ok(()),
-        Some(arp) => {
-            let out = ll_heard(&mut iface.local, &arp, turn.at, turn.salt, own);
-            outs.say_arp(&iface.managed.spec, out.arp)?;
-            outs.tell_local(out.news)
-        }
+        Some(arp) => hear_arp(iface, &arp, turn, own, outs),
+        None => hear_dhcp4(iface, bytes, turn, outs),
     }
 }
 
@@ -152,6 +182,15 @@ fn restart(iface: &mut Iface, turn: &Turn<'_>)
     }
 }
 
+/// The ticks of the machines that are due, in order.
+fn tick_machines(iface: &mut Iface, turn: &Turn<'_>, outs: &mut Outs) -> Result<(), NoMemory>
+    requires { turn.now.at < 10 ^ 15 }
+    ensures { OnOk result (Goes (run.ticked turn.now.at turn.now.salt iface.old) iface.new (asked_in outs.old) (asked_in outs.new)) }
+{
+    tick_if_due(iface, TimedMachine::Dhcp4, turn, outs)?;
+    tick_if_due(iface, TimedMachine::LinkLocal, turn, outs)
+}
+
 /// A turn of an interface: a failed send of the turn before, the ticks of its machines, then the input.
 pub fn iface_turn(
     iface: &mut Iface,
@@ -164,6 +203,6 @@ pub fn iface_turn(
     ensures { OnOk result (Goes (iface_turned own.now (turn_of turn.now) iface.old) iface.new (asked_in outs.old) (asked_in outs.new)) }
 {
     restart(iface, turn);
-    tick_if_due(iface, TimedMachine::LinkLocal, turn, outs)?;
+    tick_machines(iface, turn, outs)?;
     iface_input(iface, turn, own, outs)
 }

@@ -70,6 +70,9 @@ bytes_of_names : (removed : List Cleared) → map (λ (c : Cleared). string_byte
 bytes_of_names [] = refl
 bytes_of_names (c ∷ removed) = ap (λ (more : List (List ℕ)). string_bytes c.name ∷ more) (bytes_of_names removed)
 
+pub named_bytes : (removed : List Cleared) (names : List (String Global)) → names_of removed ≡ names → map (λ (c : Cleared). string_bytes c.name) removed ≡ map string_bytes names
+named_bytes removed names is = bytes_of_names removed ∙ ap (map string_bytes) is
+
 pub names_told : (told : Option StoreTold) (removed : List Cleared) (names : List (String Global)) → names_of removed ≡ names
     → IfSome told (λ t. map string_bytes names ≡ asides t.files) → IfSome told (λ t. map (λ c. string_bytes c.name) removed ≡ asides t.files)
 names_told None removed names is listed = tt

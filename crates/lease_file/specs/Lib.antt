@@ -3,3 +3,7 @@ pub mod AsideFiles
 pub mod FileReads
 pub mod Quiet
 pub mod ToldStore
+pub mod StoreAnswers
+pub mod Saving
+pub mod WholeFiles
+pub mod FileLaws

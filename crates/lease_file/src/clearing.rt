@@ -7,6 +7,7 @@ ghost use Rattle.world.specs.FileLists.{asides};
 ghost use Rattle.lease_file.specs.Quiet.{IsQuiet};
 ghost use Rattle.lease_file.specs.ToldStore.{told_files, told_calls, with_calls};
 ghost use Rattle.lease_file.specs.AsideCalls.{HasListingCause, HasClearingCause, IsListingForetold, TellsRefusal, SettlesIfAny, FailsNothing, any_left, removal_calls, cleared_calls, listing_calls};
+ghost use Rattle.lease_file.specs.StoreAnswers.{Answered};
 ghost use Rattle.lease_file.specs.AsideFiles.{without_one, without, TakesFile, TakesFiles};
 
 use crate::faults::{SaveFault, SaveStep};
@@ -39,6 +40,7 @@ fn list_asides<S: Store>(alloc: Global, store: &mut S) -> Result<Vec<String>, Sa
     ensures names { IfOk result (λ names. IfSome (S.told store.old) (λ told. map string_bytes names.items ≡ asides told.files)) }
     ensures calls { IfOk result (λ names. told_calls (S.told store.new) ≡ with_calls (listing_calls (map string_bytes names.items)) (told_calls (S.told store.old))) }
     ensures files { told_files (S.told store.new) ≡ told_files (S.told store.old) }
+    ensures answered { IfOk result (λ names. Answered (S.failing store.old) (listing_calls (map string_bytes names.items)) (S.told store.old) (S.told store.new)) }
 {
     let mut names = Vec::new(alloc);
     match store.list_asides(&mut names) {
@@ -56,6 +58,7 @@ fn remove_aside<S: Store>(store: &mut S, name: &str) -> Result<bool, NoMemory>
     ensures calls { IfOk result (λ done. told_calls (S.told store.new) ≡ with_calls (RemovedFile name.now done ∷ []) (told_calls (S.told store.old))) }
     ensures taken { IfOk result (λ done. TakesFile (S.failing store.old) done name.now (told_files (S.told store.old)) (told_files (S.told store.new))) }
     ensures files { IfOk result (λ done. IsSome (S.failing store.old) → told_files (S.told store.new) ≡ option_map (without_one done name.now) (told_files (S.told store.old))) }
+    ensures answered { IfOk result (λ done. Answered (S.failing store.old) (RemovedFile name.now done ∷ []) (S.told store.old) (S.told store.new)) }
 {
     match store.remove(name) {
         Ok(()) => Ok(true),
@@ -77,6 +80,7 @@ fn remove_asides<S: Store>(
     ensures calls { IfOk result (λ removed. told_calls (S.told store.new) ≡ with_calls (removal_calls removed.items) (told_calls (S.told store.old))) }
     ensures taken { IfOk result (λ removed. TakesFiles (S.failing store.old) removed.items (told_files (S.told store.old)) (told_files (S.told store.new))) }
     ensures files { IfOk result (λ removed. IsSome (S.failing store.old) → told_files (S.told store.new) ≡ option_map (without removed.items) (told_files (S.told store.old))) }
+    ensures answered { IfOk result (λ removed. Answered (S.failing store.old) (removal_calls removed.items) (S.told store.old) (S.told store.new)) }
 {
     let mut removed = Vec::new(alloc);
     for name in names {
@@ -92,6 +96,7 @@ fn settle<S: Store>(store: &mut S) -> Result<bool, NoMemory>
     ensures cause { IfOk result (λ done. done ≡ false → S.faults store.old < S.faults store.new) }
     ensures calls { IfOk result (λ done. told_calls (S.told store.new) ≡ with_calls (SettledFiles done ∷ []) (told_calls (S.told store.old))) }
     ensures files { told_files (S.told store.new) ≡ told_files (S.told store.old) }
+    ensures answered { IfOk result (λ done. Answered (S.failing store.old) (SettledFiles done ∷ []) (S.told store.old) (S.told store.new)) }
 {
     match store.settle() {
         Ok(()) => Ok(true),
@@ -114,6 +119,7 @@ pub fn clear_asides<S: Store>(alloc: Global, store: &mut S) -> Result<Clearing, 
     ensures calls { IfOk result (λ clearing. told_calls (S.told store.new) ≡ with_calls (cleared_calls clearing) (told_calls (S.told store.old))) }
     ensures taken { IfOk result (λ clearing. TakesFiles (S.failing store.old) clearing.removed.items (told_files (S.told store.old)) (told_files (S.told store.new))) }
     ensures files { IfOk result (λ clearing. IsSome (S.failing store.old) → told_files (S.told store.new) ≡ option_map (without clearing.removed.items) (told_files (S.told store.old))) }
+    ensures answered { IfOk result (λ clearing. Answered (S.failing store.old) (cleared_calls clearing) (S.told store.old) (S.told store.new)) }
 {
     let names = list_asides(alloc, store)?;
     if names.is_empty() {

@@ -1,6 +1,6 @@
 ghost use Rattle.std.specs.Prelude.{None};
 
-use crate::{Got, clear_asides, read_files};
+use crate::{clear_asides, read_files, remove, save};
 use std::alloc::Global;
 use std::test::Fail;
 use world::{DeviceAnswer, Store};
@@ -54,19 +54,18 @@ impl Store for OneAside {
 }
 
 #[test]
-fn an_opening_clears_and_reads(rt: HostRuntime) -> Result<(), Fail> {
+fn each_call_succeeds(rt: HostRuntime) -> Result<(), Fail> {
     let mut store = OneAside { alloc: rt.alloc() };
     let Ok(clearing) = clear_asides(rt.alloc(), &mut store) else {
         return Err("not cleared".into());
     };
-    let [cleared] = clearing.removed.as_slice() else {
-        return Err("not one aside".into());
-    };
-    assert_eq!(rt; cleared.name.as_str(), "resolv.conf.new");
-    assert!(rt; cleared.ok);
-    assert_eq!(rt; clearing.settled, Some(true));
-    let gots = read_files(rt.alloc(), &mut store, &["resolv.conf", "eth0.lease"])?;
-    assert_eq!(rt; gots.len(), 2);
-    assert!(rt; gots.iter().all(|got| matches!(got, Got::Missing)));
+    assert_eq!(rt; clearing.removed.len(), 1);
+    let gots = read_files(rt.alloc(), &mut store, &["resolv.conf"])?;
+    assert_eq!(rt; gots.len(), 1);
+    assert_eq!(rt;
+        save(&mut store, "resolv.conf", b"nameserver 10.0.0.1\n"),
+        Ok(())
+    );
+    assert_eq!(rt; remove(&mut store, "resolv.conf"), Ok(()));
     Ok(())
 }

@@ -1,0 +1,4 @@
+pub mod LineReads
+pub mod ReadingLaws
+pub mod SpelledOnce
+pub mod BackLaws

@@ -1,17 +1,19 @@
 -- The bounds within which a lease has a text.
-use Rattle.std.specs.Prelude.{◌≡◌, ℕ, ◌≤◌, ◌<◌, ◌^◌, true, List, [], ◌∷◌, length}
+use Rattle.std.specs.Prelude.{◌≡◌, ℕ, ◌≤◌, ◌<◌, true, List, [], ◌∷◌, length}
 use Rattle.std.specs.List.{AllByRecursion}
+use Rattle.net_types.specs.AddressText.{FitsIp4, FitsMac}
+use Rattle.net_types.specs.Marks.{AreBytes}
 use Rattle.net_types.specs.NameText.{FitsName}
 use Rattle.lease_text.specs.declared.lease.Terms4.{Terms4}
-use Rattle.lease_text.specs.declared.lease.TheConstants.{INFINITE_LEASE, VALUE_LIMIT}
+use Rattle.lease_text.specs.declared.lease.TheConstants.{INFINITE_LEASE, LONGEST_PREFIX, MOMENT_LIMIT, VALUE_LIMIT}
 use Rattle.lease_text.specs.Leases.{ValueContent, LeaseContent, terms_of, is_host_address}
 use Rattle.lease_text.specs.ValueForms.{is_kept, is_well_formed}
 
 -- the times of an infinite lease are infinite too
 pub record FitsTerms (terms : Terms4) : Type 0 where
   pub address : is_host_address terms.net.ip ≡ true
-  pub len : terms.net.len ≤ 32
-  pub first : terms.first < 10 ^ 15
+  pub len : terms.net.len ≤ LONGEST_PREFIX
+  pub first : terms.first < MOMENT_LIMIT
   pub lease : 1 ≤ terms.lease
   pub renews : terms.t1 ≤ terms.t2
   pub rebinds : terms.t2 ≤ terms.lease
@@ -36,3 +38,14 @@ pub record FitsLease (lease : LeaseContent) : Type 0 where
   pub name : FitsName lease.name
   pub terms : FitsTerms (terms_of lease)
   pub values : FitsValues lease.values
+
+-- its numbers and bytes are within the types that hold them, as those of every lease in memory are
+pub record IsTyped (lease : LeaseContent) : Type 0 where
+  pub server : FitsIp4 lease.server
+  pub server_mac : FitsMac lease.server_mac
+  pub time : lease.lease ≤ INFINITE_LEASE
+  pub values : AllByRecursion (λ value. AreBytes value.bytes) lease.values
+
+pub record HasText (lease : LeaseContent) : Type 0 where
+  pub fits : FitsLease lease
+  pub typed : IsTyped lease

@@ -8,6 +8,10 @@ use std::alloc::{AllocError, Global};
 
 /// The lease time of a lease that never ends (RFC 2131, section 3.3).
 pub const INFINITE_LEASE: u32 = 0xffff_ffff;
+/// One more than the latest moment of a lease, in milliseconds since 1970.
+pub const MOMENT_LIMIT: u64 = 1_000_000_000_000_000;
+/// The length of a network of one address.
+pub const LONGEST_PREFIX: u8 = 32;
 /// The most bytes of a value that is kept.
 pub const VALUE_LIMIT: usize = 2048;
 

@@ -4,10 +4,21 @@
 #![tactic(auto)]
 
 mod form;
+mod laws;
 mod lease;
+mod printing;
+mod reading;
+mod typed;
 
 pub use form::{KEPT_CODES, ValueForm, form_of, is_kept, is_well_formed};
-pub use lease::{INFINITE_LEASE, Lease4, Terms4, VALUE_LIMIT, Value, is_host_address};
+pub use laws::leases_are_read_back;
+pub use lease::{
+    INFINITE_LEASE, LONGEST_PREFIX, Lease4, MOMENT_LIMIT, Terms4, VALUE_LIMIT, Value,
+    is_host_address,
+};
+pub use printing::print4;
+pub use reading::read_lease4;
+pub use typed::lease_is_typed;
 
 #[cfg(test)]
 mod tests;

@@ -1,4 +1,6 @@
+pub mod Addresses
 pub mod Announced
+pub mod Moves
 pub mod Phases
 pub mod Ticks
 pub mod Weakening

@@ -1,28 +1,21 @@
 -- What conflict detection carries of the turns shown, phase by phase.
-use Rattle.std.proofs.Common.{◌≡◌, ℕ, zero, suc, ◌+◌, ◌<◌, ◌≤◌, true, false, List, [], ◌∷◌, ◌++◌, Option, Some, None, inl, inr, ◌⊎◌, refl, sym, ap, subst, ◌∙◌, add-one, arith, append_assoc}
-use Rattle.std.proofs.lemmas.Slice.Eq.{bytes_eq-Decides}
-use Rattle.std.specs.Prelude.{MatchOption, bytes_eq}
+use Rattle.std.proofs.Common.{◌≡◌, ℕ, ◌+◌, ◌≤◌, true, false, List, [], ◌∷◌, ◌++◌, Option, Some, None, inl, inr, ◌⊎◌, refl, sym, ap, subst, ◌∙◌, arith, append_assoc}
+use Rattle.std.specs.Prelude.{MatchOption}
 use Rattle.std.specs.List.{AllByRecursion}
-use Rattle.machine.proofs.Entries.{since-map}
 use Rattle.net_types.proofs.AllLaws.{all_map, all_join}
 use Rattle.net_types.specs.declared.address.Ip4.{Ip4}
-use Rattle.net_types.specs.declared.interface.IfIndex.{IfIndex}
 use Rattle.net_types.specs.AddressText.{FitsIp4}
-use Rattle.frame_link.specs.Packets.{probe_text}
-use Rattle.arp_acd.specs.declared.detection.ArpSay.TheVariants.{Probe, Announce}
 use Rattle.arp_acd.specs.declared.detection.Phase.{Phase}
 use Rattle.arp_acd.specs.declared.detection.Phase.TheVariants.{Probing, Announcing, Held, Over}
-use Rattle.arp_acd.specs.Table as detection
-use Rattle.arp_acd.proofs.Standing.{wait_after, waits, one_second}
 use Rattle.ipv4ll.specs.Choice.{IsChoice}
-use Rattle.evidence_words.specs.Entries.{Entry, Offer}
+use Rattle.evidence_words.specs.Entries.{Entry}
 use Rattle.client_model.specs.declared.steps.Said.{Said}
-use Rattle.client_model.specs.declared.steps.Said.TheVariants.{Arp}
+use Rattle.client_model.specs.ClientSettings.{ask_of}
 use Rattle.evidence_words.specs.Inputs.{Site, offers_at, uses, contests}
-use Rattle.evidence_words.specs.Probed.{TurnWord, AsProbe, probe_taken, Probes, EachAfter, Probed}
+use Rattle.evidence_words.specs.Probed.{TurnWord, Probes, Probed}
 use Rattle.local_evidence.specs.LinkLocalBasis.{IsAlone, UsesApart}
 use Rattle.evidence_words.proofs.Offers.{Offered}
-use Rattle.local_evidence.proofs.Announced.{alone}
+use Rattle.local_evidence.proofs.Announced.{AnnouncesNone, AnnouncesOnly, none_only, alone}
 use Rattle.evidence_words.proofs.Probing.{ProbesOf}
 
 module _ (C : TurnWord) (site : Site) (addr : Ip4) where
@@ -51,10 +44,10 @@ module _ (C : TurnWord) (site : Site) (addr : Ip4) where
   -- what a phase carries within a turn, after its tick: what was said is known, and what the input does isn't yet
   abbrev pub Amid : (clean : Type 0) → Entry → List Said → List Entry → Phase → Type 0
   Amid clean e said past (Probing n due) =
-      (n ≤ 3) × ((more : List Said) → Offered site.managed.spec clean (said ++ more) (offers_at site e) → clean → C e past
+      (n ≤ 3) × ((more : List Said) → Offered site.managed.spec (ask_of site.managed) clean (said ++ more) (offers_at site e) → clean → C e past
       → contests site addr e ≡ false → ProbesOf C site addr n due (e ∷ past))
-  Amid clean e said past (Announcing due last) = AllByRecursion (λ say. say ≡ Arp (Announce addr)) said × HeldBefore last e past
-  Amid clean e said past (Held last) = AllByRecursion (λ say. say ≡ Arp (Announce addr)) said × HeldBefore last e past
+  Amid clean e said past (Announcing due last) = AllByRecursion (AnnouncesOnly site.managed.spec.mac addr) said × HeldBefore last e past
+  Amid clean e said past (Held last) = AllByRecursion (AnnouncesOnly site.managed.spec.mac addr) said × HeldBefore last e past
   Amid clean e said past Over = Unit {0}
 
   -- what holds before the turns since the fourth one
@@ -127,16 +120,33 @@ module _ (C : TurnWord) (site : Site) (addr : Ip4) where
   choice_fits : IsChoice addr → FitsIp4 addr
   choice_fits c = let most : addr.number ≤ 0xa9fe_feff = c.at_most in omega arith
 
-  pub is_alone : (clean : Type 0) (e : Entry) (said : List Said) → IsChoice addr → AllByRecursion (λ say. say ≡ Arp (Announce addr)) said
-      → Offered site.managed.spec clean said (offers_at site e) → IsAlone site addr e
-  is_alone clean e said c all h = alone site addr clean (choice_fits c) said (offers_at site e) all h
+  pub is_alone : (clean : Type 0) (e : Entry) (said : List Said) → IsChoice addr → AllByRecursion (AnnouncesOnly site.managed.spec.mac addr) said
+      → Offered site.managed.spec (ask_of site.managed) clean said (offers_at site e) → IsAlone site addr e
+  is_alone clean e said c all h = alone site addr (choice_fits c) clean said (offers_at site e) all h
 
   pub quiet : (clean : Type 0) (e : Entry) (said : List Said) (past : List Entry) (phase : Phase) → IsChoice addr
       → Amid clean e said past phase → C e past → contests site addr e ≡ false → uses site addr e ≡ false
-      → Offered site.managed.spec clean (said ++ []) (offers_at site e) → Carries clean phase (e ∷ past)
+      → Offered site.managed.spec (ask_of site.managed) clean (said ++ []) (offers_at site e) → Carries clean phase (e ∷ past)
   quiet clean e said past (Probing n due) c m stays calm none h = (m.0, λ k. m.1 [] h k stays calm)
   quiet clean e said past (Announcing due last) c m stays calm none h =
       unused last e past m.1 stays (is_alone clean e (said ++ []) c (all_join _ said [] m.0 tt) h) none
   quiet clean e said past (Held last) c m stays calm none h =
       unused last e past m.1 stays (is_alone clean e (said ++ []) c (all_join _ said [] m.0 tt) h) none
   quiet clean e said past Over c m stays calm none h = tt
+
+  -- ---- more that is said, which announces nothing
+
+  pub only_so : (said : List Said) → AllByRecursion (AnnouncesNone site.managed.spec.mac) said → AllByRecursion (AnnouncesOnly site.managed.spec.mac addr) said
+  only_so said none = none_only site.managed.spec.mac addr said none
+
+  pub amid_more : (clean : Type 0) (e : Entry) (said more : List Said) (past : List Entry) (phase : Phase)
+      → AllByRecursion (AnnouncesNone site.managed.spec.mac) more → Amid clean e said past phase → Amid clean e (said ++ more) past phase
+  amid_more clean e said more past (Probing n due) none m = (
+    m.0,
+    λ rest h k stays calm.
+        m.1 (more ++ rest) (subst (λ (all : List Said). Offered site.managed.spec (ask_of site.managed) clean all (offers_at site e)) (append_assoc said more rest) h)
+        k stays calm,
+  )
+  amid_more clean e said more past (Announcing due last) none m = (all_join _ said more m.0 (only_so more none), m.1)
+  amid_more clean e said more past (Held last) none m = (all_join _ said more m.0 (only_so more none), m.1)
+  amid_more clean e said more past Over none m = tt

@@ -2,6 +2,7 @@
 use Rattle.std.proofs.Common.{◌≡◌, ℕ, ◌+◌, ◌-◌, ◌≤◌, true, false, List, [], ◌∷◌, ◌++◌, Option, Some, None, nat_le, nat_lt, inl, inr, refl, ◌∙◌, ap, arith, lit≤, zero, suc}
 use Rattle.std.proofs.lemmas.Bool.Decides.{nat_tests}
 use Rattle.std.specs.Prelude.{option_to_list, map}
+use Rattle.std.specs.List.{AllByRecursion}
 use Rattle.net_types.proofs.AllLaws.{all_join}
 use Rattle.net_types.proofs.CaseLaws.{split, gated}
 use Rattle.net_types.specs.declared.address.Ip4.{Ip4}
@@ -20,14 +21,16 @@ use Rattle.ipv4ll.specs.declared.link_local.LlNews.TheVariants.{Nothing}
 use Rattle.ipv4ll.specs.Choice.{IsChoice}
 use Rattle.ipv4ll.specs.Table.{chooses, LlStep, moves, tells, choosing, after_conflict, one_more, said_row, tick_row, ll_tick, ll_hears, ll_restarts}
 use Rattle.ipv4ll.proofs.Chosen.{choice_in_range}
+use Rattle.client_model.specs.ClientSettings.{ask_of}
 use Rattle.client_model.specs.declared.steps.Said.{Said}
 use Rattle.client_model.specs.declared.steps.Said.TheVariants.{Arp}
 use Rattle.evidence_words.specs.Entries.{Entry}
 use Rattle.evidence_words.specs.Probed.{TurnWord}
 use Rattle.evidence_words.specs.Inputs.{Site, index_at, offers_at, arp_on, tells_use, tells_contest}
 use Rattle.evidence_words.proofs.Offers.{Offered}
-use Rattle.evidence_words.proofs.Probing.{probe_offered, probe_said, probes-on, three_said}
-use Rattle.local_evidence.proofs.Phases.{HeldSince, Carries, Amid, unused, used, is_alone, quiet}
+use Rattle.evidence_words.proofs.Probing.{probe_among, probe_said, probes-on, three_said}
+use Rattle.local_evidence.proofs.Announced.{AnnouncesNone, AnnouncesOnly}
+use Rattle.local_evidence.proofs.Phases.{HeldSince, Carries, Amid, unused, used, is_alone, quiet, only_so, amid_more}
 
 -- after a turn
 abbrev pub Bears : TurnWord → Site → (clean : Type 0) → State → List Entry → Type 0
@@ -46,9 +49,21 @@ BearsAmid C site clean e said past (Waiting conflicts due) = Unit {0}
 abbrev pub at_state : IfIndex → State → LinkLocal
 at_state iface state = record { iface = iface; state = state }
 
-module _ (C : TurnWord) (site : Site) (clean : Type 0) (e : Entry) (past : List Entry) (salt : ℕ) where
+-- what was said before its tick announces nothing, where an address is chosen
+abbrev pub Unsaid : Site → State → List Said → Type 0
+Unsaid site Off said = Unit {0}
+Unsaid site (Armed due waits fallback) said = Unit {0}
+Unsaid site (Chosen conflicts acd) said = AllByRecursion (AnnouncesNone site.managed.spec.mac) said
+Unsaid site (Waiting conflicts due) said = Unit {0}
+
+-- ---- the tick, after what DHCPv4 said
+
+module _ (C : TurnWord) (site : Site) (clean : Type 0) (e : Entry) (past : List Entry) (salt : ℕ) (front : List Said) where
   abbrev AfterTick : LlStep → Type 0
-  AfterTick step = BearsAmid C site clean e (map Arp (option_to_list step.out.arp)) past step.ll.state
+  AfterTick step = BearsAmid C site clean e (front ++ map Arp (option_to_list step.out.arp)) past step.ll.state
+
+  abbrev Silent : Type 0
+  Silent = AllByRecursion (AnnouncesNone site.managed.spec.mac) front
 
   one_more_probe : (n : ℕ) → nat_lt n 3 ≡ true → n + 1 ≤ 3
   one_more_probe n h = grind (arith, nat_tests)
@@ -56,12 +71,18 @@ module _ (C : TurnWord) (site : Site) (clean : Type 0) (e : Entry) (past : List 
   three : (n : ℕ) → n ≤ 3 → nat_lt n 3 ≡ false → n ≡ 3
   three n le h = grind (arith, nat_tests)
 
-  choosing_amid : (iface : IfIndex) (conflicts : ℕ) → BearsAmid C site clean e [] past (choosing iface conflicts e.moment salt)
+  choosing_amid : (iface : IfIndex) (conflicts : ℕ) → BearsAmid C site clean e (front ++ []) past (choosing iface conflicts e.moment salt)
   choosing_amid iface conflicts = (choice_in_range iface conflicts salt, (lit≤ tt, λ more h k stays calm. tt))
 
-  tick_chosen : (iface i : IfIndex) (conflicts : ℕ) (addr : Ip4) (phase : Phase) → IsChoice addr → Carries C site addr (Unit {0}) phase past
+  only_front : (addr : Ip4) → Silent → AllByRecursion (AnnouncesOnly site.managed.spec.mac addr) (front ++ [])
+  only_front addr none = all_join _ front [] (only_so C site addr front none) tt
+
+  and_itself : (addr : Ip4) → Silent → AllByRecursion (AnnouncesOnly site.managed.spec.mac addr) (front ++ Arp (Announce addr) ∷ [])
+  and_itself addr none = all_join _ front (Arp (Announce addr) ∷ []) (only_so C site addr front none) (refl, tt)
+
+  tick_chosen : (iface i : IfIndex) (conflicts : ℕ) (addr : Ip4) (phase : Phase) → IsChoice addr → Silent → Carries C site addr (Unit {0}) phase past
       → AfterTick (ll_tick (at_state iface (Chosen conflicts (mk i addr phase))) e.moment salt)
-  tick_chosen iface i conflicts addr (Probing n due) r c =
+  tick_chosen iface i conflicts addr (Probing n due) r none c =
       split (nat_le due e.moment)
       (λ come. rw come (split (nat_lt n 3)
       (λ few. rw few (
@@ -70,29 +91,39 @@ module _ (C : TurnWord) (site : Site) (clean : Type 0) (e : Entry) (past : List 
           one_more_probe n few,
           λ more h k stays calm.
               probe_said C site addr i n due salt e past (test-lt n 3 few) (test-le due e.moment come) (c.1 tt) stays calm
-              (probe_offered C site addr clean more (offers_at site e) h k),
+              (probe_among C site addr clean front more (offers_at site e) h k),
         ),
       ))
-      (λ all. rw all (r, ((refl, tt), inr (refl, three_said C site addr n due e past (three n c.0 all) (test-le due e.moment come) (c.1 tt)))))))
+      (λ all. rw all (r, (and_itself addr none, inr (refl, three_said C site addr n due e past (three n c.0 all) (test-le due e.moment come) (c.1 tt)))))))
       (λ early. rw early (r, (c.0, λ more h k stays calm. probes-on C site addr n _ due e past stays calm (c.1 tt))))
-  tick_chosen iface i conflicts addr (Announcing due last) r c =
+  tick_chosen iface i conflicts addr (Announcing due last) r none c =
       split (nat_le due e.moment)
-      (λ come. rw come (r, ((refl, tt), inl c)))
-      (λ early. rw early (r, (tt, inl c)))
-  tick_chosen iface i conflicts addr (Held last) r c = (r, (tt, inl c))
-  tick_chosen iface i conflicts addr Over r c = (r, tt)
+      (λ come. rw come (r, (and_itself addr none, inl c)))
+      (λ early. rw early (r, (only_front addr none, inl c)))
+  tick_chosen iface i conflicts addr (Held last) r none c = (r, (only_front addr none, inl c))
+  tick_chosen iface i conflicts addr Over r none c = (r, tt)
 
-  pub tick_amid : (iface : IfIndex) (state : State) → Bears C site (Unit {0}) state past → AfterTick (ll_tick (at_state iface state) e.moment salt)
-  tick_amid iface Off b = tt
-  tick_amid iface (Armed due waits fallback) b =
+  pub tick_amid : (iface : IfIndex) (state : State) → Unsaid site state front → Bears C site (Unit {0}) state past
+      → AfterTick (ll_tick (at_state iface state) e.moment salt)
+  tick_amid iface Off none b = tt
+  tick_amid iface (Armed due waits fallback) none b =
       gated AfterTick (nat_le due e.moment) (tick_row iface (Armed due waits fallback) e.moment salt)
       (moves iface (Armed due waits fallback) (tells Nothing))
-      (gated (BearsAmid C site clean e [] past) (chooses fallback) (choosing iface 0 e.moment salt) Off (choosing_amid iface 0) tt)
+      (gated (BearsAmid C site clean e (front ++ []) past) (chooses fallback) (choosing iface 0 e.moment salt) Off (choosing_amid iface 0) tt)
       tt
-  tick_amid iface (Chosen conflicts acd) b = tick_chosen iface acd.iface conflicts acd.addr acd.phase b.0 b.1
-  tick_amid iface (Waiting conflicts due) b =
+  tick_amid iface (Chosen conflicts acd) none b = tick_chosen iface acd.iface conflicts acd.addr acd.phase b.0 none b.1
+  tick_amid iface (Waiting conflicts due) none b =
       gated AfterTick (nat_le due e.moment) (tick_row iface (Waiting conflicts due) e.moment salt)
       (moves iface (Waiting conflicts due) (tells Nothing)) (choosing_amid iface conflicts) tt
+
+module _ (C : TurnWord) (site : Site) (clean : Type 0) (e : Entry) (past : List Entry) (salt : ℕ) where
+  -- DHCPv4 says more amid the turn
+  pub more_amid : (said more : List Said) (state : State) → Unsaid site state more → BearsAmid C site clean e said past state
+      → BearsAmid C site clean e (said ++ more) past state
+  more_amid said more Off none b = tt
+  more_amid said more (Armed due waits fallback) none b = tt
+  more_amid said more (Chosen conflicts acd) none b = (b.0, amid_more C site acd.addr clean e said more past acd.phase none b.1)
+  more_amid said more (Waiting conflicts due) none b = tt
 
   -- ---- the input
 
@@ -102,7 +133,7 @@ module _ (C : TurnWord) (site : Site) (clean : Type 0) (e : Entry) (past : List 
       (choice_in_range iface conflicts salt, (lit≤ tt, λ k. tt)) tt
 
   abbrev AfterInput : List Said → LlStep → Type 0
-  AfterInput said step = Offered site.managed.spec clean (said ++ map Arp (option_to_list step.out.arp)) (offers_at site e) → Bears C site clean step.ll.state (e ∷ past)
+  AfterInput said step = Offered site.managed.spec (ask_of site.managed) clean (said ++ map Arp (option_to_list step.out.arp)) (offers_at site e) → Bears C site clean step.ll.state (e ∷ past)
 
   -- a packet that uses the held address
   used_bears : (iface i : IfIndex) (conflicts : ℕ) (addr : Ip4) (phase : Phase) (said : List Said) (last : Option ℕ) (defended : Phase)
@@ -126,7 +157,7 @@ module _ (C : TurnWord) (site : Site) (clean : Type 0) (e : Entry) (past : List 
 
   held_hears : (addr : Ip4) (said : List Said) (last : Option ℕ) (arp : ArpView) → IsChoice addr
       → Amid C site addr clean e said past (Held last) → C e past → arp_on (index_at site) e.event e.bytes ≡ Some arp
-      → is_used site.own addr arp ≡ false → Offered site.managed.spec clean (said ++ []) (offers_at site e) → HeldSince C site addr last (e ∷ past)
+      → is_used site.own addr arp ≡ false → Offered site.managed.spec (ask_of site.managed) clean (said ++ []) (offers_at site e) → HeldSince C site addr last (e ∷ past)
   held_hears addr said last arp r m stays heard none h =
       unused C site addr last e past m.1 stays (is_alone C site addr clean e (said ++ []) r (all_join _ said [] m.0 tt) h)
       (ap (tells_use site.own addr) heard ∙ none)
@@ -160,7 +191,7 @@ module _ (C : TurnWord) (site : Site) (clean : Type 0) (e : Entry) (past : List 
   -- nothing is heard
   pub quiet_bears : (state : State) (said : List Said) → BearsAmid C site clean e said past state
       → C e past → arp_on (index_at site) e.event e.bytes ≡ None
-      → Offered site.managed.spec clean (said ++ []) (offers_at site e) → Bears C site clean state (e ∷ past)
+      → Offered site.managed.spec (ask_of site.managed) clean (said ++ []) (offers_at site e) → Bears C site clean state (e ∷ past)
   quiet_bears Off said b stays none h = tt
   quiet_bears (Armed due waits fallback) said b stays none h = tt
   quiet_bears (Chosen conflicts acd) said b stays none h = (

@@ -1,5 +1,5 @@
 -- The stronger facts on link-local addresses give the weaker ones.
-use Rattle.std.proofs.Common.{◌≡◌, ℕ, zero, suc, List, [], ◌∷◌, ◌++◌, inl, inr, ◌⊎◌, Bool, true, refl}
+use Rattle.std.proofs.Common.{ℕ, zero, suc, List, [], ◌∷◌, ◌++◌, inl, inr, Bool, true, refl}
 use Rattle.machine.specs.Since.{Since}
 use Rattle.net_types.specs.declared.address.Ip4.{Ip4}
 use Rattle.net_types.specs.declared.address.Net.{Net}
@@ -8,7 +8,7 @@ use Rattle.world.specs.declared.wakes.Event.TheVariants.{Frame, Carrier, Duplica
 use Rattle.evidence_words.specs.Entries.{Entry}
 use Rattle.evidence_words.specs.Inputs.{Site, index_at, has_carrier, GoesOn, StaysOn}
 use Rattle.evidence_words.specs.Probed.{TurnWord, AsProbe, Probes, EachAfter, Probed}
-use Rattle.local_evidence.specs.LinkLocalBasis.{LocalChoice, Anything, LinkLocalBasis, Undisturbed, StrongBasis}
+use Rattle.local_evidence.specs.LinkLocalBasis.{Anything, LinkLocalBasis, Undisturbed, StrongBasis}
 
 -- weaker facts of each entry, and of the one that began
 since_both : {A : Type 0} (P P2 Q Q2 : A → List A → Type 0) → ((e : A) (earlier : List A) → P e earlier → P2 e earlier)

@@ -1,6 +1,7 @@
 -- The lines `if`, `fail` and `turn`: what is read is spelled so, and what is spelled so is read.
-use Rattle.std.proofs.Common.{◌≡◌, ℕ, ◌^◌, ◌<◌, Bool, true, false, cond, List, [], ◌∷◌, ◌++◌, Some, None, Option, option_map, refl, sym, ap, ◌∙◌, subst, arith, codes, bytes_eq, leb, length, IsTrue}
+use Rattle.std.proofs.Common.{◌≡◌, ℕ, ◌^◌, ◌<◌, Bool, true, false, cond, List, [], ◌∷◌, ◌++◌, Some, None, refl, sym, ap, ◌∙◌, subst, arith, codes, bytes_eq, leb, length, IsTrue}
 use Rattle.std.specs.Fmt.{decimal}
+use Rattle.std.specs.List.{AllByRecursion}
 use Rattle.std.proofs.lemmas.Bool.{leb-true, le-leb}
 use Rattle.std.proofs.lemmas.List.{append_assoc}
 use Rattle.std.proofs.lemmas.Slice.Eq.{bytes_eq-Decides}
@@ -13,9 +14,9 @@ use Rattle.net_types.specs.Marks.{Lacks, AreBytes}
 use Rattle.net_types.specs.AddressText.{mac_text, FitsMac}
 use Rattle.net_types.specs.NameText.{name_text, FitsName}
 use Rattle.net_types.specs.HexText.{hex_text}
-use Rattle.net_types.specs.Cutting.{strip_word, after_word, pair_at, choice_at}
-use Rattle.net_types.proofs.ReadsLaws.{some_same, passed, mapped, strip_whole, strip_sound, word_reads, pair_reads, map_reads, guard_reads, same_texts}
-use Rattle.net_types.proofs.ChoiceLaws.{words_apart}
+use Rattle.net_types.specs.Cutting.{pair_at}
+use Rattle.net_types.proofs.ReadsLaws.{some_same, pair_reads, map_reads, guard_reads, end_reads}
+use Rattle.net_types.proofs.ChoiceLaws.{ChoiceSound, Chosen, part_sound, part_chosen, choose_reads}
 use Rattle.net_types.proofs.NumberLaws.{number_reads}
 use Rattle.net_types.proofs.NameLaws.{name_reads, name_lacks}
 use Rattle.net_types.proofs.AddressLaws.{mac_reads}
@@ -28,12 +29,12 @@ use Rattle.script_model.specs.declared.failing.FailDevice.{FailDevice}
 use Rattle.script_model.specs.declared.failing.FailDevice.TheVariants.{Link, Store, Host, Hooks}
 use Rattle.script_model.specs.declared.failing.FailLine.{FailLine}
 use Rattle.script_model.specs.Lines.{carrier_text, event_text, interface_text}
-use Rattle.script_model.specs.FailingCalls.{device_text, fail_text, FitsFail}
+use Rattle.script_model.specs.FailingCalls.{device_text, fail_text, IsBuiltDevice, FitsFail}
 use Rattle.script_model.specs.ScriptTexts.{given_text}
-use Rattle.script_model.specs.Scripts.{FitsEvent, frame_room, FitsFrame, FitsBytes, FitsGiven}
+use Rattle.script_model.specs.Scripts.{FitsEvent, frame_room, FitsBytes, FitsGiven}
 use Rattle.replay_text.specs.RowReading.{iface_at}
-use Rattle.replay_text.specs.LineReading.{spec_at, call_at, fail_at, moment_at, salt_at, switch_at, Came, carrier_at, frame_bytes_at, frame_at, came_at, turn_at}
-use Rattle.replay_text.proofs.RowLaws.{by_cases, FitsIface, iface_text, iface_reads, iface_lacks, decimal_line, iface_line, joined_line}
+use Rattle.replay_text.specs.LineReading.{spec_at, call_at, failing, devices, fail_at, moment_at, salt_at, switch_at, Came, without_bytes, frame_bytes_at, frame_at, inputs, came_at, turn_at}
+use Rattle.replay_text.proofs.RowLaws.{FitsIface, iface_text, iface_reads, iface_lacks, decimal_line, iface_line, joined_line}
 
 -- ---- interfaces
 
@@ -78,28 +79,24 @@ call_reads = guard_reads (λ n. leb 1 n) (number_reads (2 ^ 64) (omega arith))
 abbrev pub fail_words : FailLine → List ℕ
 fail_words fail = device_text fail.device ++ 32 ∷ decimal fail.number
 
-abbrev failing : FailDevice → ℕ → FailLine
-failing device n = record { device = device; number = n }
+fail_fits : (device : FailDevice) (n : ℕ) → IsBuiltDevice device → IsCall n → FitsFail (failing device n)
+fail_fits device n built fits = record { built = built; first = leb-true _ _ fits.1; bits = fits.0 }
+
+fail_chosen : (device : FailDevice) (n : ℕ) → FitsFail (failing device n) → Chosen devices fail_words (failing device n)
+fail_chosen Link n fits = part_chosen devices fail_words 0 (codes "link ") (failing Link) n call_reads refl refl (fits.bits, le-leb _ _ fits.first)
+fail_chosen Host n fits = part_chosen devices fail_words 1 (codes "host ") (failing Host) n call_reads refl refl (fits.bits, le-leb _ _ fits.first)
+fail_chosen Store n fits = absurd fits.built
+fail_chosen Hooks n fits = absurd fits.built
 
 pub fail_reads : Reads fail_words FitsFail fail_at
 unfolding fail_at
-fail_reads = record { sound = sound; whole = whole }
+fail_reads = choose_reads devices refl sounds (λ fail fits. fail_chosen fail.device fail.number fits)
   where
-    link_reads : Reads (λ n. codes "link " ++ decimal n) IsCall (after_word (codes "link ") call_at)
-    link_reads = word_reads (codes "link ") call_reads
-
-    sound : (text : List ℕ) (fail : FailLine) → option_map (failing Link) (after_word (codes "link ") call_at text) ≡ Some fail → (text ≡ fail_words fail) × FitsFail fail
-    sound text fail e =
-        let m = mapped (failing Link) (after_word (codes "link ") call_at text) fail e in
-        let s = link_reads.sound text m.value m.was in
-        let fits : FitsFail (failing Link m.value) = record { built = refl; first = leb-true _ _ s.1.1; bits = s.1.0 } in
-        (s.0 ∙ ap fail_words m.gives, subst FitsFail m.gives fits)
-
-    whole : (fail : FailLine) → FitsFail fail → option_map (failing Link) (after_word (codes "link ") call_at (fail_words fail)) ≡ Some fail
-    whole fail fits =
-        let same : failing Link fail.number ≡ fail = ap (λ device. failing device fail.number) (sym fits.built) in
-        subst (λ f. option_map (failing Link) (after_word (codes "link ") call_at (fail_words f)) ≡ Some f) same
-        (ap (option_map (failing Link)) (link_reads.whole fail.number (fits.bits, le-leb _ _ fits.first)))
+    sounds : AllByRecursion (ChoiceSound fail_words FitsFail) devices
+    sounds = (
+      part_sound fail_words FitsFail (codes "link ") (failing Link) call_reads (λ n. refl) (λ n fits. fail_fits Link n tt fits),
+      (part_sound fail_words FitsFail (codes "host ") (failing Host) call_reads (λ n. refl) (λ n fits. fail_fits Host n tt fits), tt),
+    )
 
 pub fail_spelled : (fail : FailLine) → fail_text fail ≡ codes "fail " ++ fail_words fail
 fail_spelled fail = simp append_assoc
@@ -166,21 +163,17 @@ came_words came = event_text came.0 came.1
 abbrev pub FitsCame : Came → Type 0
 FitsCame came = FitsEvent 64 came.0 × FitsBytes came.0 came.1
 
-abbrev quiet : Came
-quiet = (Quiet, [])
-
 abbrev carried : Switch → Came
-carried p = (Carrier p.0.number p.1, [])
+carried p = without_bytes (Carrier p.0.number p.1)
 
 carrier_spelled : (p : Switch) → came_words (carried p) ≡ codes "carrier " ++ (iface_text p.0 ++ 32 ∷ carrier_text p.1)
 carrier_spelled p = simp append_assoc
 
-carrier_sound : (text rest : List ℕ) (x : Came) → text ≡ codes "carrier " ++ rest → carrier_at rest ≡ Some x → (text ≡ came_words x) × FitsCame x
-unfolding carrier_at
-carrier_sound text rest x t e =
-    let m = mapped carried (pair_at 32 iface_at switch_at rest) x e in
-    let s = switches_reads.sound rest m.value m.was in
-    (t ∙ ap (λ r. codes "carrier " ++ r) s.0 ∙ sym (carrier_spelled m.value) ∙ ap came_words m.gives, subst FitsCame m.gives (s.1.0, refl))
+abbrev released : IfIndex → Came
+released iface = without_bytes (Release iface.number)
+
+abbrev rebound : IfIndex → Came
+rebound iface = without_bytes (Rebind iface.number)
 
 -- an interface and bytes that its frame has room for
 abbrev Framed : Type 0
@@ -205,56 +198,58 @@ framed_reads = pair_reads 32 iface_reads frame_bytes_reads iface_lacks
 frame_spelled : (p : Framed) → came_words (framed p) ≡ codes "frame " ++ (iface_text p.0 ++ 32 ∷ hex_text p.1)
 frame_spelled p = simp append_assoc
 
-frame_sound : (text rest : List ℕ) (x : Came) → text ≡ codes "frame " ++ rest → frame_at rest ≡ Some x → (text ≡ came_words x) × FitsCame x
+frame_fits : (p : Framed) → FitsIface p.0 × FitsRoom p.1 → FitsCame (framed p)
+frame_fits p fits = (fits.0, record { whole = refl; room = leb-true _ _ fits.1.1; octets = fits.1.0 })
+
+inputs_sound : AllByRecursion (ChoiceSound came_words FitsCame) inputs
 unfolding frame_at
-frame_sound text rest x t e =
-    let m = mapped framed (pair_at 32 iface_at frame_bytes_at rest) x e in
-    let s = framed_reads.sound rest m.value m.was in
-    let fits : FitsFrame (length m.value.1) m.value.1 = record { whole = refl; room = leb-true _ _ s.1.1.1; octets = s.1.1.0 } in
-    (t ∙ ap (λ r. codes "frame " ++ r) s.0 ∙ sym (frame_spelled m.value) ∙ ap came_words m.gives, subst FitsCame m.gives (s.1.0, fits))
+inputs_sound = (
+  part_sound came_words FitsCame (codes "frame ") framed framed_reads frame_spelled frame_fits,
+  (
+    part_sound came_words FitsCame (codes "quiet") (λ none. without_bytes Quiet) end_reads (λ none. refl) (λ none fits. (tt, refl)),
+    (
+      part_sound came_words FitsCame (codes "stop") (λ none. without_bytes Stop) end_reads (λ none. refl) (λ none fits. (tt, refl)),
+      (
+        part_sound came_words FitsCame (codes "carrier ") carried switches_reads carrier_spelled (λ p fits. (fits.0, refl)),
+        (
+          part_sound came_words FitsCame (codes "release ") released iface_reads (λ iface. refl) (λ iface fits. (fits, refl)),
+          (part_sound came_words FitsCame (codes "rebind ") rebound iface_reads (λ iface. refl) (λ iface fits. (fits, refl)), tt),
+        ),
+      ),
+    ),
+  ),
+)
 
-other_sound : (text : List ℕ) (x : Came) → choice_at (codes "carrier ") carrier_at (after_word (codes "frame ") frame_at) text ≡ Some x → (text ≡ came_words x) × FitsCame x
-other_sound text x e =
-    by_cases (codes "carrier ") text carrier_at _ x e
-    (λ rest t r. carrier_sound text rest x t r)
-    (λ f. let p = passed (strip_word (codes "frame ") text) frame_at x f in
-    frame_sound text p.value x (strip_sound (codes "frame ") text p.value p.was) p.gives)
+abbrev HasInput : Came → Type 0
+HasInput came = Chosen inputs came_words came
 
-came_sound : (text : List ℕ) (x : Came) → came_at text ≡ Some x → (text ≡ came_words x) × FitsCame x
-unfolding came_at
-came_sound text x e =
-    elim (bytes_eq text (codes "quiet")) as (λ b. bytes_eq text (codes "quiet") ≡ b → cond b (Some quiet) (choice_at (codes "carrier ") carrier_at (after_word (codes "frame ") frame_at) text) ≡ Some x → (text ≡ came_words x) × FitsCame x) [
-      | true ↦ λ t q. let s : quiet ≡ x = some_same q in ((bytes_eq-Decides _ _).0 t ∙ ap came_words s, subst FitsCame s (tt, refl))
-      | false ↦ λ t q. other_sound text x q
-    ] refl e
+plain_input : (event : Event) (bytes : List ℕ) → bytes ≡ [] → HasInput (without_bytes event) → HasInput (event, bytes)
+plain_input event bytes none chosen = subst (λ b. HasInput (event, b)) (sym none) chosen
 
-carrier_whole : (p : Switch) → FitsIface p.0 → came_at (came_words (carried p)) ≡ Some (carried p)
-unfolding came_at carrier_at
-carrier_whole p fits = rw (carrier_spelled p, strip_whole (codes "carrier ") (iface_text p.0 ++ 32 ∷ carrier_text p.1), switches_reads.whole p (fits, tt)) refl
-
-frame_whole : (p : Framed) → FitsIface p.0 → FitsRoom p.1 → came_at (came_words (framed p)) ≡ Some (framed p)
-unfolding came_at frame_at
-frame_whole p iface room =
-    let rest = iface_text p.0 ++ 32 ∷ hex_text p.1 in
-    rw (frame_spelled p, words_apart (codes "carrier ") (codes "frame ") rest refl, strip_whole (codes "frame ") rest, framed_reads.whole p (iface, room)) refl
-
-came_whole : (event : Event) (bytes : List ℕ) → FitsCame (event, bytes) → came_at (came_words (event, bytes)) ≡ Some (event, bytes)
-unfolding came_at
-came_whole (Frame iface len) bytes fits =
+came_chosen : (event : Event) (bytes : List ℕ) → FitsCame (event, bytes) → HasInput (event, bytes)
+unfolding frame_at
+came_chosen (Frame iface len) bytes fits =
     let frame = fits.1 in
-    let read = frame_whole (record { number = iface }, bytes) fits.0 (frame.octets, le-leb _ _ frame.room) in
-    subst (λ n. came_at (came_words (Frame iface n, bytes)) ≡ Some (Frame iface n, bytes)) (sym frame.whole) read
-came_whole (Carrier iface up) bytes fits =
-    subst (λ b. came_at (came_words (Carrier iface up, b)) ≡ Some (Carrier iface up, b)) (sym fits.1) (carrier_whole (record { number = iface }, up) fits.0)
-came_whole (Duplicate iface addr) bytes fits = absurd fits.0
-came_whole (Release iface) bytes fits = absurd fits.0
-came_whole (Rebind iface) bytes fits = absurd fits.0
-came_whole Stop bytes fits = absurd fits.0
-came_whole Quiet bytes fits = subst (λ b. came_at (came_words (Quiet, b)) ≡ Some (Quiet, b)) (sym fits.1) refl
-came_whole End bytes fits = absurd fits.0
+    let p : Framed = (record { number = iface }, bytes) in
+    subst (λ n. HasInput (Frame iface n, bytes)) (sym frame.whole)
+    (part_chosen inputs came_words 0 (codes "frame ") framed p framed_reads refl (frame_spelled p) (fits.0, (frame.octets, le-leb _ _ frame.room)))
+came_chosen (Carrier iface up) bytes fits =
+    let p : Switch = (record { number = iface }, up) in
+    plain_input (Carrier iface up) bytes fits.1 (part_chosen inputs came_words 3 (codes "carrier ") carried p switches_reads refl (carrier_spelled p) (fits.0, tt))
+came_chosen (Duplicate iface addr) bytes fits = absurd fits.0
+came_chosen (Release iface) bytes fits =
+    plain_input (Release iface) bytes fits.1 (part_chosen inputs came_words 4 (codes "release ") released (record { number = iface }) iface_reads refl refl fits.0)
+came_chosen (Rebind iface) bytes fits =
+    plain_input (Rebind iface) bytes fits.1 (part_chosen inputs came_words 5 (codes "rebind ") rebound (record { number = iface }) iface_reads refl refl fits.0)
+came_chosen Stop bytes fits =
+    plain_input Stop bytes fits.1 (part_chosen inputs came_words 2 (codes "stop") (λ none. without_bytes Stop) tt end_reads refl refl tt)
+came_chosen Quiet bytes fits =
+    plain_input Quiet bytes fits.1 (part_chosen inputs came_words 1 (codes "quiet") (λ none. without_bytes Quiet) tt end_reads refl refl tt)
+came_chosen End bytes fits = absurd fits.0
 
 came_reads : Reads came_words FitsCame came_at
-came_reads = record { sound = came_sound; whole = λ x fits. came_whole x.0 x.1 fits }
+unfolding came_at
+came_reads = choose_reads inputs refl inputs_sound (λ came fits. came_chosen came.0 came.1 fits)
 
 up_line : (up : Bool) → Lacks 10 (carrier_text up)
 up_line true = refl
@@ -270,9 +265,9 @@ came_line (Carrier iface up) bytes fits =
     (lacks-append 10 (codes "carrier ") (decimal iface ++ 32 ∷ carrier_text up) refl
     (joined_line (decimal iface) (carrier_text up) (iface_line (record { number = iface }) fits.0) (up_line up)))
 came_line (Duplicate iface addr) bytes fits = absurd fits.0
-came_line (Release iface) bytes fits = absurd fits.0
-came_line (Rebind iface) bytes fits = absurd fits.0
-came_line Stop bytes fits = absurd fits.0
+came_line (Release iface) bytes fits = lacks-append 10 (codes "release ") (decimal iface) refl (iface_line (record { number = iface }) fits.0)
+came_line (Rebind iface) bytes fits = lacks-append 10 (codes "rebind ") (decimal iface) refl (iface_line (record { number = iface }) fits.0)
+came_line Stop bytes fits = refl
 came_line Quiet bytes fits = refl
 came_line End bytes fits = absurd fits.0
 

@@ -138,7 +138,7 @@ life_parts life = (codes "start " ++ begin_words life.begin) ∷ (map (λ g. cod
 
 record IsLife (count : ℕ) (life : LifeScript) : Type 0 where
   begin : FitsBegin count life.begin
-  turns : AreTurns count life.turns
+  turns : AreTurns count life.begin.at life.turns
 
 done_parts : (parts : List (List ℕ)) → are_done parts ≡ true → parts ≡ [] ∷ []
 done_parts [] e = cc
@@ -152,8 +152,8 @@ unfolding life_at
 life_sound count parts life few e =
     let start = passed (line_at (codes "start ") (begin_at count) parts) _ life e in
     let turns = passed (block_at (codes "turn ") turn_at start.value.1) _ life start.gives in
-    let test = cond_some (are_done turns.value.1 && turns_fit count turns.value.0) (record { begin = start.value.0; turns = turns.value.0 }) life turns.gives in
-    let tests = and_parts (are_done turns.value.1) (turns_fit count turns.value.0) test.0 in
+    let test = cond_some (are_done turns.value.1 && turns_fit count start.value.0.at turns.value.0) (record { begin = start.value.0; turns = turns.value.0 }) life turns.gives in
+    let tests = and_parts (are_done turns.value.1) (turns_fit count start.value.0.at turns.value.0) test.0 in
     let s = line_sound (codes "start ") parts start.value (begin_reads count few) start.was in
     let t = block_sound (codes "turn ") start.value.1 turns.value turn_reads turns.was in
     let done = done_parts turns.value.1 tests.0 in
@@ -334,7 +334,7 @@ lives_to count (life ∷ []) few one fits =
     let life_fits = fits.0 in
     record {
       begin = record { at = life_fits.at; salt = life_fits.salt; up = life_fits.up };
-      turns = turns_whole count life.turns few (by_recursion (FitsGiven count) life.turns life_fits.turns);
+      turns = turns_whole count life.begin.at life.turns few (by_recursion (FitsGiven count) life.turns life_fits.turns) life_fits.over;
     }
 lives_to count (life ∷ next ∷ lives) few one fits = absurd (omega (arith, one))
 
@@ -345,11 +345,13 @@ lives_from : (count : ℕ) (lives : List LifeScript) → AreLives count lives �
 lives_from count [] are = absurd are
 lives_from count (life ∷ []) are =
     let begin = are.begin in
+    let turns = turns_sound count life.begin.at life.turns are.turns in
     let fits : FitsLife count life = record {
       at = begin.at;
       salt = begin.salt;
       up = begin.up;
-      turns = All-from_recursion (FitsGiven count) life.turns (turns_sound count life.turns are.turns);
+      turns = All-from_recursion (FitsGiven count) life.turns turns.0;
+      over = turns.1;
     } in
     (refl, (fits, tt))
 lives_from count (life ∷ next ∷ lives) are = absurd are

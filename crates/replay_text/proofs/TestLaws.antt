@@ -1,9 +1,10 @@
 -- What the tests of whole kinds of lines come to.
-use Rattle.std.proofs.Common.{◌≡◌, ℕ, zero, suc, ◌+◌, ◌*◌, ◌-◌, ◌^◌, ◌<◌, ◌≤◌, true, false, not, eqb, leb, List, [], ◌∷◌, length, drop, get_or, refl, sym, ap, ◌∙◌, subst, arith, drop-cons, add-one, bytes_eq}
+use Rattle.std.proofs.Common.{◌≡◌, ℕ, zero, suc, ◌+◌, ◌*◌, ◌-◌, ◌^◌, ◌<◌, ◌≤◌, Bool, true, false, not, eqb, leb, List, [], ◌∷◌, length, drop, map, get_or, refl, sym, ap, ◌∙◌, subst, arith, drop-cons, add-one, bytes_eq}
 use Rattle.std.specs.List.{All, AllByRecursion, AllPairs, list_all}
 use Rattle.std.proofs.Math.Pow.{pow_mono}
 use Rattle.std.proofs.lemmas.Bool.{and_parts, and_from, not-true, eqb-true, eq-eqb, leb-true, le-leb}
 use Rattle.std.proofs.lemmas.List.Elements.{All-from_recursion}
+use Rattle.std.proofs.lemmas.List.Folds.{list_all-map}
 use Rattle.std.proofs.lemmas.List.Kept.{AllPairs-cons}
 use Rattle.std.proofs.lemmas.Slice.Eq.{bytes_eq-Decides}
 use Rattle.net_types.specs.declared.interface.IfSpec.{IfSpec}
@@ -18,7 +19,11 @@ use Rattle.world.specs.LinkCalls.{Given}
 use Rattle.world.specs.RowOrder.{put_in_order, with_row}
 use Rattle.script_model.specs.Scripts.{CountsFrom, Unlike, FitInterfaces, FitsEvent, FitsGiven}
 use Rattle.replay_text.specs.KindTests.{counts_from, is_unlike, all_unlike, interfaces_fit, is_listed, turns_fit}
+use Rattle.script_model.specs.Stops.{wakes_seen, EndsWhenOver}
+use Rattle.replay_text.specs.declared.script.TurnLine.{TurnLine}
+use Rattle.replay_text.specs.ScriptContent.{given_of}
 use Rattle.replay_text.proofs.LineLaws.{FitsSpec}
+use Rattle.replay_text.proofs.ClockLaws.{in_time_sound, in_time_whole}
 
 -- a bit more
 pub doubled : (up count : ℕ) → 0 < count → up < 2 ^ (count - 1) → 2 * up + 1 < 2 ^ count
@@ -128,39 +133,58 @@ listed_sound : (count : ℕ) (event : Event) → FitsEvent 64 event → is_liste
 listed_sound count (Frame iface len) fits e = (fits.0, leb-true _ _ e)
 listed_sound count (Carrier iface up) fits e = (fits.0, leb-true _ _ e)
 listed_sound count (Duplicate iface addr) fits e = absurd fits
-listed_sound count (Release iface) fits e = absurd fits
-listed_sound count (Rebind iface) fits e = absurd fits
-listed_sound count Stop fits e = absurd fits
+listed_sound count (Release iface) fits e = (fits.0, leb-true _ _ e)
+listed_sound count (Rebind iface) fits e = (fits.0, leb-true _ _ e)
+listed_sound count Stop fits e = tt
 listed_sound count Quiet fits e = tt
 listed_sound count End fits e = absurd fits
 
+within : (count iface : ℕ) → count ≤ 64 → (1 ≤ iface) × (iface ≤ count) → ((1 ≤ iface) × (iface ≤ 64)) × (leb iface count ≡ true)
+within count iface few fits = let last = fits.1 in ((fits.0, omega arith), le-leb _ _ last)
+
 listed_whole : (count : ℕ) (event : Event) → count ≤ 64 → FitsEvent count event → FitsEvent 64 event × (is_listed count event ≡ true)
-listed_whole count (Frame iface len) few fits = let within : iface ≤ count = fits.1 in ((fits.0, omega arith), le-leb _ _ within)
-listed_whole count (Carrier iface up) few fits = let within : iface ≤ count = fits.1 in ((fits.0, omega arith), le-leb _ _ within)
+listed_whole count (Frame iface len) few fits = within count iface few fits
+listed_whole count (Carrier iface up) few fits = within count iface few fits
 listed_whole count (Duplicate iface addr) few fits = absurd fits
-listed_whole count (Release iface) few fits = absurd fits
-listed_whole count (Rebind iface) few fits = absurd fits
-listed_whole count Stop few fits = absurd fits
+listed_whole count (Release iface) few fits = within count iface few fits
+listed_whole count (Rebind iface) few fits = within count iface few fits
+listed_whole count Stop few fits = (tt, refl)
 listed_whole count Quiet few fits = (tt, refl)
 listed_whole count End few fits = absurd fits
 
-pub record AreTurns (count : ℕ) (turns : List Given) : Type 0 where
-  pub each : AllByRecursion (FitsGiven 64) turns
-  pub test : turns_fit count turns ≡ true
+abbrev all_listed : ℕ → List Given → Bool
+all_listed count turns = list_all (λ turn. is_listed count turn.wake.event) turns
 
-pub turns_sound : (count : ℕ) (turns : List Given) → AreTurns count turns → AllByRecursion (FitsGiven count) turns
-unfolding turns_fit
-turns_sound count [] are = tt
-turns_sound count (given ∷ turns) are =
-    let parts = and_parts (is_listed count given.wake.event) _ are.test in
-    let first = are.each.0 in
-    (record { at = first.at; salt = first.salt; event = listed_sound count given.wake.event first.event parts.0; bytes = first.bytes }, turns_sound count turns (record { each = are.each.1; test = parts.1 }))
+each_sound : (count : ℕ) (turns : List Given) → AllByRecursion (FitsGiven 64) turns → all_listed count turns ≡ true → AllByRecursion (FitsGiven count) turns
+each_sound count [] each e = tt
+each_sound count (given ∷ turns) each e =
+    let parts = and_parts (is_listed count given.wake.event) _ e in
+    let first = each.0 in
+    (record { at = first.at; salt = first.salt; event = listed_sound count given.wake.event first.event parts.0; bytes = first.bytes }, each_sound count turns each.1 parts.1)
 
-pub turns_whole : (count : ℕ) (turns : List Given) → count ≤ 64 → AllByRecursion (FitsGiven count) turns → AreTurns count turns
-unfolding turns_fit
-turns_whole count [] few fits = record { each = tt; test = refl }
-turns_whole count (given ∷ turns) few fits =
+each_whole : (count : ℕ) (turns : List Given) → count ≤ 64 → AllByRecursion (FitsGiven count) turns → AllByRecursion (FitsGiven 64) turns × (all_listed count turns ≡ true)
+each_whole count [] few fits = (tt, refl)
+each_whole count (given ∷ turns) few fits =
     let first = fits.0 in
     let listed = listed_whole count given.wake.event few first.event in
-    let others = turns_whole count turns few fits.1 in
-    record { each = (record { at = first.at; salt = first.salt; event = listed.0; bytes = first.bytes }, others.each); test = and_from _ _ listed.1 others.test }
+    let others = each_whole count turns few fits.1 in
+    ((record { at = first.at; salt = first.salt; event = listed.0; bytes = first.bytes }, others.0), and_from _ _ listed.1 others.1)
+
+pub given_listed : (count : ℕ) (turns : List TurnLine) → all_listed count (map given_of turns) ≡ list_all (λ turn. is_listed count turn.wake.event) turns
+given_listed count turns = list_all-map (λ (turn : Given). is_listed count turn.wake.event) given_of turns
+
+pub record AreTurns (count begin : ℕ) (turns : List Given) : Type 0 where
+  pub each : AllByRecursion (FitsGiven 64) turns
+  pub test : turns_fit count begin turns ≡ true
+
+pub turns_sound : (count begin : ℕ) (turns : List Given) → AreTurns count begin turns → AllByRecursion (FitsGiven count) turns × EndsWhenOver (wakes_seen begin turns)
+unfolding turns_fit
+turns_sound count begin turns are =
+    let parts = and_parts (all_listed count turns) _ are.test in
+    (each_sound count turns are.each parts.0, in_time_sound turns begin parts.1)
+
+pub turns_whole : (count begin : ℕ) (turns : List Given) → count ≤ 64 → AllByRecursion (FitsGiven count) turns → EndsWhenOver (wakes_seen begin turns) → AreTurns count begin turns
+unfolding turns_fit
+turns_whole count begin turns few fits over =
+    let each = each_whole count turns few fits in
+    record { each = each.0; test = and_from _ _ each.1 (in_time_whole turns begin over) }

@@ -5,9 +5,10 @@ use Rattle.net_types.specs.declared.interface.IfSpec.{IfSpec}
 use Rattle.net_types.specs.NameText.{name_text}
 use Rattle.world.specs.declared.rows.HostRow.{HostRow}
 use Rattle.world.specs.declared.wakes.Event.{Event}
-use Rattle.world.specs.declared.wakes.Event.TheVariants.{Frame, Carrier}
+use Rattle.world.specs.declared.wakes.Event.TheVariants.{Frame, Carrier, Release, Rebind}
 use Rattle.world.specs.LinkCalls.{Given}
 use Rattle.world.specs.RowOrder.{in_row_order}
+use Rattle.replay_text.specs.Clocks.{clock_at, is_in_time}
 
 abbrev pub counts_from : ℕ → List IfSpec → Bool
 counts_from index [] = true
@@ -30,7 +31,10 @@ are_once rows = length (in_row_order rows) == length rows
 abbrev pub is_listed : ℕ → Event → Bool
 is_listed count (Frame iface len) = nat_le iface count
 is_listed count (Carrier iface up) = nat_le iface count
+is_listed count (Release iface) = nat_le iface count
+is_listed count (Rebind iface) = nat_le iface count
 is_listed count event = true
 
-unfoldable pub turns_fit : ℕ → List Given → Bool
-turns_fit count turns = list_all (λ turn. is_listed count turn.wake.event) turns
+-- on interfaces of the script, in a life that begins at this moment
+unfoldable pub turns_fit : ℕ → ℕ → List Given → Bool
+turns_fit count begin turns = list_all (λ turn. is_listed count turn.wake.event) turns && is_in_time (clock_at begin) turns

@@ -3,6 +3,7 @@ pub mod LineReading
 pub mod Carriers
 pub mod Blocks
 pub mod ScriptContent
+pub mod Clocks
 pub mod KindTests
 pub mod ScriptReading
 pub mod Answers

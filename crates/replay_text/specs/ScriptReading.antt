@@ -32,7 +32,7 @@ unfoldable pub life_at : ℕ → List (List ℕ) → Option LifeScript
 life_at count parts = do
   start ← line_at (codes "start ") (begin_at count) parts
   turns ← block_at (codes "turn ") turn_at start.1
-  only_if (are_done turns.1 && turns_fit count turns.0) (record { begin = start.0; turns = turns.0 })
+  only_if (are_done turns.1 && turns_fit count start.0.at turns.0) (record { begin = start.0; turns = turns.0 })
 
 -- one life: a further `start` line isn't read
 unfoldable pub lives_at : ℕ → List (List ℕ) → Option (List LifeScript)

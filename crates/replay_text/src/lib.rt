@@ -3,6 +3,7 @@
 
 mod blocks;
 mod carriers;
+mod clock;
 mod line_numbers;
 mod lines;
 mod reading;

@@ -2,13 +2,15 @@
 ghost use Rattle.std.specs.Prelude.{◌≡◌, ◌^◌, ◌<◌, option_map, IfOk};
 ghost use Rattle.net_types.specs.NameText.{name_at};
 ghost use Rattle.net_types.specs.Cutting.{field_at};
-ghost use Rattle.replay_text.specs.LineReading.{spec_at, call_at, fail_at, moment_at, salt_at, switch_at, carrier_at, frame_bytes_at, frame_at, came_at, turn_at};
+ghost use Rattle.replay_text.specs.LineReading.{spec_at, call_at, failing_at, fail_at, moment_at, salt_at, turn_at};
+ghost use Rattle.replay_text.specs.LineReading.{without_bytes, frame_bytes_at, frame_at, switch_at, lone_at, carrier_at, release_at, rebind_at, plain_at, came_at};
 ghost use Rattle.replay_text.specs.ScriptContent.{given_of};
 
-use crate::rows::iface_field_of;
+use crate::rows::{iface_field_of, iface_of};
 use crate::script::TurnLine;
 use net_types::{
-    IfSpec, Name, NoMemory, hex_of, mac_of, name_of, number_of, split_at_byte, strip_word, u64_of,
+    IfSpec, Name, NoMemory, end_of, hex_of, mac_of, name_of, number_of, split_at_byte, strip_word,
+    u64_of,
 };
 use script_model::{FailDevice, FailLine};
 use std::alloc::Global;
@@ -47,16 +49,25 @@ fn call_of(bytes: &[u8]) -> Option<u64>
     if number >= 1 { Some(number) } else { None }
 }
 
+fn failing_of(device: FailDevice, bytes: &[u8]) -> Option<FailLine>
+    ensures { result ≡ failing_at device bytes.now }
+{
+    let number = call_of(bytes)?;
+    Some(FailLine { device, number })
+}
+
 /// A call of a device that fails.
 #[tactic(auto, unfolding(crate::specs::LineReading::fail_at))]
 pub fn fail_of(bytes: &[u8]) -> Option<FailLine>
     ensures { result ≡ fail_at bytes.now }
 {
-    let number = call_of(strip_word(bytes, b"link ")?)?;
-    Some(FailLine {
-        device: FailDevice::Link,
-        number,
-    })
+    if let Some(rest) = strip_word(bytes, b"link ") {
+        return failing_of(FailDevice::Link, rest);
+    }
+    match strip_word(bytes, b"host ") {
+        Some(rest) => failing_of(FailDevice::Host, rest),
+        None => None,
+    }
 }
 
 #[tactic(auto, unfolding(crate::specs::LineReading::moment_at))]
@@ -104,17 +115,59 @@ fn switch_of(bytes: &[u8]) -> Option<bool>
     }
 }
 
-#[tactic(auto, unfolding(crate::specs::LineReading::carrier_at))]
-fn carrier_of(alloc: Global, bytes: &[u8]) -> Option<(Event, Vec<u8>)>
-    ensures { option_map (λ p. (p.0, p.1.items)) result ≡ carrier_at bytes.now }
+fn lone_of(bytes: &[u8], event: Event) -> Option<Event>
+    ensures { option_map without_bytes result ≡ lone_at event bytes.now }
+{
+    end_of(bytes)?;
+    Some(event)
+}
+
+fn carrier_of(bytes: &[u8]) -> Option<Event>
+    ensures { option_map without_bytes result ≡ carrier_at bytes.now }
 {
     let (iface, rest) = iface_field_of(bytes)?;
     let up = switch_of(rest)?;
-    let event = Event::Carrier {
+    Some(Event::Carrier {
         iface: iface.number,
         up,
-    };
-    Some((event, Vec::new(alloc)))
+    })
+}
+
+fn release_of(bytes: &[u8]) -> Option<Event>
+    ensures { option_map without_bytes result ≡ release_at bytes.now }
+{
+    let iface = iface_of(bytes)?.number;
+    Some(Event::Release { iface })
+}
+
+fn rebind_of(bytes: &[u8]) -> Option<Event>
+    ensures { option_map without_bytes result ≡ rebind_at bytes.now }
+{
+    let iface = iface_of(bytes)?.number;
+    Some(Event::Rebind { iface })
+}
+
+/// An input without bytes.
+#[tactic(auto, unfolding(crate::specs::LineReading::plain_at))]
+fn plain_of(bytes: &[u8]) -> Option<Event>
+    ensures { option_map without_bytes result ≡ plain_at bytes.now }
+{
+    if let Some(rest) = strip_word(bytes, b"quiet") {
+        return lone_of(rest, Event::Quiet);
+    }
+    if let Some(rest) = strip_word(bytes, b"stop") {
+        return lone_of(rest, Event::Stop);
+    }
+    if let Some(rest) = strip_word(bytes, b"carrier ") {
+        return carrier_of(rest);
+    }
+    if let Some(rest) = strip_word(bytes, b"release ") {
+        return release_of(rest);
+    }
+    match strip_word(bytes, b"rebind ") {
+        Some(rest) => rebind_of(rest),
+        None => None,
+    }
 }
 
 /// Bytes that a frame has room for.
@@ -150,17 +203,14 @@ fn frame_of(alloc: Global, bytes: &[u8]) -> Result<Option<(Event, Vec<u8>)>, NoM
 }
 
 /// What came, with the bytes of a frame.
-#[tactic(auto, unfolding(crate::specs::LineReading::came_at))]
+#[tactic(auto, unfolding(crate::specs::LineReading::came_at, crate::specs::LineReading::plain_at))]
 fn came_of(alloc: Global, bytes: &[u8]) -> Result<Option<(Event, Vec<u8>)>, NoMemory>
     ensures { IfOk result (λ o. option_map (λ p. (p.0, p.1.items)) o ≡ came_at bytes.now) }
 {
-    if bytes == b"quiet".as_slice() {
-        return Ok(Some((Event::Quiet, Vec::new(alloc))));
-    }
-    match strip_word(bytes, b"carrier ") {
-        Some(rest) => Ok(carrier_of(alloc, rest)),
-        None => match strip_word(bytes, b"frame ") {
-            Some(rest) => frame_of(alloc, rest),
+    match strip_word(bytes, b"frame ") {
+        Some(rest) => frame_of(alloc, rest),
+        None => match plain_of(bytes) {
+            Some(event) => Ok(Some((event, Vec::new(alloc)))),
             None => Ok(None),
         },
     }

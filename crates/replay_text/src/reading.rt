@@ -12,6 +12,7 @@ ghost use Rattle.replay_text.specs.Answers.{Gives, IsBad, NamesFault};
 
 use crate::blocks::{block_of, conf_of, line_after};
 use crate::carriers::begin_of;
+use crate::clock::are_in_time;
 use crate::line_numbers::line_number;
 use crate::refusal::Refusal;
 use crate::script::{LifeLines, Script, ScriptAnswer, ScriptCause, ScriptFault, TurnLine};
@@ -101,8 +102,8 @@ fn is_listed(count: u32, event: Event) -> bool
         Event::Frame { iface, .. } => iface <= count,
         Event::Carrier { iface, .. } => iface <= count,
         Event::Duplicate { .. } => true,
-        Event::Release { .. } => true,
-        Event::Rebind { .. } => true,
+        Event::Release { iface } => iface <= count,
+        Event::Rebind { iface } => iface <= count,
         Event::Stop => true,
         Event::Quiet => true,
         Event::End => true,
@@ -115,12 +116,12 @@ fn are_listed(count: u32, turns: &[TurnLine]) -> bool
     turns.iter().all(|turn| is_listed(count, turn.wake.event))
 }
 
-/// Whether the turns name interfaces of the script alone.
-#[tactic(auto, unfolding(crate::specs::KindTests::turns_fit))]
-fn turns_fit(count: u32, turns: &[TurnLine]) -> bool
-    ensures { result ≡ turns_fit count (map given_of turns.now) }
+/// Whether the turns of a life that begins at this moment name interfaces of the script alone, and end once it is over.
+#[tactic(auto, unfolding(crate::specs::KindTests::turns_fit), using(crate::proofs::TestLaws::given_listed))]
+fn turns_fit(count: u32, begin: u64, turns: &[TurnLine]) -> bool
+    ensures { result ≡ turns_fit count begin (map given_of turns.now) }
 {
-    are_listed(count, turns)
+    are_listed(count, turns) && are_in_time(begin, turns)
 }
 
 #[tactic(auto, unfolding(crate::specs::ScriptReading::ifaces_at))]
@@ -179,7 +180,7 @@ fn life_of(alloc: Global, count: u32, text: &[u8]) -> Result<LifeLines, Refusal>
     if !is_done(left) {
         return Err(Refusal::Bad { left: left.len() });
     }
-    if turns_fit(count, &turns) {
+    if turns_fit(count, begin.at, &turns) {
         Ok(LifeLines { begin, turns })
     } else {
         Err(Refusal::Bad { left: rest.len() })

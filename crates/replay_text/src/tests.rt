@@ -27,7 +27,7 @@ fn a_route(rt: HostRuntime) -> Result<(), Fail> {
 
 #[test]
 fn refusals(rt: HostRuntime) {
-    let bad: [(&[u8], u64); 9] = [
+    let bad: [(&[u8], u64); 12] = [
         (b"", 1),
         // a byte outside printable ASCII
         (b"dhcpcd-script 1\nstart 0 0 up -\nturn 5 0 quiet\x80\n", 3),
@@ -47,6 +47,15 @@ fn refusals(rt: HostRuntime) {
             b"dhcpcd-script 1\nstart 0 0 up -\nturn 5 0 carrier 1 up\n",
             3,
         ),
+        // an input of an interface that isn't listed
+        (b"dhcpcd-script 1\nstart 0 0 up -\nturn 5 0 release 1\n", 3),
+        // a turn once the life is over; the first turn is named
+        (
+            b"dhcpcd-script 1\nstart 0 0 up -\nturn 5 0 stop\nturn 5005 0 quiet\nturn 0 0 quiet\n",
+            3,
+        ),
+        // a device whose failing calls aren't built
+        (b"dhcpcd-script 1\nfail store 1\nstart 0 0 up -\n", 2),
         // calls count from 1
         (b"dhcpcd-script 1\nfail link 0\nstart 0 0 up -\n", 2),
         // no life
@@ -60,4 +69,16 @@ fn refusals(rt: HostRuntime) {
             Err(answer) => assert!(rt; answer == fault),
         }
     }
+}
+
+#[test]
+fn a_stopped_life(rt: HostRuntime) -> Result<(), Fail> {
+    let text =
+        b"dhcpcd-script 1\nif 1 eth0 02:00:00:00:00:01\nfail host 2\nfail host 2\nfail link 1\nstart 10 0 up 1\n\
+        turn 5 0 release 1\nturn 20 0 rebind 1\nturn 7 0 stop\nturn 5019 0 stop\nturn 5020 0 quiet\n";
+    let script = read_script(rt.alloc(), text).ok().ok_or("it is a script")?;
+    assert_eq!(rt; script.fails.len(), 3);
+    let life = script.lives.first().ok_or("it has a life")?;
+    assert_eq!(rt; life.turns.len(), 5);
+    Ok(())
 }

@@ -7,7 +7,7 @@ use Rattle.world.specs.RowText.{row_text}
 use Rattle.script_model.specs.FailingCalls.{fail_text}
 use Rattle.script_model.specs.Lines.{interface_text, start_text}
 use Rattle.script_model.specs.LineNumbers.{line_feeds, ScriptsHaveLines}
-use Rattle.script_model.specs.ScriptTexts.{LifeScript, ScriptLines, ended, given_text, life_text, script_text}
+use Rattle.script_model.specs.ScriptTexts.{LifeScript, ended, given_text, life_text}
 
 pub feeds_join : (a b : List ℕ) → line_feeds (a ++ b) ≡ line_feeds a + line_feeds b
 feeds_join a b = ap length (filter-append (λ x. x == 10) a b) ∙ length-append _ _

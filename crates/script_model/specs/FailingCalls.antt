@@ -1,5 +1,5 @@
 -- The calls of devices that a script lets fail.
-use Rattle.std.specs.Prelude.{ℕ, ◌≡◌, ◌^◌, ◌<◌, ◌≤◌, Bool, true, false, List, ◌++◌, map, filter, codes, decimal}
+use Rattle.std.specs.Prelude.{ℕ, ◌^◌, ◌<◌, ◌≤◌, Bool, true, false, List, ◌++◌, map, filter, codes, decimal}
 use Rattle.script_model.specs.declared.failing.FailDevice.{FailDevice}
 use Rattle.script_model.specs.declared.failing.FailDevice.TheVariants.{Link, Store, Host, Hooks}
 use Rattle.script_model.specs.declared.failing.FailLine.{FailLine}
@@ -25,8 +25,14 @@ is_same_device device other = false
 abbrev pub failing_calls : FailDevice → List FailLine → List ℕ
 failing_calls device fails = map (λ fail. fail.number) (filter (λ fail. is_same_device fail.device device) fails)
 
--- lines that are built: failing sends; calls count from 1
+-- devices whose failing calls are built: the link and the host
+abbrev pub IsBuiltDevice : FailDevice → Type 0
+IsBuiltDevice Link = Unit {0}
+IsBuiltDevice Host = Unit {0}
+IsBuiltDevice device = ⊥
+
+-- lines that are built; calls count from 1
 pub record FitsFail (fail : FailLine) : Type 0 where
-  pub built : fail.device ≡ Link
+  pub built : IsBuiltDevice fail.device
   pub first : 1 ≤ fail.number
   pub bits : fail.number < 2 ^ 64

@@ -5,12 +5,13 @@ use Rattle.net_types.specs.AddressText.{FitsMac}
 use Rattle.net_types.specs.NameText.{FitsName}
 use Rattle.net_types.specs.Marks.{Lacks, AreBytes}
 use Rattle.world.specs.declared.wakes.Event.{Event}
-use Rattle.world.specs.declared.wakes.Event.TheVariants.{Frame, Carrier, Quiet}
+use Rattle.world.specs.declared.wakes.Event.TheVariants.{Frame, Carrier, Release, Rebind, Stop, Quiet}
 use Rattle.world.specs.LinkCalls.{Given}
 use Rattle.world.specs.RowOrder.{in_row_order}
 use Rattle.world.specs.RowText.{IsBuiltRow}
 use Rattle.script_model.specs.FailingCalls.{FitsFail}
 use Rattle.script_model.specs.ScriptTexts.{ScriptLines, LifeScript}
+use Rattle.script_model.specs.Stops.{wakes_seen, EndsWhenOver}
 
 -- interfaces count from 1; names and hardware addresses are unlike
 abbrev pub CountsFrom : ℕ → List IfSpec → Type 0
@@ -25,10 +26,13 @@ pub record FitInterfaces (specs : List IfSpec) : Type 0 where
   pub counted : CountsFrom 1 specs
   pub unlike : AllPairs Unlike specs
 
--- inputs that are built: quiet, and a frame on an interface of the script or its carrier
+-- inputs that are built: those on an interface are on one of the script
 abbrev pub FitsEvent : ℕ → Event → Type 0
 FitsEvent count (Frame iface len) = (1 ≤ iface) × (iface ≤ count)
 FitsEvent count (Carrier iface up) = (1 ≤ iface) × (iface ≤ count)
+FitsEvent count (Release iface) = (1 ≤ iface) × (iface ≤ count)
+FitsEvent count (Rebind iface) = (1 ≤ iface) × (iface ≤ count)
+FitsEvent count Stop = Unit {0}
 FitsEvent count Quiet = Unit {0}
 FitsEvent count event = ⊥
 
@@ -58,6 +62,7 @@ pub record FitsLife (count : ℕ) (life : LifeScript) : Type 0 where
   -- carriers are those of interfaces of the script
   pub up : life.begin.up < 2 ^ count
   pub turns : All (FitsGiven count) life.turns
+  pub over : EndsWhenOver (wakes_seen life.begin.at life.turns)
 
 pub record FitsScript (script : ScriptLines) : Type 0 where
   pub conf : All (Lacks 10) script.conf

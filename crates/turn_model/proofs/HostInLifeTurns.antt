@@ -55,7 +55,7 @@ turned_holds managed failing before after turned true_before none =
 opening_turned : (managed : List Managed) (specs : List IfSpec) (world : World) → Turned managed world.host.failing (unknown_table world.host.told) (running_opened managed specs world)
 opening_turned managed specs world =
     let it : Acts managed None (opening_step managed specs world.link.told.begin).client world.host (ran_opening managed specs world) = opening_acts managed specs world.link.told.begin world in
-    let same : managed_in (opening_step managed specs world.link.told.begin).client.ifaces ≡ managed = all_opened world.link.told.begin.up (moment_of world.link.told.begin.at) managed in
+    let same : managed_in (opening_step managed specs world.link.told.begin).client.ifaces ≡ managed = all_opened world.link.told.begin.up (moment_of world.link.told.begin.at) world.link.told.begin.salt managed in
     let turned : Table = table_turned managed world.host.failing (rows_of (opening_step managed specs world.link.told.begin).client) (unknown_table world.host.told) in
     record {
       same = ap (λ (c : Client). managed_in c.ifaces) it.client_is ∙ same;

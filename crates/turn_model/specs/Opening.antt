@@ -1,9 +1,11 @@
 -- The opening of a life: asides are cleared, the files read, and then what the client's opening asks, by the parts of a turn.
-use Rattle.std.specs.Prelude.{ℕ, Bool, List, [], ◌∷◌, ◌++◌, codes, Option, Some, None}
+use Rattle.std.specs.Prelude.{ℕ, Bool, List, [], ◌∷◌, ◌++◌, codes, flat_map, Option, Some, None, if◌then◌else◌}
 use Rattle.net_types.specs.declared.interface.IfSpec.{IfSpec}
+use Rattle.net_types.specs.NameText.{name_text}
 use Rattle.world.specs.declared.wakes.Begin.{Begin}
 use Rattle.world.specs.StoreCalls.{Reading}
 use Rattle.settings.specs.declared.interfaces.Managed.{Managed}
+use Rattle.client_model.specs.ClientSettings.{runs_dhcp4}
 use Rattle.client_model.specs.Clients.{ClientStep, opening}
 use Rattle.machine.specs.Moment.{moment_of}
 use Rattle.device_calls.specs.Calls.{ListAsides, Read, RemoveFile, Settle}
@@ -34,9 +36,13 @@ abbrev pub reading : List FileRead → (names : List (List ℕ)) → Asks (List 
 reading files [] = Done files
 reading files (name ∷ names) = Then (Read name) (λ found. reading (files ++ record { name = name; reading = found } ∷ []) names)
 
--- the files that a life reads and keeps
+-- the file in which the lease of an interface is kept, where DHCPv4 runs
+abbrev pub lease_files : Managed → List (List ℕ)
+lease_files managed = if runs_dhcp4 managed.conf then (name_text managed.spec.name ++ codes ".lease4") ∷ [] else []
+
+-- the files that a life reads: those of leases, and the resolver's
 abbrev pub file_names : List Managed → List (List ℕ)
-file_names managed = codes "resolv.conf" ∷ []
+file_names managed = flat_map lease_files managed ++ codes "resolv.conf" ∷ []
 
 -- the client's opening: `specs` are all interfaces of the host, `managed` those that the client manages
 abbrev pub opening_step : List Managed → List IfSpec → Begin → ClientStep

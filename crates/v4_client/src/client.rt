@@ -265,7 +265,8 @@ pub fn rebind4(c: &mut Client4, at: u64, salt: u64) -> Result<Out4, NoMemory>
 
 /// The lease that is held.
 pub fn held4(c: &Client4) -> Option<&Lease4>
-    ensures { option_map (λ lease. lease_content lease.now) result ≡ held_of c.now }
+    ensures value { option_map (λ lease. lease_content lease.now) result ≡ held_of c.now }
+    ensures fits { IfSome (option_map (λ lease. lease_content lease.now) result) FitsLease }
 {
     if !is_held(c.state) {
         return None;

@@ -1,6 +1,8 @@
 mod Fronts
 mod HostSteps
 mod FileMaps
+mod UndoMaps
+mod CrashSteps
 mod StoreSteps
 mod FoundNumbers
 mod CallCounts

@@ -64,39 +64,39 @@ module _ (first : List MemFile) (held held' : List (String Global × Vec ℕ)) (
       rw (f, e, fold-append store_step (store_start first) entries (entry ∷ []), step)
       (record { files = is; names = named; counted = length-append (told_after first entries).calls (call ∷ []) ∙ ap (λ n. n + 1) h.counted ∙ sym next })
 
-  pub after_remove : (copy : String Global) (name : List ℕ) → after ≡ between ++ Remove copy true ∷ [] → string_bytes copy ≡ name → map entry_file held' ≡ drop_file name (map entry_file held) → HoldsFiles (told_after first after) held' number
+  pub after_remove : (copy : List ℕ) (name : List ℕ) → after ≡ between ++ Remove copy true ∷ [] → copy ≡ name → map entry_file held' ≡ drop_file name (map entry_file held) → HoldsFiles (told_after first after) held' number
   after_remove copy name f n k =
-      after_change (Remove copy true) (RemovedFile (string_bytes copy) true) (drop_file (string_bytes copy) (told_after first entries).files) refl f
+      after_change (Remove copy true) (RemovedFile copy true) (drop_file copy (told_after first entries).files) refl f
       (ap (λ m. drop_file m (told_after first entries).files) n ∙ ap (drop_file name) h.files ∙ sym k)
-      (All-drop_file IsNamed (string_bytes copy) (told_after first entries).files h.names)
+      (All-drop_file IsNamed copy (told_after first entries).files h.names)
 
-  pub after_write : (copy aside : String Global) (written content : Vec ℕ) (name bytes : List ℕ) → after ≡ between ++ Write copy written true ∷ [] → string_bytes copy ≡ name → written.items ≡ bytes → string_bytes aside ≡ aside_of name → content.items ≡ bytes → IsFileName name
+  pub after_write : (copy : List ℕ) (aside : String Global) (written content : Vec ℕ) (name bytes : List ℕ) → after ≡ between ++ Write copy written true ∷ [] → copy ≡ name → written.items ≡ bytes → string_bytes aside ≡ aside_of name → content.items ≡ bytes → IsFileName name
       → map entry_file held' ≡ put_file (record { name = string_bytes aside; bytes = content.items }) (map entry_file held) → HoldsFiles (told_after first after) held' number
   after_write copy aside written content name bytes f n w a b is k =
-      let file : StoreFile = record { name = aside_of (string_bytes copy); bytes = written.items } in
+      let file : StoreFile = record { name = aside_of copy; bytes = written.items } in
       let same : file ≡ record { name = string_bytes aside; bytes = content.items } = λ i. record { name = (ap aside_of n ∙ sym a) i; bytes = (w ∙ sym b) i } in
-      after_change (Write copy written true) (WroteAside (string_bytes copy) written.items true) (put_file file (told_after first entries).files) refl f
+      after_change (Write copy written true) (WroteAside copy written.items true) (put_file file (told_after first entries).files) refl f
       (ap (λ g. put_file g (told_after first entries).files) same ∙ ap (put_file (record { name = string_bytes aside; bytes = content.items })) h.files ∙ sym k)
-      (All-put_file IsNamed file (told_after first entries).files h.names (let named : IsFileName (string_bytes copy) = rw n is in aside_named (string_bytes copy) named))
+      (All-put_file IsNamed file (told_after first entries).files h.names (let named : IsFileName copy = rw n is in aside_named copy named))
 
   rename_named : (name : List ℕ) (o : Option (List ℕ)) (files : List StoreFile) → IsFileName name → All IsNamed files → All IsNamed (rename_file name o files)
   rename_named name None files is a = a
   rename_named name (Some bytes) files is a = All-drop_file IsNamed (aside_of name) (put_file (record { name = name; bytes = bytes }) files) (All-put_file IsNamed (record { name = name; bytes = bytes }) files a is)
 
-  pub after_rename : (copy : String Global) (name : List ℕ) → after ≡ between ++ Rename copy true ∷ [] → string_bytes copy ≡ name → IsFileName name → map entry_file held' ≡ rename_file name (file_at (aside_of name) (map entry_file held)) (map entry_file held) → HoldsFiles (told_after first after) held' number
+  pub after_rename : (copy : List ℕ) (name : List ℕ) → after ≡ between ++ Rename copy true ∷ [] → copy ≡ name → IsFileName name → map entry_file held' ≡ rename_file name (file_at (aside_of name) (map entry_file held)) (map entry_file held) → HoldsFiles (told_after first after) held' number
   after_rename copy name f n is k =
       let now = (told_after first entries).files in
-      after_change (Rename copy true) (RenamedAside (string_bytes copy) true) (rename_file (string_bytes copy) (file_at (aside_of (string_bytes copy)) (told_after first entries).files) (told_after first entries).files) refl f
+      after_change (Rename copy true) (RenamedAside copy true) (rename_file copy (file_at (aside_of copy) (told_after first entries).files) (told_after first entries).files) refl f
       (ap (λ m. rename_file m (file_at (aside_of m) (told_after first entries).files) (told_after first entries).files) n ∙ ap (λ files. rename_file name (file_at (aside_of name) files) files) h.files ∙ sym k)
-      (let named : IsFileName (string_bytes copy) = rw n is in rename_named (string_bytes copy) (file_at (aside_of (string_bytes copy)) (told_after first entries).files) (told_after first entries).files named h.names)
+      (let named : IsFileName copy = rw n is in rename_named copy (file_at (aside_of copy) (told_after first entries).files) (told_after first entries).files named h.names)
 
   unmoved : (name : List ℕ) (o : Option (List ℕ)) (files : List StoreFile) → is_some o ≡ false → rename_file name o files ≡ files
   unmoved name None files e = refl
   unmoved name (Some bytes) files e = cc
 
-  pub after_missing : (copy : String Global) (name : List ℕ) → after ≡ between ++ Rename copy false ∷ [] → (o : Option (List ℕ)) → is_some o ≡ false → map entry_file held' ≡ rename_file name o (map entry_file held) → HoldsFiles (told_after first after) held' number
+  pub after_missing : (copy : List ℕ) (name : List ℕ) → after ≡ between ++ Rename copy false ∷ [] → (o : Option (List ℕ)) → is_some o ≡ false → map entry_file held' ≡ rename_file name o (map entry_file held) → HoldsFiles (told_after first after) held' number
   after_missing copy name f o gone k =
-      after_change (Rename copy false) (RenamedAside (string_bytes copy) false) (told_after first entries).files refl f
+      after_change (Rename copy false) (RenamedAside copy false) (told_after first entries).files refl f
       (h.files ∙ sym (k ∙ unmoved name o (map entry_file held) gone)) h.names
 
 -- the asides found so far, of those that come before the rest

@@ -8,7 +8,8 @@ use Rattle.world.specs.StoreFails.{StoreFails}
 use Rattle.world.specs.StoreCalls.{Found, Missing, Unread, StoreCall, ListedAsides, ReadFile, WroteAside, SyncedAside, RenamedAside, RemovedFile, SettledFiles, StoreTold, store_answered, store_holding, reading_of}
 use Rattle.world_mem.specs.declared.stores.MemFile.{MemFile}
 use Rattle.world_mem.specs.declared.stores.StoreEntry.{StoreEntry}
-use Rattle.world_mem.specs.declared.stores.StoreEntry.TheVariants.{List as Lists, Read, Write, Sync, Rename, Remove, Settle}
+use Rattle.world_mem.specs.declared.stores.StoreEntry.TheVariants.{List as Lists, Read, Write, Sync, Rename, Remove, Settle, Crash}
+use Rattle.world_mem.specs.CrashRecord.{after_crash}
 
 pub record StoreState : Type 0 where
   -- the files and the calls so far
@@ -36,13 +37,14 @@ changed false call change told = store_answered call told.files told
 abbrev pub store_step : StoreTold → StoreEntry → StoreTold
 store_step told (Lists true) = store_answered (ListedAsides (Some (asides told.files))) told.files told
 store_step told (Lists false) = store_answered (ListedAsides None) told.files told
-store_step told (Read name true) = store_answered (ReadFile (string_bytes name) (reading_of (file_at (string_bytes name) told.files))) told.files told
-store_step told (Read name false) = store_answered (ReadFile (string_bytes name) Unread) told.files told
-store_step told (Write name bytes done) = changed done (WroteAside (string_bytes name) bytes.items done) (put_file (record { name = aside_of (string_bytes name); bytes = bytes.items })) told
-store_step told (Sync name done) = changed done (SyncedAside (string_bytes name) done) (λ files. files) told
-store_step told (Rename name done) = changed done (RenamedAside (string_bytes name) done) (λ files. rename_file (string_bytes name) (file_at (aside_of (string_bytes name)) files) files) told
-store_step told (Remove name done) = changed done (RemovedFile (string_bytes name) done) (drop_file (string_bytes name)) told
+store_step told (Read name true) = store_answered (ReadFile name (reading_of (file_at name told.files))) told.files told
+store_step told (Read name false) = store_answered (ReadFile name Unread) told.files told
+store_step told (Write name bytes done) = changed done (WroteAside name bytes.items done) (put_file (record { name = aside_of name; bytes = bytes.items })) told
+store_step told (Sync name done) = changed done (SyncedAside name done) (λ files. files) told
+store_step told (Rename name done) = changed done (RenamedAside name done) (λ files. rename_file name (file_at (aside_of name) files) files) told
+store_step told (Remove name done) = changed done (RemovedFile name done) (drop_file name) told
 store_step told (Settle done) = changed done (SettledFiles done) (λ files. files) told
+store_step told (Crash pick) = after_crash pick told
 
 -- what is told before the first call
 abbrev pub store_start : List MemFile → StoreTold
@@ -73,3 +75,22 @@ pub record HoldsFiles (told : StoreTold) (held : List (String Global × Vec ℕ)
   pub files : told.files ≡ map entry_file held
   pub names : All (λ file. IsFileName file.name) told.files
   pub counted : length told.calls ≡ answered
+
+-- the name in an entry is that of a file
+abbrev pub IsNamedEntry : StoreEntry → Type 0
+IsNamedEntry (Lists done) = Unit {0}
+IsNamedEntry (Read name done) = IsFileName name
+IsNamedEntry (Write name bytes done) = IsFileName name
+IsNamedEntry (Sync name done) = IsFileName name
+IsNamedEntry (Rename name done) = IsFileName name
+IsNamedEntry (Remove name done) = IsFileName name
+IsNamedEntry (Settle done) = Unit {0}
+IsNamedEntry (Crash pick) = Unit {0}
+
+-- what undoing changes has names of files
+abbrev pub UndoesNamed : StoreTold → Type 0
+UndoesNamed told = All (λ file. IsFileName file.name) told.undo
+
+-- these files have names of files where those that are told have
+abbrev pub KeepsNames : StoreTold → List StoreFile → Type 0
+KeepsNames told files = All (λ file. IsFileName file.name) told.files → All (λ file. IsFileName file.name) files

@@ -1,9 +1,13 @@
-ghost use Rattle.std.specs.Prelude.{◌≡◌, map, IfErr, OnOk, OnErr, option_map};
+ghost use Rattle.std.specs.Prelude.{◌≡◌, map, IfOk, IfErr, OnOk, OnErr, option_map};
 ghost use Rattle.std.specs.String.{string_bytes};
+ghost use Rattle.world.specs.FileNames.{IsFileName};
 ghost use Rattle.world.specs.FileLists.{put_file, drop_file, file_at};
 ghost use Rattle.world_mem.specs.StoreRecord.{entry_file};
 
+use crate::record::copy_text;
+use std::alloc::Global;
 use std::collections::BTreeMap;
+use std::marker::Model;
 use world::DeviceAnswer;
 
 /// The files by their names.
@@ -35,5 +39,42 @@ pub(crate) fn bytes_of<'a>(files: &'a Files, name: &str) -> Option<&'a [u8]>
     match files.get(name) {
         Some(bytes) => Some(bytes.as_slice()),
         None => None,
+    }
+}
+
+/// The name of a file.
+#[derive(Drop)]
+pub(crate) struct FileName {
+    text: String,
+}
+
+impl Model for FileName {
+    ghost use Rattle.std.specs.Prelude.{ℕ, List};
+    ghost use Rattle.std.specs.String.{string_bytes};
+    ghost use Rattle.world.specs.FileNames.{IsFileName};
+
+    ghost Value = { List ℕ };
+
+    ghost view = { λ name. string_bytes name.text };
+
+    ghost invariant = { λ name. IsFileName (string_bytes name.text) };
+}
+
+impl FileName {
+    /// A copy of a name.
+    pub(crate) fn new(alloc: Global, name: &str) -> Result<FileName, DeviceAnswer>
+        requires { IsFileName name.now }
+        ensures ok { IfOk result (λ copy. copy ≡ name.now) }
+        ensures err { IfErr result (λ e. e ≡ DeviceAnswer.NoMemory) }
+    {
+        let text = copy_text(alloc, name)?;
+        Ok(FileName { text })
+    }
+
+    pub(crate) fn as_str(&self) -> &str
+        ensures text { result.now ≡ self.now }
+        ensures named { IsFileName self.now }
+    {
+        &self.text
     }
 }

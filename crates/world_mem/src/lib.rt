@@ -2,17 +2,21 @@
 //! and keep a record of their calls.
 #![tactic(auto)]
 
+mod crashes;
 mod fails;
 mod files;
 mod hooking;
 mod hosts;
 mod links;
 mod record;
+mod replaying;
 mod stores;
 mod streams;
 #[cfg(test)]
 mod tests;
+mod undoing;
 
+pub use crashes::Pick;
 pub use hooking::{MemHooks, MemPoll};
 pub use hosts::MemHost;
 pub use links::{MemLink, MemWake};

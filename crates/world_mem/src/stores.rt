@@ -7,13 +7,18 @@ ghost use Rattle.world_mem.specs.Fuse.{first_stopped};
 ghost use Rattle.world.specs.FileNames.{IsFileName, aside_of};
 ghost use Rattle.world.specs.FileLists.{is_aside, file_at, put_file, rename_file};
 ghost use Rattle.world.specs.StoreCalls.{Appended};
-ghost use Rattle.world_mem.specs.StoreRecord.{store_start, entry_file, file_of};
+ghost use Rattle.world.specs.CrashImages.{IsImage};
+ghost use Rattle.world.specs.SoundStores.{reads_of};
+ghost use Rattle.world_mem.specs.CrashRecord.{after_crash};
+ghost use Rattle.world_mem.specs.StoreRecord.{store_start, entry_file, file_of, in_name_order};
 
+use crate::crashes::Pick;
 use crate::fails::Fails;
-use crate::files::{Files, bytes_of, put, take_out};
+use crate::files::{FileName, Files, bytes_of, put, take_out};
 use crate::record::{
     Numbers, accept, copy_bytes, copy_text, enter, make_room, next_number, refuse,
 };
+use crate::replaying::left_files;
 use std::alloc::Global;
 use std::collections::BTreeMap;
 use std::marker::Model;
@@ -36,28 +41,32 @@ pub(crate) enum StoreEntry {
         done: bool,
     },
     Read {
-        name: String,
+        name: FileName,
         done: bool,
     },
     Write {
-        name: String,
+        name: FileName,
         bytes: Vec<u8>,
         done: bool,
     },
     Sync {
-        name: String,
+        name: FileName,
         done: bool,
     },
     Rename {
-        name: String,
+        name: FileName,
         done: bool,
     },
     Remove {
-        name: String,
+        name: FileName,
         done: bool,
     },
     Settle {
         done: bool,
+    },
+    /// No call: a life ended, and the next one found what a crash left.
+    Crash {
+        pick: Pick,
     },
 }
 
@@ -89,12 +98,7 @@ impl MemStore {
         requires { All (λ file. IsFileName (string_bytes file.name)) files.items }
         ensures { IfOk result (λ store. store ≡ record { told = store_start files.items; failing = record { numbers = fails.items; from = None } }) }
     {
-        let mut held = BTreeMap::new(alloc);
-        for file in &files {
-            let Ok(()) = put_copy(alloc, &mut held, file) else {
-                return Err(NoMemory);
-            };
-        }
+        let held = first_files(alloc, &files)?;
         Ok(MemStore {
             alloc,
             first: files,
@@ -113,6 +117,50 @@ impl MemStore {
     {
         self.fails.set_fuse(self.answered, calls);
     }
+}
+
+impl MemStore {
+    /// The store of the next life, which finds what a crash left. Calls go on to be counted.
+    pub fn after_crash(self, pick: Pick) -> Result<MemStore, NoMemory>
+        ensures left { IfOk result (λ store. store ≡ record self { told = after_crash pick self.told }) }
+        ensures image { IfOk result (λ store. IsImage self.told.disk (reads_of self.told) (reads_of store.told)) }
+    {
+        let MemStore {
+            alloc,
+            first,
+            files,
+            mut calls,
+            answered,
+            fails,
+        } = self;
+        let files = left_files(alloc, pick, &first, &calls, files)?;
+        let Ok(()) = make_room(&mut calls, 1) else {
+            return Err(NoMemory);
+        };
+        enter(&mut calls, StoreEntry::Crash { pick });
+        Ok(MemStore {
+            alloc,
+            first,
+            files,
+            calls,
+            answered,
+            fails,
+        })
+    }
+}
+
+/// The files at first, by their names.
+pub(crate) fn first_files(alloc: Global, files: &[MemFile]) -> Result<Files, NoMemory>
+    ensures held { IfOk result (λ held. map entry_file held.entries ≡ in_name_order (map file_of files.now)) }
+    ensures named { IfOk result (λ held. All (λ file. IsFileName (string_bytes file.name)) files.now → All (λ file. IsFileName file.name) (map entry_file held.entries)) }
+{
+    let mut held = BTreeMap::new(alloc);
+    for file in files {
+        let Ok(()) = put_copy(alloc, &mut held, file) else {
+            return Err(NoMemory);
+        };
+    }
+    Ok(held)
 }
 
 /// The number of the next call, for which room is made in the record.
@@ -136,7 +184,7 @@ fn put_copy(alloc: Global, held: &mut Files, file: &MemFile) -> Result<(), Devic
 }
 
 /// The name of a file's aside.
-fn aside_name(alloc: Global, name: &str) -> Result<String, DeviceAnswer>
+pub(crate) fn aside_name(alloc: Global, name: &str) -> Result<String, DeviceAnswer>
     ensures ok { IfOk result (λ aside. string_bytes aside ≡ aside_of name.now) }
     ensures err { IfErr result (λ e. e ≡ DeviceAnswer.NoMemory) }
 {
@@ -203,7 +251,7 @@ fn append_file(files: &Files, name: &str, into: &mut Vec<u8>) -> Result<bool, De
 }
 
 /// Puts the aside of a file in its place and says whether there was one.
-fn rename(alloc: Global, files: &mut Files, name: &str) -> Result<bool, DeviceAnswer>
+pub(crate) fn rename(alloc: Global, files: &mut Files, name: &str) -> Result<bool, DeviceAnswer>
     ensures ok { IfOk result (λ there. (there ≡ is_some (file_at (aside_of name.now) (map entry_file files.old.entries))) × (map entry_file files.new.entries ≡ rename_file name.now (file_at (aside_of name.now) (map entry_file files.old.entries)) (map entry_file files.old.entries))) }
     ensures unchanged { OnErr result (files.new.entries ≡ files.old.entries) }
     ensures err { IfErr result (λ e. e ≡ DeviceAnswer.NoMemory) }
@@ -243,7 +291,7 @@ impl Store for MemStore {
 
     fn read_file(&mut self, name: &str, into: &mut Vec<u8>) -> Result<bool, DeviceAnswer> {
         let number = next_call(self.answered, &mut self.calls)?;
-        let copy = copy_text(self.alloc, name)?;
+        let copy = FileName::new(self.alloc, name)?;
         if self.fails.has(number) {
             self.answered = number;
             return refuse(
@@ -268,7 +316,7 @@ impl Store for MemStore {
 
     fn write_aside(&mut self, name: &str, bytes: &[u8]) -> Result<(), DeviceAnswer> {
         let number = next_call(self.answered, &mut self.calls)?;
-        let copy = copy_text(self.alloc, name)?;
+        let copy = FileName::new(self.alloc, name)?;
         let written = copy_bytes(self.alloc, bytes)?;
         if self.fails.has(number) {
             self.answered = number;
@@ -297,7 +345,7 @@ impl Store for MemStore {
 
     fn sync_aside(&mut self, name: &str) -> Result<(), DeviceAnswer> {
         let number = next_call(self.answered, &mut self.calls)?;
-        let copy = copy_text(self.alloc, name)?;
+        let copy = FileName::new(self.alloc, name)?;
         self.answered = number;
         if self.fails.has(number) {
             return refuse(
@@ -319,7 +367,7 @@ impl Store for MemStore {
 
     fn rename_aside(&mut self, name: &str) -> Result<(), DeviceAnswer> {
         let number = next_call(self.answered, &mut self.calls)?;
-        let copy = copy_text(self.alloc, name)?;
+        let copy = FileName::new(self.alloc, name)?;
         if self.fails.has(number) {
             self.answered = number;
             return refuse(
@@ -352,7 +400,7 @@ impl Store for MemStore {
 
     fn remove(&mut self, name: &str) -> Result<(), DeviceAnswer> {
         let number = next_call(self.answered, &mut self.calls)?;
-        let copy = copy_text(self.alloc, name)?;
+        let copy = FileName::new(self.alloc, name)?;
         self.answered = number;
         if self.fails.has(number) {
             return refuse(

@@ -5,4 +5,4 @@ use Rattle.client_core.specs.Stepping.{GoAll}
 use Rattle.client_core.proofs.clients.opened_ifaces.Given as goal
 
 abbrev pub invariant-loop-m : goal.invariant-loop-m
-invariant-loop-m l = GoAll (opened l.begin.up l.at) (take l.m-index l.managed) l.ifaces.items (asked_in l.initial.outs) (asked_in l.outs)
+invariant-loop-m l = GoAll (opened l.opening.up l.opening.at l.opening.salt) (take l.m-index l.managed) l.ifaces.items (asked_in l.initial.outs) (asked_in l.outs)

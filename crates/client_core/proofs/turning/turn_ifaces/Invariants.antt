@@ -6,7 +6,6 @@ use Rattle.client_model.specs.Clients.{sends_of}
 use Rattle.client_model.specs.WantedRows.{iface_rows}
 use Rattle.iface_core.specs.Inputs.{turn_of}
 use Rattle.iface_core.specs.Outcomes.{asked_in}
-use Rattle.client_core.specs.Stepping.{GoAll}
 use Rattle.client_core.proofs.turning.turn_ifaces.Given as goal
 
 abbrev pub invariant-loop-iface : goal.invariant-loop-iface

@@ -1,7 +1,6 @@
-use Rattle.std.proofs.Common.{◌≡◌, ◌+◌, Some, subst}
+use Rattle.std.proofs.Common.{◌≡◌, ◌+◌, Some, None, subst}
 use Rattle.script_model.specs.LineNumbers.{line_feeds}
 use Rattle.conf_text.specs.Settings.{configuration, managed_of}
-use Rattle.conf_text.specs.Unbuilt.{NamesUnbuilt}
 use Rattle.conf_text.specs.Reading.{IsConfigurationOf, IsNoConfiguration}
 use Rattle.daemon.proofs.Causes.{error_is}
 use Rattle.dhcpcd.specs.Statuses.{IsNoScript, IsRefused}
@@ -22,8 +21,7 @@ returns-in-Ok-clause-found c =
 
 pub returns-in-Err-NotBuilt-clause-bad : goal.returns-in-Err-NotBuilt-clause-bad
 returns-in-Err-NotBuilt-clause-bad c =
-    refused_for_settings c.unbuilt_interface.result c.in-Err-NotBuilt.field-0 c.in-Err-NotBuilt.place c.args.bytes.now c.in_ok-script.script (configuration c.in_ok-conf.conf) c.configuration_is_one.ensures.configuration c.in_ok-script.ensures.found
+    refused_for_settings c.first_interface.result c.args.bytes.now c.in_ok-script.script (configuration c.in_ok-conf.conf) c.configuration_is_one.ensures.configuration c.in_ok-script.ensures.found
     (subst (λ text. IsConfigurationOf text (configuration c.in_ok-conf.conf)) c.deref.ensures.value c.in_ok-conf.ensures.found)
-    c.in-Err-NotBuilt.field-0-is
-    (subst (λ ifaces. NamesUnbuilt c.in-Err-NotBuilt.field-0 ifaces (managed_of (configuration c.in_ok-conf.conf) ifaces)) c.deref-2.ensures.value c.in-Err-NotBuilt.ensures.refused)
-    (subst (λ text. IsRefused (line_feeds text + c.in-Err-NotBuilt.place + 2) c.unbuilt_interface.result (Unit {0})) c.deref-in-Err-NotBuilt.ensures.value c.unbuilt_interface.ensures)
+    (subst (λ ifaces. managed_of (configuration c.in_ok-conf.conf) ifaces ≡ None) c.deref-2.ensures.value (c.in-Err-NotBuilt.ensures.refused c.in-Err-NotBuilt.field-0-is))
+    (subst (λ text. IsRefused (line_feeds text + 2) c.first_interface.result (Unit {0})) c.deref-in-Err-NotBuilt.ensures.value c.first_interface.ensures)

@@ -1,5 +1,10 @@
-use Rattle.evidence.proofs.Rows.{have_basis}
+use Rattle.lease_evidence.proofs.Joining.{LeaseRelation}
+use Rattle.evidence.proofs.Based.{have_basis, others_have_basis}
+use Rattle.evidence.proofs.Leasing.{leases_based}
 use Rattle.evidence.proofs.laws.addresses_have_a_basis.Goals as goal
 
-pub returns : goal.returns
-returns c = have_basis
+pub returns-clause-each : goal.returns-clause-each
+returns-clause-each c = have_basis LeaseRelation leases_based
+
+pub returns-clause-without_dhcp4 : goal.returns-clause-without_dhcp4
+returns-clause-without_dhcp4 c = others_have_basis

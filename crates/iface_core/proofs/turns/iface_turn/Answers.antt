@@ -6,7 +6,7 @@ use Rattle.client_model.specs.Interfaces.{ticked, unsent_in}
 use Rattle.client_model.specs.IfaceTurns.{Turn, input_step}
 use Rattle.iface_core.specs.Inputs.{turn_of}
 use Rattle.iface_core.specs.Outcomes.{Goes, asked_in}
-use Rattle.iface_core.proofs.Staying.{input_stays}
+use Rattle.client_model.proofs.SameInterfaces.{input_same}
 use Rattle.iface_core.proofs.Following.{goes_then}
 use Rattle.iface_core.proofs.turns.iface_turn.Goals as goal
 
@@ -15,10 +15,10 @@ returns c =
     let turn : Turn = turn_of c.args.turn.now in
     let first : IfaceStep = ticked turn.at turn.salt (unsent_in turn.unsent turn.at turn.salt c.args.iface.now) in
     let input : (Iface → IfaceStep) = input_step c.args.own.now turn.at turn.salt turn.event turn.bytes in
-    let ticks : Goes first c.tick_if_due.new.iface (asked_in c.args.outs.now) (asked_in c.tick_if_due.new.outs) =
-    subst (λ (iface : Iface). Goes (ticked turn.at turn.salt iface) c.tick_if_due.new.iface (asked_in c.args.outs.now) (asked_in c.tick_if_due.new.outs))
-    c.restart.ensures c.in_ok-tick_if_due.ensures in
+    let ticks : Goes first c.tick_machines.new.iface (asked_in c.args.outs.now) (asked_in c.tick_machines.new.outs) =
+    subst (λ (iface : Iface). Goes (ticked turn.at turn.salt iface) c.tick_machines.new.iface (asked_in c.args.outs.now) (asked_in c.tick_machines.new.outs))
+    c.restart.ensures c.in_ok-tick_machines.ensures in
     on_ok_weaker c.iface_input.result
-    (goes_then first input c.tick_if_due.new.iface c.iface_input.new.iface (asked_in c.args.outs.now) (asked_in c.tick_if_due.new.outs) (asked_in c.iface_input.new.outs)
-    (input_stays c.args.own.now turn.at turn.salt turn.bytes turn.event first.iface).managed ticks)
+    (goes_then first input c.tick_machines.new.iface c.iface_input.new.iface (asked_in c.args.outs.now) (asked_in c.tick_machines.new.outs) (asked_in c.iface_input.new.outs)
+    (input_same c.args.own.now turn.at turn.salt turn.event turn.bytes first.iface) ticks)
     c.iface_input.ensures

@@ -1,4 +1,6 @@
-use Rattle.lease_file.proofs.Removals.{names_told, calls_all, taken_all}
+use Rattle.std.proofs.Common.{◌∙◌}
+use Rattle.lease_file.proofs.Removals.{named_bytes, names_told, calls_all, taken_all}
+use Rattle.lease_file.proofs.StepLaws.{cleared_answered}
 use Rattle.lease_file.proofs.clearing.clear_asides.Goals as goal
 
 pub returns-clause-names : goal.returns-clause-names
@@ -11,3 +13,9 @@ returns-clause-calls g c =
 pub returns-clause-taken : goal.returns-clause-taken
 returns-clause-taken g c =
     taken_all _ _ c.in_ok-removed.removed.items _ _ _ _ c.in_ok-names.ensures.failing c.in_ok-names.ensures.files c.in_ok-settled.ensures.files c.in_ok-removed.ensures.taken
+
+pub returns-clause-answered : goal.returns-clause-answered
+returns-clause-answered g c =
+    cleared_answered _ _ _ c.in_ok-removed.removed.items _ c.in_ok-settled.settled _ _ _ _ c.in_ok-names.ensures.failing
+    (c.in_ok-removed.ensures.failing ∙ c.in_ok-names.ensures.failing) (named_bytes c.in_ok-removed.removed.items _ c.in_ok-removed.ensures.names)
+    c.in_ok-names.ensures.answered c.in_ok-removed.ensures.answered c.in_ok-settled.ensures.answered

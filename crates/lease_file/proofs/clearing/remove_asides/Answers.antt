@@ -1,6 +1,7 @@
 use Rattle.std.proofs.Common.{◌≡◌, ◌∷◌, ◌∙◌, ap, length, arith}
 use Rattle.std.specs.Vec.Iter.{into_iter_items}
 use Rattle.lease_file.proofs.Removals.{cause_more, calls_more, files_more, names_more, taken_more}
+use Rattle.lease_file.proofs.StepLaws.{removal_more}
 use Rattle.lease_file.proofs.clearing.remove_asides.Goals as goal
 
 pub loop-name-preserved : goal.loop-name-preserved
@@ -19,4 +20,5 @@ loop-name-preserved g c =
       calls = calls_more at.removed.items _ _ _ _ _ all at.invariant.calls (rw c.deref.ensures at one.calls);
       taken = taken_more _ _ at.removed.items _ _ _ _ _ _ at.invariant.failing c.deref.ensures all at.invariant.taken one.taken;
       files = λ known. files_more at.removed.items _ _ _ _ _ all (at.invariant.files known) (rw c.deref.ensures at (one.files (rw at.invariant.failing known)));
+      answered = removal_more _ _ at.removed.items _ _ _ _ _ _ at.invariant.failing c.deref.ensures all at.invariant.answered one.answered;
     }

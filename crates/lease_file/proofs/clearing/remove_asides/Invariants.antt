@@ -6,6 +6,7 @@ use Rattle.std.specs.Vec.Iter.{into_iter_items, into_iter_len}
 use Rattle.world.specs.FileNames.{IsFileName}
 use Rattle.lease_file.specs.ToldStore.{told_files, told_calls, with_calls}
 use Rattle.lease_file.specs.AsideCalls.{any_left, removal_calls}
+use Rattle.lease_file.specs.StoreAnswers.{Answered}
 use Rattle.lease_file.specs.AsideFiles.{without, TakesFiles}
 use Rattle.lease_file.proofs.Removals.{names_of}
 use Rattle.lease_file.proofs.clearing.remove_asides.Given as goal
@@ -21,4 +22,5 @@ invariant-loop-name g l = record {
   calls : told_calls (g.S.Store.told l.store) ≡ with_calls (removal_calls l.removed.items) (told_calls (g.S.Store.told l.fn.store));
   taken : TakesFiles (g.S.Store.failing l.fn.store) l.removed.items (told_files (g.S.Store.told l.fn.store)) (told_files (g.S.Store.told l.store));
   files : IsSome (g.S.Store.failing l.fn.store) → told_files (g.S.Store.told l.store) ≡ option_map (without l.removed.items) (told_files (g.S.Store.told l.fn.store));
+  answered : Answered (g.S.Store.failing l.fn.store) (removal_calls l.removed.items) (g.S.Store.told l.fn.store) (g.S.Store.told l.store);
 }

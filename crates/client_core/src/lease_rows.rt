@@ -1,0 +1,142 @@
+//! The rows of a lease: its address, and its classless routes or its preferred router.
+
+ghost use Rattle.std.specs.Prelude.{◌≡◌, ◌==◌, ◌++◌, IfOk, IfSome, OnOk, find, flat_map, option_and_then, option_map};
+ghost use Rattle.std.specs.Option.{option_copied};
+ghost use Rattle.std.specs.List.{AllByRecursion};
+ghost use Rattle.world.specs.Rows.{IsInterface};
+ghost use Rattle.v4_options.specs.Numbers.{addrs_in};
+ghost use Rattle.lease_text.specs.Bounds.{FitsLease};
+ghost use Rattle.lease_text.specs.Leases.{lease_content, values_content};
+ghost use Rattle.client_model.specs.WantedRows.{value_in, classless_in, routers_in, classless_rows, preferred, lease_routes, lease_rows};
+ghost use Rattle.client_core.specs.Routing.{HasDestination};
+
+use crate::address_rows::{push_address, push_gateway, push_route, push_router};
+use crate::host_rows::HostRows;
+use lease_text::{Lease4, Value};
+use net_types::{IfIndex, Ip4, Net4, NoMemory};
+use std::alloc::{AllocError, Global};
+use v4_options::code::{CLASSLESS_ROUTES, ROUTERS};
+use v4_options::{ClasslessRoute, addr_of, routes_of};
+use world::Via;
+
+/// The bytes of an address.
+const ADDRESS_LEN: usize = 4;
+
+/// The value of a code as it is kept.
+fn kept_value(values: &[Value], code: u8) -> Option<&Value>
+    ensures { option_copied result ≡ find (λ value. value.code == code) values.now }
+{
+    values.iter().find(|value| value.code == u16::from(code))
+}
+
+/// The bytes of the value of a code.
+#[tactic(auto, using(crate::proofs::LeaseValues::value_found))]
+fn value_in(values: &[Value], code: u8) -> Option<&[u8]>
+    ensures { option_map (λ bytes. bytes.now) result ≡ value_in code (values_content values.now) }
+{
+    let value = kept_value(values, code)?;
+    Some(&value.bytes)
+}
+
+/// The first of the addresses that are the value, which is the preferred one (RFC 2132, section 3.5). None unless the value
+/// is one address or more.
+#[tactic(auto, using(crate::proofs::LeaseValues::first_four))]
+fn first_address(value: &[u8]) -> Option<Ip4>
+    ensures { result ≡ option_and_then preferred (addrs_in value.now) }
+{
+    if value.is_empty() || value.len() % ADDRESS_LEN != 0 {
+        return None;
+    }
+    addr_of(&value[..ADDRESS_LEN])
+}
+
+/// The preferred router.
+fn router_of(values: &[Value]) -> Option<Ip4>
+    ensures { result ≡ option_and_then preferred (routers_in (values_content values.now)) }
+{
+    first_address(value_in(values, ROUTERS)?)
+}
+
+/// The classless routes.
+fn classless_of(alloc: Global, values: &[Value]) -> Result<Option<Vec<ClasslessRoute>>, NoMemory>
+    ensures routes { IfOk result (λ routes. option_map (λ v. v.items) routes ≡ classless_in (values_content values.now)) }
+    ensures fit { IfOk result (λ routes. IfSome routes (λ v. AllByRecursion HasDestination v.items)) }
+{
+    match value_in(values, CLASSLESS_ROUTES) {
+        None => Ok(None),
+        Some(value) => routes_of(alloc, value),
+    }
+}
+
+/// A classless route; where its gateway is 0 its destination is on the link (RFC 3442).
+fn push_classless(
+    rows: &mut HostRows,
+    iface: IfIndex,
+    net: Net4,
+    route: ClasslessRoute,
+) -> Result<(), AllocError>
+    requires index { IsInterface iface.number }
+    requires fit { HasDestination route }
+    ensures { OnOk result (rows.new ≡ rows.old ++ classless_rows iface net route) }
+{
+    if route.via.number == 0 {
+        return push_route(rows, iface, route.dest, Via::OnLink);
+    }
+    push_route(rows, iface, route.dest, Via::Gate4(route.via))?;
+    push_gateway(rows, iface, net, route.via)
+}
+
+/// The classless routes, each after another.
+fn push_all_classless(
+    rows: &mut HostRows,
+    iface: IfIndex,
+    net: Net4,
+    routes: &[ClasslessRoute],
+) -> Result<(), AllocError>
+    requires index { IsInterface iface.number }
+    requires fit { AllByRecursion HasDestination routes.now }
+    ensures { OnOk result (rows.new ≡ rows.old ++ flat_map (classless_rows iface net) routes.now) }
+{
+    for route in routes {
+        push_classless(rows, iface, net, *route)?;
+    }
+    Ok(())
+}
+
+/// Classless routes take the place of routers (RFC 3442).
+fn push_lease_routes(
+    alloc: Global,
+    rows: &mut HostRows,
+    iface: IfIndex,
+    net: Net4,
+    values: &[Value],
+) -> Result<(), NoMemory>
+    requires { IsInterface iface.number }
+    ensures { OnOk result (rows.new ≡ rows.old ++ lease_routes iface net (classless_in (values_content values.now)) (routers_in (values_content values.now))) }
+{
+    match classless_of(alloc, values)? {
+        Some(routes) => push_all_classless(rows, iface, net, &routes)?,
+        None => push_router(rows, iface, net, router_of(values))?,
+    }
+    Ok(())
+}
+
+/// Appends the rows of a lease.
+pub fn push_lease(
+    alloc: Global,
+    rows: &mut HostRows,
+    iface: IfIndex,
+    lease: Option<&Lease4>,
+) -> Result<(), NoMemory>
+    requires index { IsInterface iface.number }
+    requires fits { IfSome (option_map (λ lease. lease_content lease.now) lease) FitsLease }
+    ensures { OnOk result (rows.new ≡ rows.old ++ lease_rows iface (option_map (λ lease. lease_content lease.now) lease.entry)) }
+{
+    match lease {
+        None => Ok(()),
+        Some(lease) => {
+            push_address(rows, iface, lease.net)?;
+            push_lease_routes(alloc, rows, iface, lease.net, &lease.values)
+        }
+    }
+}

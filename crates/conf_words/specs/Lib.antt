@@ -1,0 +1,9 @@
+pub mod Marks
+pub mod Parts
+pub mod TextLines
+pub mod Characters
+pub mod Directives
+pub mod Arguments
+pub mod Steps
+pub mod Readings
+pub mod WordLaws

@@ -1,0 +1,6 @@
+-- Each lease that is held has its basis.
+use Rattle.lease_evidence.proofs.Joining.{LeaseRelation, lease_carried, lease_based}
+use Rattle.evidence.proofs.Based.{AreBased}
+
+pub leases_based : AreBased LeaseRelation
+leases_based = record { carried = lease_carried; based = lease_based }

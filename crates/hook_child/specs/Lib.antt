@@ -1,0 +1,3 @@
+pub mod Supervision
+pub mod Histories
+pub mod HistoryLaws

@@ -1,0 +1,8 @@
+/// The child that runs.
+#[derive(Clone, Copy, Debug, PartialEq, Eq)]
+pub struct Child {
+    /// The number of its job.
+    pub number: u64,
+    /// The moment at which it was started.
+    pub since: u64,
+}

@@ -1,0 +1,219 @@
+//! The DHCPv4 client of an interface, and what link-local makes of its news.
+ghost use Rattle.std.specs.Prelude.{◌≡◌, ◌<◌, ◌^◌, None, true, is_some, IfOk, OnOk};
+ghost use Rattle.net_types.specs.NameText.{FitsName};
+ghost use Rattle.machine.specs.Moment.{is_due};
+ghost use Rattle.v4_frames.specs.Heard.{heard_shown};
+ghost use Rattle.v4_message.specs.Requests.{AskFits, ask_content};
+ghost use Rattle.v4_client.specs.Clients.{client_made, held_of, out_content};
+ghost use Rattle.v4_client.specs.Due.{due_of};
+ghost use Rattle.v4_client.specs.Settings.{settings_content};
+ghost use Rattle.client_model.specs.ClientSettings.{ask_of, runs_dhcp4, settings_of};
+ghost use Rattle.client_model.specs.Dhcp4Steps as run;
+ghost use Rattle.iface_core.specs.Outcomes.{Follows, Goes, asked_in};
+
+use crate::local::{arm, drop_local};
+use crate::outs::Outs;
+use client_model::{ETHERNET, Iface, WANTED_CODES};
+use frame_link::ArpView;
+use machine::Machine;
+use net_types::{Mac, NoMemory};
+use settings::{IfConf, Managed};
+use std::alloc::{AllocError, Global};
+use v4_client::{
+    Carrier, Client4, News4, Out4, Set4, Tell, carrier4, client4_new, heard_arp4, heard4, held4,
+    rebind4, release4,
+};
+use v4_frames::Heard4;
+use v4_message::Ask4;
+
+/// DHCPv4 runs where it isn't forbidden and no static line gives an address.
+pub fn runs_dhcp4(conf: &IfConf) -> bool
+    ensures { result ≡ runs_dhcp4 conf.now }
+{
+    !conf.nodhcp && conf.line.is_none()
+}
+
+/// What a client says of itself: it is known by its hardware address.
+fn ask_of(alloc: Global, managed: &Managed) -> Result<Ask4, AllocError>
+    ensures value { IfOk result (λ ask. ask_content ask ≡ ask_of managed.now) }
+    ensures fits { IfOk result (λ ask. AskFits (ask_content ask)) }
+{
+    let mut client_id = Vec::new(alloc);
+    client_id.push(ETHERNET)?;
+    client_id.extend_from_slice(&managed.spec.mac.bytes)?;
+    Ok(Ask4 {
+        client_id,
+        vendor: Vec::new(alloc),
+        host: Vec::new(alloc),
+        list: WANTED_CODES.to_vec(alloc)?,
+    })
+}
+
+fn settings_of(alloc: Global, managed: &Managed) -> Result<Set4, AllocError>
+    ensures value { IfOk result (λ set. settings_content set ≡ settings_of managed.now) }
+    ensures fits { IfOk result (λ set. AskFits (ask_content set.ask)) }
+{
+    Ok(Set4 {
+        iface: managed.spec,
+        ask: ask_of(alloc, managed)?,
+        nodelay: managed.conf.nodelay,
+        noarp: managed.conf.noarp,
+        broadcast: managed.conf.broadcast,
+        reboot: managed.conf.reboot,
+        required: Vec::new(alloc),
+        refused: Vec::new(alloc),
+        blacklist: Vec::new(alloc),
+    })
+}
+
+/// The client of an interface, off, with no lease kept.
+pub fn client_of(alloc: Global, managed: &Managed) -> Result<Client4, AllocError>
+    requires { FitsName managed.now.spec.name }
+    ensures { IfOk result (λ client. client ≡ client_made (settings_of managed.now) None) }
+{
+    let set = settings_of(alloc, managed)?;
+    Ok(client4_new(alloc, set, None))
+}
+
+/// Whether a client holds a lease.
+pub fn holds_lease(client: &Client4) -> bool
+    ensures { result ≡ is_some (held_of client.now) }
+{
+    held4(client).is_some()
+}
+
+/// Link-local after the client's news: a lease that is bound turns it off, and where one that was held has ended, it is armed.
+fn follow_local(iface: &mut Iface, held: bool, news: News4, at: u64)
+    requires { at < 10 ^ 15 }
+    ensures { iface.new ≡ record iface.old { local = run.followed iface.old.managed.conf at held news iface.old.local } }
+{
+    match news {
+        News4::Bound | News4::Reboot => drop_local(iface),
+        News4::Nak | News4::Expire => {
+            if held {
+                arm(&iface.managed.conf, &mut iface.local, at);
+            }
+        }
+        News4::Renew | News4::Rebind | News4::Stop | News4::Nothing => {}
+    }
+}
+
+/// Takes over what the client says. `held` is whether it held a lease before.
+fn follow(
+    iface: &mut Iface,
+    held: bool,
+    out: &Out4,
+    at: u64,
+    outs: &mut Outs,
+) -> Result<(), NoMemory>
+    requires { at < 10 ^ 15 }
+    ensures { OnOk result (Follows at held (out_content out.now) iface.old iface.new (asked_in outs.old) (asked_in outs.new)) }
+{
+    follow_local(iface, held, out.news, at);
+    outs.say_dhcp4(iface, out.say)?;
+    outs.say_arp(iface, out.arp)?;
+    outs.tell_lease(out.news)
+}
+
+/// Ticks the client, which is due.
+#[tactic(auto, using(crate::proofs::Following::goes_dhcp4))]
+pub fn tick_dhcp4(iface: &mut Iface, at: u64, salt: u64, outs: &mut Outs) -> Result<(), NoMemory>
+    requires at { at < 10 ^ 15 }
+    requires due { is_due (due_of iface.old.dhcp4.state) at ≡ true }
+    ensures { OnOk result (Goes (run.tick_dhcp4 at salt iface.old) iface.new (asked_in outs.old) (asked_in outs.new)) }
+{
+    let held = holds_lease(&iface.dhcp4);
+    let out = iface.dhcp4.tick(at, salt)?;
+    follow(iface, held, &out, at, outs)
+}
+
+/// A client that is off begins, where DHCPv4 runs.
+#[tactic(auto, using(crate::proofs::Following::goes_dhcp4))]
+pub fn begin_dhcp4(iface: &mut Iface, at: u64, salt: u64, outs: &mut Outs) -> Result<(), NoMemory>
+    requires { at < 10 ^ 15 }
+    ensures { OnOk result (Goes (run.begin_dhcp4 at salt iface.old) iface.new (asked_in outs.old) (asked_in outs.new)) }
+{
+    if !runs_dhcp4(&iface.managed.conf) {
+        return Ok(());
+    }
+    let held = holds_lease(&iface.dhcp4);
+    let out = carrier4(&mut iface.dhcp4, Carrier::Up, at, salt)?;
+    follow(iface, held, &out, at, outs)
+}
+
+/// A lease that is held is confirmed with any server, and a client that is off begins, where DHCPv4 runs.
+#[tactic(auto, using(crate::proofs::Following::goes_dhcp4))]
+pub fn rebind_dhcp4(iface: &mut Iface, at: u64, salt: u64, outs: &mut Outs) -> Result<(), NoMemory>
+    requires { at < 10 ^ 15 }
+    ensures { OnOk result (Goes (run.rebind_dhcp4 at salt iface.old) iface.new (asked_in outs.old) (asked_in outs.new)) }
+{
+    if !runs_dhcp4(&iface.managed.conf) {
+        return Ok(());
+    }
+    let held = holds_lease(&iface.dhcp4);
+    let out = rebind4(&mut iface.dhcp4, at, salt)?;
+    follow(iface, held, &out, at, outs)
+}
+
+/// The carrier is gone: the client is off, and the kept lease stays kept.
+#[tactic(auto, using(crate::proofs::Following::goes_dhcp4))]
+pub fn drop_dhcp4(iface: &mut Iface, at: u64, salt: u64, outs: &mut Outs) -> Result<(), NoMemory>
+    requires { at < 10 ^ 15 }
+    ensures { OnOk result (Goes (run.drop_dhcp4 at salt iface.old) iface.new (asked_in outs.old) (asked_in outs.new)) }
+{
+    let held = holds_lease(&iface.dhcp4);
+    let out = carrier4(&mut iface.dhcp4, Carrier::Down, at, salt)?;
+    follow(iface, held, &out, at, outs)
+}
+
+/// The client stops; `tell` says whether the server of a held lease is told.
+#[tactic(auto, using(crate::proofs::Following::goes_dhcp4))]
+pub fn stop_dhcp4(
+    iface: &mut Iface,
+    tell: Tell,
+    at: u64,
+    salt: u64,
+    outs: &mut Outs,
+) -> Result<(), NoMemory>
+    requires { at < 10 ^ 15 }
+    ensures { OnOk result (Goes (run.stop_dhcp4 tell at salt iface.old) iface.new (asked_in outs.old) (asked_in outs.new)) }
+{
+    let held = holds_lease(&iface.dhcp4);
+    let out = release4(&mut iface.dhcp4, tell, at, salt)?;
+    follow(iface, held, &out, at, outs)
+}
+
+/// The client hears an ARP packet. `own` holds the hardware addresses of all interfaces of the host.
+#[tactic(auto, using(crate::proofs::Following::goes_dhcp4))]
+pub fn hear_packet(
+    iface: &mut Iface,
+    arp: &ArpView,
+    at: u64,
+    salt: u64,
+    own: &[Mac],
+    outs: &mut Outs,
+) -> Result<(), NoMemory>
+    requires { at < 10 ^ 15 }
+    ensures { OnOk result (Goes (run.dhcp4_packet own.now at salt arp.now iface.old) iface.new (asked_in outs.old) (asked_in outs.new)) }
+{
+    let held = holds_lease(&iface.dhcp4);
+    let out = heard_arp4(&mut iface.dhcp4, arp, at, salt, own)?;
+    follow(iface, held, &out, at, outs)
+}
+
+/// The client hears a server's message.
+#[tactic(auto, using(crate::proofs::Following::goes_dhcp4))]
+pub fn hear_message(
+    iface: &mut Iface,
+    heard: &Heard4,
+    at: u64,
+    salt: u64,
+    outs: &mut Outs,
+) -> Result<(), NoMemory>
+    requires { at < 10 ^ 15 }
+    ensures { OnOk result (Goes (run.dhcp4_takes at salt (run.arrival_at at (heard_shown heard.now)) iface.old) iface.new (asked_in outs.old) (asked_in outs.new)) }
+{
+    let held = holds_lease(&iface.dhcp4);
+    let out = heard4(&mut iface.dhcp4, &heard.message, heard.source, at, salt)?;
+    follow(iface, held, &out, at, outs)
+}

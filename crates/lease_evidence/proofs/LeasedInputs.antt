@@ -1,0 +1,426 @@
+-- What an interface carries of the turns shown for its lease, and that its inputs keep it.
+use Rattle.std.proofs.Common.{◌≡◌, ℕ, ◌<◌, ◌≤◌, ◌^◌, Bool, true, false, ◌&&◌, ◌||◌, List, [], ◌∷◌, ◌++◌, map, Option, Some, None, IfSome, refl, sym, ap, subst, ◌∙◌, arith, append_assoc, append-nil}
+use Rattle.std.proofs.lemmas.Bool.Decides.{nat_tests}
+use Rattle.std.specs.Prelude.{◌==◌, option_map, option_and_then, option_to_list}
+use Rattle.net_types.proofs.CaseLaws.{split, gated}
+use Rattle.net_types.specs.Marks.{AreBytes}
+use Rattle.net_types.specs.declared.address.Mac.{Mac}
+use Rattle.frame_link.specs.declared.arp.ArpView.{ArpView}
+use Rattle.frame_link.specs.Frames as ethernet
+use Rattle.frame_link.specs.Packets.{arp_kind}
+use Rattle.ipv4ll.specs.declared.link_local.LinkLocal.{LinkLocal}
+use Rattle.ipv4ll.specs.Table.{ll_hears}
+use Rattle.lease_text.specs.Bounds.{FitsLease}
+use Rattle.lease_text.specs.Leases.{LeaseContent, terms_of}
+use Rattle.udp_frame.specs.declared.udp4.TheConstants.{KIND_IPV4}
+use Rattle.v4_frames.specs.Heard.{HeardMessage, same_mac, message_for, heard4_in}
+use Rattle.v4_frames.specs.InRange as sent
+use Rattle.v4_client.specs.declared.states.Answer4.TheVariants as answer
+use Rattle.v4_client.specs.declared.states.Carrier.TheVariants.{Up, Down}
+use Rattle.v4_client.specs.declared.states.Exchange4.{Exchange4}
+use Rattle.v4_client.specs.declared.states.State4.TheVariants.{Off}
+use Rattle.v4_client.specs.declared.states.Step4.{Step4}
+use Rattle.v4_client.specs.declared.states.Tell.{Tell}
+use Rattle.v4_client.specs.declared.states.Tell.TheVariants.{Server}
+use Rattle.v4_client.specs.declared.states.Turn4.{Turn4}
+use Rattle.v4_client.specs.Answers.{reply_in}
+use Rattle.v4_client.specs.Calls.{answer_to, arp_step, brought, carrier_step, heard_step, rebind_step, release_step}
+use Rattle.v4_client.specs.Clients.{ClientContent, kept_terms, turn_of}
+use Rattle.v4_client.specs.Granting.{kept_values}
+use Rattle.v4_client.specs.Messages.{Arrival}
+use Rattle.v4_client.specs.Moves.{moved}
+use Rattle.v4_client.specs.Settings.{SettingsContent}
+use Rattle.v4_client.specs.Steps.{rests}
+use Rattle.v4_client.proofs.SoundAnswers.{answer_fits}
+use Rattle.v4_client.proofs.SoundClients.{moved_sound, brought_sound, values_fit, begin_fits}
+use Rattle.v4_client.proofs.SoundSteps.{heard_sound, arp_sound, begin_sound, off_sound, release_sound, rebind_sound}
+use Rattle.world.specs.declared.wakes.Event.{Event}
+use Rattle.world.specs.declared.wakes.Event.TheVariants.{Frame, Carrier, Duplicate, Release, Rebind, Stop, Quiet, End}
+use Rattle.client_model.specs.declared.interfaces.Iface.{Iface}
+use Rattle.client_model.specs.declared.steps.Said.{Said}
+use Rattle.client_model.specs.declared.steps.Said.TheVariants.{Arp}
+use Rattle.client_model.specs.ClientSettings.{ask_of, settings_of, runs_dhcp4}
+use Rattle.client_model.specs.Dhcp4Steps.{holds_lease, said_in, dhcp4_step, arrival_at, begin_dhcp4, rebind_dhcp4, arms}
+use Rattle.client_model.specs.IfaceSteps.{IfaceStep, silent, then_step}
+use Rattle.client_model.specs.IfaceTurns.{arp_of_frame, arp_heard, hears_either, input_step}
+use Rattle.client_model.specs.Interfaces.{begins, machines_rebind, told_at_stop}
+use Rattle.evidence_words.specs.Entries.{Entry, Offer, offers_on}
+use Rattle.evidence_words.specs.Inputs.{Site, index_at, arp_on, carrier_after, has_carrier, is_stop, is_stopped}
+use Rattle.evidence_words.proofs.Offers.{Offered}
+use Rattle.lease_evidence.specs.Exchanges.{Seen}
+use Rattle.lease_evidence.specs.LeaseBasis.{tells_end, now_in}
+use Rattle.lease_evidence.specs.Replies.{message_on, reply_by, reply_at}
+use Rattle.lease_evidence.proofs.ArrivalFits as heard
+use Rattle.lease_evidence.proofs.Carrying.{Carries, Amid, turn_mac, turn_noarp, seen_amid, kept_amid, within_amid, silent_heard, calm_finish, off_finish}
+use Rattle.lease_evidence.proofs.Observer.{Kept, stays_on, stays_at}
+use Rattle.lease_evidence.proofs.ProbeInputs as probes
+use Rattle.lease_evidence.proofs.SayFits as fields
+use Rattle.lease_evidence.proofs.SayFits.{FitsStep}
+use Rattle.lease_evidence.proofs.Spoken.{AreArp, are_arp}
+use Rattle.lease_evidence.proofs.Watching.{Lasts, message_in}
+use Rattle.lease_evidence.proofs.WatchInputs.{HeardAfter, heard_watched, arp_watched, begin_watched, rebind_watched, off_watched, release_watched}
+
+pub record Leased (site : Site) (clean : Type 0) (f : Iface) (past : List Entry) : Type 0 where
+  pub stopped : f.stopped ≡ is_stopped past
+  pub carrier : f.stopped ≡ false → f.up ≡ has_carrier site past
+  pub off : f.stopped ≡ true → f.dhcp4.state ≡ Off
+  pub client : Carries (Lasts (now_in past)) site clean f.dhcp4 past
+
+-- ---- a frame is an ARP packet or a message
+
+both_kinds : (kind : ℕ) → (kind == arp_kind) ≡ true → (kind == KIND_IPV4) ≡ false
+both_kinds kind h = grind (arith, nat_tests)
+
+and_false : (a b : Bool) → b ≡ false → (a && b) ≡ false
+and_false true b h = h
+and_false false b h = refl
+
+arp_not_message : (mac : Mac) (arp : ArpView) (frame : Option ethernet.Frame) → option_and_then arp_of_frame frame ≡ Some arp
+    → option_and_then (message_for mac) frame ≡ None
+arp_not_message mac arp None h = refl
+arp_not_message mac arp (Some frame) h =
+    split (frame.kind == arp_kind)
+    (λ is. rw (and_false (same_mac frame.to mac || same_mac frame.to ethernet.broadcast) (frame.kind == KIND_IPV4) (both_kinds frame.kind is)) refl)
+    (λ other. absurd (none (rw other at h)))
+  where
+    none : None ≡ Some arp → ⊥
+    none e = cc
+
+pub packet_no_message : (mac : Mac) (bytes : List ℕ) (arp : ArpView) → arp_heard bytes ≡ Some arp → heard4_in mac bytes ≡ None
+unfolding heard4_in
+packet_no_message mac bytes arp h = arp_not_message mac arp (ethernet.frame_in bytes) h
+
+-- ---- the kept lease
+
+kept_fits : (kept : Option LeaseContent) → IfSome kept FitsLease → IfSome (option_map terms_of kept) (λ terms. sent.FitsIp4 terms.net.ip)
+kept_fits None h = tt
+kept_fits (Some lease) h = fields.host_fits lease.net.ip h.terms.address
+
+-- an interface's carrier, and whether it was stopped
+pub record IsFaced (has_carrier_now was_stopped : Bool) (g : Iface) : Type 0 where
+  pub up : g.up ≡ has_carrier_now
+  pub stopped : g.stopped ≡ was_stopped
+
+-- ---- the input of a turn
+
+module _ (site : Site) (mac : sent.FitsMac site.managed.spec.mac) (clean : Type 0) (at salt : ℕ) (early : at < 10 ^ 15) (bytes : List ℕ) (octets : AreBytes bytes)
+    (offers : List Offer) (past : List Entry) where
+  abbrev pub entry : Event → Entry
+  entry event = record { moment = at; event = event; bytes = bytes; offers = offers }
+
+  abbrev pub face : (up stopped : Bool) → ClientContent → LinkLocal → Iface
+  face up stopped c local = record { managed = site.managed; up = up; stopped = stopped; dhcp4 = c; local = local }
+
+  abbrev Spelled : List Said → Type 0
+  Spelled said = Offered site.managed.spec (ask_of site.managed) clean said (offers_on (index_at site) offers)
+
+  module _ (event : Event) (one : Step4) (between : List Said) (arps : AreArp between) (c : ClientContent) (amid : Amid site clean (entry event) past one c) where
+    abbrev said : List Said
+    said = said_in one ++ between
+
+    abbrev e : Entry
+    e = entry event
+
+    abbrev turn : Turn4
+    turn = turn_of at salt c
+
+    abbrev seen_so : Seen
+    seen_so = seen_amid site clean e past one c amid mac between arps
+
+    abbrev kept_so : Kept
+    kept_so = kept_amid site clean e past one c amid mac between arps
+
+    within_so : kept_so.answered ≤ seen_so.count
+    within_so = within_amid site clean e past one c amid mac between arps
+
+    -- what the client carries after a step of the interface
+    abbrev Carried : IfaceStep → Type 0
+    Carried step = Spelled (said ++ step.said) → Carries (Lasts at) site clean step.iface.dhcp4 (e ∷ past)
+
+    bracket : (rest : List Said) → Spelled (said ++ rest) → Spelled (said_in one ++ (between ++ rest))
+    bracket rest h = subst Spelled (append_assoc (said_in one) between rest) h
+
+    abbrev Silent : Type 0
+    Silent = message_on site event bytes ≡ None
+
+    silent_reply : Silent → (exchange : Exchange4) → reply_at site exchange e ≡ answer.Nothing
+    silent_reply none exchange = ap (λ (m : Option HeardMessage). reply_by (settings_of site.managed) exchange (option_map (arrival_at at) m)) none
+
+    -- ---- steps of the client
+
+    -- an input that is nothing to the client
+    pub passed : stays_at site e past ≡ true → Silent → arp_on (index_at site) event bytes ≡ None → Spelled (said ++ []) → Carries (Lasts at) site clean c (e ∷ past)
+    passed stays none no_arp h =
+        calm_finish site clean e past one c amid mac between arps (rests turn c.state) c [] tt amid.settings amid.sound
+        (record { state = amid.fields; say = tt }) h stays
+        (silent_heard site clean e past one c amid mac between arps (rests turn c.state) (silent_reply none) amid.watched)
+        (probes.rests_bears site (ask_of site.managed) clean e past (said_in one) (between ++ []) (tells_end (message_in one)) (bracket [] h) turn no_arp c.state amid.bears)
+
+    -- a packet
+    heard_packet : (arp : ArpView) (after : List Said) → AreArp after → stays_at site e past ≡ true → Silent → arp_on (index_at site) event bytes ≡ Some arp
+        → Spelled (said ++ (said_in (arp_step site.own at salt arp c) ++ after)) → Carries (Lasts at) site clean (moved (arp_step site.own at salt arp c) c) (e ∷ past)
+    heard_packet arp after more_arps stays none is h =
+        let two : Step4 = arp_step site.own at salt arp c in
+        calm_finish site clean e past one c amid mac between arps two c after more_arps amid.settings
+        (moved_sound c two amid.sound (arp_sound site.own turn arp c.state amid.sound.state))
+        (fields.arp_fits turn (turn_mac site mac c amid.settings) site.own arp c.state amid.fields) h stays
+        (silent_heard site clean e past one c amid mac between arps two (silent_reply none)
+        (arp_watched turn seen_so.count seen_so.current kept_so within_so amid.watched.xid site.own arp c.state amid.watched.on))
+        (probes.arp_bears site (ask_of site.managed) clean e past (said_in one) (between ++ (said_in two ++ after)) (tells_end (message_in one))
+        (bracket (said_in two ++ after) h) turn arp is c.state amid.bears)
+
+    -- a message
+    heard_message : (message : HeardMessage) → heard.FitsHeard message → stays_at site e past ≡ true → message_on site event bytes ≡ Some message
+        → arp_on (index_at site) event bytes ≡ None → Spelled (said ++ said_in (heard_step salt (arrival_at at message) c))
+        → Carries (Lasts at) site clean (moved (heard_step salt (arrival_at at message) c) (brought (arrival_at at message) c)) (e ∷ past)
+    heard_message message good stays is no_arp h =
+        let arrival : Arrival = arrival_at at message in
+        let two : Step4 = heard_step salt arrival c in
+        let listed : Spelled (said ++ (said_in two ++ [])) = subst (λ (rest : List Said). Spelled (said ++ rest)) (sym (append-nil (said_in two))) h in
+        let answers = answer_fits c.settings arrival c.state amid.sound.state in
+        calm_finish site clean e past one c amid mac between arps two (brought arrival c) [] tt amid.settings
+        (moved_sound (brought arrival c) two
+        (brought_sound c (answer_to arrival c) (kept_values c.settings.refused arrival.message.instances) amid.sound (values_fit c.settings.refused arrival.message.instances))
+        (heard_sound turn (answer_to arrival c) c.state early amid.sound.state answers))
+        (fields.heard_fits turn (turn_mac site mac c amid.settings) c.settings arrival (good.message _) good.source c.state answers amid.fields) listed stays
+        (subst (λ (came : Option HeardMessage). HeardAfter at (λ exchange. reply_by (settings_of site.managed) exchange (option_map (arrival_at at) came)) seen_so kept_so two) (sym is)
+        (subst (λ (s : SettingsContent). HeardAfter at (λ exchange. reply_in s arrival exchange) seen_so kept_so two) amid.settings
+        (heard_watched c.settings arrival turn refl seen_so.count kept_so within_so seen_so.current c.state amid.watched.xid amid.watched.on)))
+        (probes.heard_bears site (ask_of site.managed) clean e past (said_in one) (between ++ (said_in two ++ [])) (tells_end (message_in one))
+        (bracket (said_in two ++ []) listed) c.settings arrival turn (turn_noarp site c amid.settings) no_arp c.state amid.bears)
+
+    -- the client begins
+    begun : (after : List Said) → AreArp after → stays_at site e past ≡ true → Silent → arp_on (index_at site) event bytes ≡ None
+        → Spelled (said ++ (said_in (carrier_step Up at salt c) ++ after)) → Carries (Lasts at) site clean (moved (carrier_step Up at salt c) c) (e ∷ past)
+    begun after more_arps stays none no_arp h =
+        let two : Step4 = carrier_step Up at salt c in
+        calm_finish site clean e past one c amid mac between arps two c after more_arps amid.settings
+        (moved_sound c two amid.sound (begin_sound turn (kept_terms c) c.state early (begin_fits c.kept amid.sound.kept) amid.sound.state))
+        (fields.begin_fits turn (turn_mac site mac c amid.settings) (kept_terms c) c.state (kept_fits c.kept amid.sound.kept) amid.fields) h stays
+        (silent_heard site clean e past one c amid mac between arps two (silent_reply none)
+        (begin_watched turn seen_so.count seen_so.current kept_so within_so amid.watched.xid (kept_terms c) c.state amid.watched.on))
+        (probes.begin_bears site (ask_of site.managed) clean e past (said_in one) (between ++ (said_in two ++ after)) (tells_end (message_in one))
+        (bracket (said_in two ++ after) h) turn no_arp (kept_terms c) c.state amid.bears)
+
+    -- it confirms its lease anew
+    confirmed : (after : List Said) → AreArp after → stays_at site e past ≡ true → Silent → arp_on (index_at site) event bytes ≡ None
+        → Spelled (said ++ (said_in (rebind_step at salt c) ++ after)) → Carries (Lasts at) site clean (moved (rebind_step at salt c) c) (e ∷ past)
+    confirmed after more_arps stays none no_arp h =
+        let two : Step4 = rebind_step at salt c in
+        calm_finish site clean e past one c amid mac between arps two c after more_arps amid.settings
+        (moved_sound c two amid.sound (rebind_sound turn (kept_terms c) c.state early (begin_fits c.kept amid.sound.kept) amid.sound.state))
+        (fields.rebind_fits turn (turn_mac site mac c amid.settings) (kept_terms c) c.state (kept_fits c.kept amid.sound.kept) amid.fields) h stays
+        (silent_heard site clean e past one c amid mac between arps two (silent_reply none)
+        (rebind_watched turn seen_so.count seen_so.current kept_so within_so amid.watched.xid (kept_terms c) c.state amid.watched.on))
+        (probes.rebind_bears site (ask_of site.managed) clean e past (said_in one) (between ++ (said_in two ++ after)) (tells_end (message_in one))
+        (bracket (said_in two ++ after) h) turn no_arp (kept_terms c) c.state amid.bears)
+
+    -- it is off
+    dropped : Spelled (said ++ (said_in (carrier_step Down at salt c) ++ [])) → Carries (Lasts at) site clean (moved (carrier_step Down at salt c) c) (e ∷ past)
+    dropped h =
+        let two : Step4 = carrier_step Down at salt c in
+        off_finish site clean e past one c amid mac between arps two c [] tt amid.settings
+        (moved_sound c two amid.sound (off_sound turn c.state)) (fields.off_fits turn (turn_mac site mac c amid.settings)) h refl
+        (off_watched turn seen_so.count seen_so.current kept_so within_so amid.watched.xid)
+
+    stopped_by : (tell : Tell) → Spelled (said ++ (said_in (release_step tell at salt c) ++ [])) → Carries (Lasts at) site clean (moved (release_step tell at salt c) c) (e ∷ past)
+    stopped_by tell h =
+        let two : Step4 = release_step tell at salt c in
+        off_finish site clean e past one c amid mac between arps two c [] tt amid.settings
+        (moved_sound c two amid.sound (release_sound turn tell c.state)) (fields.release_fits turn (turn_mac site mac c amid.settings) tell c.state amid.fields) h
+        (probes.stops turn tell c.state)
+        (release_watched turn seen_so.count seen_so.current kept_so within_so amid.watched.xid tell c.state)
+
+    -- a client that is off hears nothing
+    rests_off : c.state ≡ Off → Spelled (said ++ []) → Carries (Lasts at) site clean c (e ∷ past)
+    rests_off off h =
+        off_finish site clean e past one c amid mac between arps (rests turn c.state) c [] tt amid.settings amid.sound
+        (record { state = amid.fields; say = tt }) h off amid.watched
+
+    -- ---- steps of the interface
+
+    abbrev Spoken : IfaceStep → Type 0
+    Spoken step = Spelled (said ++ (step.said ++ [])) → Carries (Lasts at) site clean step.iface.dhcp4 (e ∷ past)
+
+    -- arming says nothing, and is nothing to the client
+    then_arms : (step : IfaceStep) → Spoken step → Carried (then_step step (arms at))
+    then_arms step carried =
+        gated (λ (next : IfaceStep). Spelled (said ++ (step.said ++ next.said)) → Carries (Lasts at) site clean next.iface.dhcp4 (e ∷ past))
+        (holds_lease step.iface) (silent step.iface) _ carried carried
+
+    pub begins_carried : (up stopped : Bool) (local : LinkLocal) → stays_at site e past ≡ true → Silent → arp_on (index_at site) event bytes ≡ None
+        → Carried (begins at salt (face up stopped c local))
+    begins_carried up stopped local stays none no_arp =
+        then_arms (begin_dhcp4 at salt (face up stopped c local))
+        (gated Spoken (runs_dhcp4 site.managed.conf) (dhcp4_step at (face up stopped c local) (carrier_step Up at salt c)) (silent (face up stopped c local))
+        (begun [] tt stays none no_arp) (passed stays none no_arp))
+
+    rebinds_carried : (up stopped : Bool) (local : LinkLocal) → stays_at site e past ≡ true → Silent → arp_on (index_at site) event bytes ≡ None
+        → Carried (machines_rebind at salt (face up stopped c local))
+    rebinds_carried up stopped local stays none no_arp =
+        then_arms (rebind_dhcp4 at salt (face up stopped c local))
+        (gated Spoken (runs_dhcp4 site.managed.conf) (dhcp4_step at (face up stopped c local) (rebind_step at salt c)) (silent (face up stopped c local))
+        (confirmed [] tt stays none no_arp) (passed stays none no_arp))
+
+    either_carried : (up stopped : Bool) (local : LinkLocal) (arp : Option ArpView) (message : Option HeardMessage) → IfSome message heard.FitsHeard
+        → stays_at site e past ≡ true → arp_on (index_at site) event bytes ≡ arp → message_on site event bytes ≡ message
+        → ((packet : ArpView) → arp ≡ Some packet → message ≡ None) → Carried (hears_either site.own at salt arp message (face up stopped c local))
+    either_carried up stopped local (Some arp) message good stays is came one_kind =
+        heard_packet arp (map Arp (option_to_list (ll_hears site.own _ arp at salt).out.arp)) (are_arp _) stays (came ∙ one_kind arp refl) is
+    either_carried up stopped local None None good stays is came one_kind = passed stays came is
+    either_carried up stopped local None (Some message) good stays is came one_kind = heard_message message good stays came is
+
+  -- ---- the interface
+
+  arms_faced : (up stopped : Bool) (g : Iface) → IsFaced up stopped g → IsFaced up stopped (arms at g).iface
+  arms_faced up stopped g h =
+      gated (λ (step : IfaceStep). IsFaced up stopped step.iface) (holds_lease g) (silent g) _ h (record { up = h.up; stopped = h.stopped })
+
+  pub begins_faced : (up stopped : Bool) (c : ClientContent) (local : LinkLocal) → IsFaced up stopped (begins at salt (face up stopped c local)).iface
+  begins_faced up stopped c local =
+      arms_faced up stopped (begin_dhcp4 at salt (face up stopped c local)).iface
+      (gated (λ (step : IfaceStep). IsFaced up stopped step.iface) (runs_dhcp4 site.managed.conf) (dhcp4_step at (face up stopped c local) (carrier_step Up at salt c))
+      (silent (face up stopped c local)) (record { up = refl; stopped = refl }) (record { up = refl; stopped = refl }))
+
+  rebinds_faced : (up stopped : Bool) (c : ClientContent) (local : LinkLocal) → IsFaced up stopped (machines_rebind at salt (face up stopped c local)).iface
+  rebinds_faced up stopped c local =
+      arms_faced up stopped (rebind_dhcp4 at salt (face up stopped c local)).iface
+      (gated (λ (step : IfaceStep). IsFaced up stopped step.iface) (runs_dhcp4 site.managed.conf) (dhcp4_step at (face up stopped c local) (rebind_step at salt c))
+      (silent (face up stopped c local)) (record { up = refl; stopped = refl }) (record { up = refl; stopped = refl }))
+
+  either_faced : (up stopped : Bool) (c : ClientContent) (local : LinkLocal) (arp : Option ArpView) (message : Option HeardMessage)
+      → IsFaced up stopped (hears_either site.own at salt arp message (face up stopped c local)).iface
+  either_faced up stopped c local (Some arp) message = record { up = refl; stopped = refl }
+  either_faced up stopped c local None None = record { up = refl; stopped = refl }
+  either_faced up stopped c local None (Some message) = record { up = refl; stopped = refl }
+
+  pub record Before (event : Event) (one : Step4) (up stopped : Bool) (c : ClientContent) : Type 0 where
+    pub stopped_so : stopped ≡ is_stopped past
+    pub carrier : stopped ≡ false → up ≡ has_carrier site past
+    pub off : stopped ≡ true → c.state ≡ Off
+    pub amid : Amid site clean (entry event) past one c
+
+  module _ (one : Step4) (between : List Said) (arps : AreArp between) (c : ClientContent) (local : LinkLocal) where
+    abbrev AfterInput : Event → IfaceStep → Type 0
+    AfterInput event step = Spelled ((said_in one ++ between) ++ step.said) → Leased site clean step.iface (entry event ∷ past)
+
+    -- after a stop
+    stopped_leased : (event : Event) (up : Bool) → Before event one up true c → AfterInput event (silent (face up true c local))
+    stopped_leased event up b h = record {
+      stopped = stays (is_stop event) (is_stopped past) b.stopped_so;
+      carrier = λ k. cc;
+      off = b.off;
+      client = rests_off event one between arps c b.amid (b.off refl) h;
+    }
+      where
+        stays : (s t : Bool) → true ≡ t → true ≡ (s || t)
+        stays true t p = refl
+        stays false t p = p
+
+    -- an input that takes nothing away
+    record Passes (event : Event) (up : Bool) : Type 0 where
+      runs : is_stop event ≡ false
+      carries : carrier_after (index_at site) event up ≡ up
+      stays : stays_on up (index_at site) event ≡ true
+
+    going : (event : Event) (up now : Bool) (g : Iface) → Before event one up false c → is_stop event ≡ false → carrier_after (index_at site) event up ≡ now
+        → IsFaced now false g → Carries (Lasts at) site clean g.dhcp4 (entry event ∷ past) → Leased site clean g (entry event ∷ past)
+    going event up now g b runs carried faced client = record {
+      stopped = faced.stopped ∙ subst (λ s. false ≡ (s || is_stopped past)) (sym runs) b.stopped_so;
+      carrier = λ k. faced.up ∙ sym carried ∙ ap (carrier_after (index_at site) event) (b.carrier refl);
+      off = λ k. absurd (let bad : false ≡ true = sym faced.stopped ∙ k in cc);
+      client = client;
+    }
+
+    stays_so : (event : Event) (up : Bool) → Before event one up false c → stays_on up (index_at site) event ≡ true → stays_at site (entry event) past ≡ true
+    stays_so event up b h = subst (λ u. stays_on u (index_at site) event ≡ true) (b.carrier refl) h
+
+    same_leased : (event : Event) (up : Bool) → Before event one up false c → Passes event up → message_on site event bytes ≡ None
+        → arp_on (index_at site) event bytes ≡ None → AfterInput event (silent (face up false c local))
+    same_leased event up b passes none no_arp h =
+        going event up up (face up false c local) b passes.runs passes.carries (record { up = refl; stopped = refl }) (passed event one between arps c b.amid (stays_so event up b passes.stays) none no_arp h)
+
+    frame_leased : (index len : ℕ) (up : Bool) → (index_at site == index) ≡ true → Before (Frame index len) one up false c
+        → AfterInput (Frame index len) (input_step site.own at salt (Frame index len) bytes (face up false c local))
+    frame_leased index len up here b =
+        rw here (λ h. going (Frame index len) up up _ b refl refl (either_faced up false c local (arp_heard bytes) (heard4_in site.managed.spec.mac bytes))
+        (either_carried (Frame index len) one between arps c b.amid up false local (arp_heard bytes) (heard4_in site.managed.spec.mac bytes)
+        (heard.heard_fits site.managed.spec.mac bytes octets) refl (rw here refl) (rw here refl) (packet_no_message site.managed.spec.mac bytes) h))
+
+    -- ---- the carrier
+
+    -- it comes
+    comes_leased : (event : Event) (up : Bool) → Before event one up false c → stays_on up (index_at site) event ≡ true → is_stop event ≡ false
+        → carrier_after (index_at site) event up ≡ true → message_on site event bytes ≡ None → arp_on (index_at site) event bytes ≡ None
+        → AfterInput event (begins at salt (face true false c local))
+    comes_leased event up b stays runs carried none no_arp h =
+        going event up true (begins at salt (face true false c local)).iface b runs carried (begins_faced true false c local)
+        (begins_carried event one between arps c b.amid true false local (stays_so event up b stays) none no_arp h)
+
+    carrier_leased : (index : ℕ) (to up : Bool) → (index_at site == index) ≡ true → Before (Carrier index to) one up false c
+        → AfterInput (Carrier index to) (input_step site.own at salt (Carrier index to) bytes (face up false c local))
+    carrier_leased index true true here b =
+        rw here (same_leased (Carrier index true) true b (record { runs = refl; carries = rw here refl; stays = rw here refl }) refl refl)
+    carrier_leased index true false here b =
+        rw here (comes_leased (Carrier index true) false b (rw here refl) refl (rw here refl) refl refl)
+    carrier_leased index false true here b =
+        rw here (λ h. going (Carrier index false) true false _ b refl (rw here refl) (record { up = refl; stopped = refl })
+        (dropped (Carrier index false) one between arps c b.amid h))
+    carrier_leased index false false here b =
+        rw here (same_leased (Carrier index false) false b (record { runs = refl; carries = rw here refl; stays = rw here refl }) refl refl)
+
+    -- ---- what is given back, and what is confirmed
+
+    release_leased : (index : ℕ) (up : Bool) → (index_at site == index) ≡ true → Before (Release index) one up false c
+        → AfterInput (Release index) (input_step site.own at salt (Release index) bytes (face up false c local))
+    release_leased index up here b =
+        rw here (λ h. going (Release index) up up _ b refl refl (record { up = refl; stopped = refl })
+        (stopped_by (Release index) one between arps c b.amid Server h))
+
+    rebind_leased : (index : ℕ) (up : Bool) → (index_at site == index) ≡ true → Before (Rebind index) one up false c
+        → AfterInput (Rebind index) (input_step site.own at salt (Rebind index) bytes (face up false c local))
+    rebind_leased index true here b =
+        rw here (λ h. going (Rebind index) true true (machines_rebind at salt (face true false c local)).iface b refl refl (rebinds_faced true false c local)
+        (rebinds_carried (Rebind index) one between arps c b.amid true false local refl refl refl h))
+    rebind_leased index false here b =
+        rw here (same_leased (Rebind index) false b (record { runs = refl; carries = refl; stays = refl }) refl refl)
+
+    stop_leased : (up : Bool) → Before Stop one up false c → AfterInput Stop (input_step site.own at salt Stop bytes (face up false c local))
+    stop_leased up b h = record {
+      stopped = refl;
+      carrier = λ k. cc;
+      off = λ k. probes.stops (turn_of at salt c) (told_at_stop site.managed.conf) c.state;
+      client = stopped_by Stop one between arps c b.amid (told_at_stop site.managed.conf) h;
+    }
+
+    -- ---- all of them
+
+    abbrev Plain : Event → Bool → Type 0
+    Plain event up = Passes event up × (message_on site event bytes ≡ None) × (arp_on (index_at site) event bytes ≡ None)
+
+    plain : (event : Event) (up : Bool) → Before event one up false c → Plain event up → AfterInput event (silent (face up false c local))
+    plain event up b p = same_leased event up b p.0 p.1 p.2
+
+    running_leased : (event : Event) (up : Bool) → Before event one up false c
+        → AfterInput event (input_step site.own at salt event bytes (face up false c local))
+    running_leased (Frame index len) up b =
+        split (index_at site == index) (λ here. frame_leased index len up here b)
+        (λ elsewhere. rw elsewhere (plain (Frame index len) up b (record { runs = refl; carries = refl; stays = refl }, rw elsewhere refl, rw elsewhere refl)))
+    running_leased (Carrier index to) up b =
+        split (index_at site == index) (λ here. carrier_leased index to up here b)
+        (λ elsewhere. rw elsewhere (plain (Carrier index to) up b (record { runs = refl; carries = rw elsewhere refl; stays = rw elsewhere refl }, refl, refl)))
+    running_leased (Duplicate index addr) up b = plain (Duplicate index addr) up b (record { runs = refl; carries = refl; stays = refl }, refl, refl)
+    running_leased (Release index) up b =
+        split (index_at site == index) (λ here. release_leased index up here b)
+        (λ elsewhere. rw elsewhere (plain (Release index) up b (record { runs = refl; carries = refl; stays = rw elsewhere refl }, refl, refl)))
+    running_leased (Rebind index) up b =
+        split (index_at site == index) (λ here. rebind_leased index up here b)
+        (λ elsewhere. rw elsewhere (plain (Rebind index) up b (record { runs = refl; carries = refl; stays = refl }, refl, refl)))
+    running_leased Stop up b = stop_leased up b
+    running_leased Quiet up b = plain Quiet up b (record { runs = refl; carries = refl; stays = refl }, refl, refl)
+    running_leased End up b = plain End up b (record { runs = refl; carries = refl; stays = refl }, refl, refl)
+
+    pub input_leased : (event : Event) (up stopped : Bool) → Before event one up stopped c
+        → AfterInput event (input_step site.own at salt event bytes (face up stopped c local))
+    input_leased event up true b = stopped_leased event up b
+    input_leased event up false b = running_leased event up b

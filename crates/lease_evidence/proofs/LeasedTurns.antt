@@ -1,0 +1,172 @@
+-- Each turn of an interface, and its opening, keep what it carries for its lease.
+use Rattle.std.proofs.Common.{◌≡◌, ℕ, ◌<◌, ◌^◌, Bool, true, false, List, [], ◌∷◌, map, length, None, refl, sym, ap, subst, ◌∙◌, arith, lit<, if◌then◌else◌}
+use Rattle.std.specs.Prelude.{option_to_list}
+use Rattle.machine.specs.Moment.{is_due}
+use Rattle.net_types.specs.Marks.{AreBytes}
+use Rattle.net_types.specs.declared.address.Mac.{Mac}
+use Rattle.ipv4ll.specs.declared.link_local.LinkLocal.{LinkLocal}
+use Rattle.ipv4ll.specs.Table.{ll_tick, ll_restarts, off}
+use Rattle.v4_client.specs.declared.states.State4.{State4}
+use Rattle.v4_client.specs.declared.states.State4.TheVariants.{Off}
+use Rattle.v4_client.specs.declared.states.Step4.{Step4}
+use Rattle.v4_client.specs.declared.states.Turn4.{Turn4}
+use Rattle.v4_client.specs.Calls.{unsent_step}
+use Rattle.v4_client.specs.Clients.{ClientContent, client_made, turn_of}
+use Rattle.v4_client.specs.Due.{due_of}
+use Rattle.v4_client.specs.History.{tick_step}
+use Rattle.v4_client.specs.Inputs.{unsent_row}
+use Rattle.v4_client.specs.Moves.{moved}
+use Rattle.v4_client.specs.Sound.{IsSound}
+use Rattle.v4_client.specs.Steps.{rests}
+use Rattle.v4_client.specs.Ticks.{tick_row}
+use Rattle.world.specs.declared.wakes.Event.TheVariants.{Quiet}
+use Rattle.settings.specs.Fitting.{FitsManaged}
+use Rattle.settings.specs.declared.interfaces.Managed.{Managed}
+use Rattle.script_model.specs.IfaceSets.{is_in}
+use Rattle.client_model.specs.declared.interfaces.Iface.{Iface}
+use Rattle.client_model.specs.declared.steps.Said.TheVariants.{Arp}
+use Rattle.client_model.specs.ClientSettings.{ask_of, settings_of}
+use Rattle.client_model.specs.Dhcp4Steps.{dhcp4_step}
+use Rattle.client_model.specs.IfaceSteps.{IfaceStep, index_of, silent, then_step}
+use Rattle.client_model.specs.IfaceTurns.{input_step, iface_turned}
+use Rattle.client_model.specs.Interfaces.{resting, begins, carrier_comes, restarted, unsent_in, ticked}
+use Rattle.evidence_words.specs.Entries.{Entry, Offer, offers_on}
+use Rattle.evidence_words.specs.Inputs.{Site, index_at, offers_at, has_carrier, is_stopped}
+use Rattle.evidence_words.proofs.Offers.{Offered}
+use Rattle.lease_evidence.specs.LeaseBasis.{now_in}
+use Rattle.lease_evidence.proofs.Carrying.{Carries, Amid, unsent_carries, clean_carries, tick_carries}
+use Rattle.lease_evidence.proofs.LeasedInputs.{Leased, IsFaced, begins_faced, begins_carried, passed, input_leased, face}
+use Rattle.lease_evidence.proofs.Spoken.{are_arp}
+use Rattle.lease_evidence.proofs.Watching.{Lasts, AnyTerms}
+
+-- ---- a turn
+
+module _ (site : Site) (fits : FitsManaged site.managed) (clean : Type 0) (salt : ℕ) (e : Entry) (early : e.moment < 10 ^ 15) (octets : AreBytes e.bytes) (past : List Entry) where
+  abbrev faced : (up stopped : Bool) → ClientContent → LinkLocal → Iface
+  faced up stopped c local = record { managed = site.managed; up = up; stopped = stopped; dhcp4 = c; local = local }
+
+  abbrev from_tick : Iface → IfaceStep
+  from_tick g = then_step (ticked e.moment salt g) (input_step site.own e.moment salt e.event e.bytes)
+
+  abbrev AfterTurn : IfaceStep → Type 0
+  AfterTurn step = Offered site.managed.spec (ask_of site.managed) clean step.said (offers_at site e) → Leased site clean step.iface (e ∷ past)
+
+  -- after what a failed send of the turn before undid
+  record Begun (up stopped : Bool) (c : ClientContent) : Type 0 where
+    stopped_so : stopped ≡ is_stopped past
+    carrier : stopped ≡ false → up ≡ has_carrier site past
+    off : stopped ≡ true → c.state ≡ Off
+    client : Carries AnyTerms site (Unit {0}) c past
+
+  tick_off : (c : ClientContent) → c.state ≡ Off → (tick_step e.moment salt c).state ≡ Off
+  tick_off c is =
+      let turn : Turn4 = turn_of e.moment salt c in
+      subst (λ (s : State4). (if is_due (due_of s) e.moment then tick_row turn s else rests turn s).state ≡ Off) (sym is) refl
+
+  unsent_off : (c : ClientContent) → c.state ≡ Off → (unsent_step e.moment salt c).state ≡ Off
+  unsent_off c is = subst (λ (s : State4). unsent_row (turn_of e.moment salt c) s ≡ Off) (sym is) refl
+
+  tick_leased : (up stopped : Bool) (c : ClientContent) (local : LinkLocal) → Begun up stopped c → AfterTurn (from_tick (faced up stopped c local))
+  tick_leased up stopped c local b =
+      let one : Step4 = tick_step e.moment salt c in
+      let between : LinkLocal = (dhcp4_step e.moment (faced up stopped c local) one).iface.local in
+      input_leased site fits.mac.six clean e.moment salt early e.bytes octets e.offers past one
+      (map Arp (option_to_list (ll_tick between e.moment salt).out.arp)) (are_arp _) (moved one c) (ll_tick between e.moment salt).ll e.event up stopped
+      (record {
+        stopped_so = b.stopped_so;
+        carrier = b.carrier;
+        off = λ k. tick_off c (b.off k);
+        amid = tick_carries site clean e past salt c fits.mac.six early b.client;
+      })
+
+  choice : {A : Type 0} (P : A → Type 0) (b : Bool) (x y : A) → (b ≡ true → P x) → (b ≡ false → P y) → P (if b then x else y)
+  choice P true x y p q = p refl
+  choice P false x y p q = q refl
+
+  faced_leased : (unsent : ℕ) (up stopped : Bool) (c : ClientContent) (local : LinkLocal)
+      → Leased site (is_in unsent (index_at site) ≡ false) (faced up stopped c local) past
+      → AfterTurn (from_tick (unsent_in unsent e.moment salt (faced up stopped c local)))
+  faced_leased unsent up stopped c local k =
+      choice (λ g. AfterTurn (from_tick g)) (is_in unsent (index_at site)) (restarted e.moment salt (faced up stopped c local)) (faced up stopped c local)
+      (λ failed. tick_leased up stopped (unsent_step e.moment salt c) (ll_restarts local e.moment salt) (record {
+        stopped_so = k.stopped;
+        carrier = k.carrier;
+        off = λ is. unsent_off c (k.off is);
+        client = unsent_carries (Lasts (now_in past)) site (is_in unsent (index_at site) ≡ false) c past e.moment salt k.client;
+      }))
+      (λ fine. tick_leased up stopped c local (record {
+        stopped_so = k.stopped;
+        carrier = k.carrier;
+        off = k.off;
+        client = clean_carries (Lasts (now_in past)) site (is_in unsent (index_at site) ≡ false) c past fine k.client;
+      }))
+
+  abbrev turned : (unsent : ℕ) → Iface → IfaceStep
+  turned unsent g = iface_turned site.own (record { at = e.moment; salt = salt; unsent = unsent; event = e.event; bytes = e.bytes }) g
+
+  pub turn_leased : (unsent : ℕ) (f : Iface) → f.managed ≡ site.managed → Leased site (is_in unsent (index_of f) ≡ false) f past → AfterTurn (turned unsent f)
+  turn_leased unsent f same =
+      subst (λ (g : Iface). Leased site (is_in unsent (index_of g) ≡ false) g past → AfterTurn (turned unsent g)) (ap (λ (m : Managed). record f { managed = m }) (sym same))
+      (faced_leased unsent f.up f.stopped f.dhcp4 f.local)
+
+-- ---- the opening
+
+made_sound : (m : Managed) → FitsManaged m → IsSound (client_made (settings_of m) None)
+made_sound m fits = record {
+  name = fits.name;
+  ask = record { client_id = client_id; vendor = lit< tt; host = lit< tt; list = lit< tt };
+  state = tt;
+  kept = tt;
+  held = tt;
+  fresh = record { each = tt; rising = tt };
+}
+  where
+    client_id : length (1 ∷ m.spec.mac.bytes) < 256
+    client_id = let six : length m.spec.mac.bytes ≡ 6 = fits.mac.six in omega arith
+
+module _ (own : List Mac) (clean : Type 0) (at salt : ℕ) (early : at < 10 ^ 15) (offers : List Offer) (m : Managed) (fits : FitsManaged m) where
+  abbrev site_at : Bool → Site
+  site_at up = record { managed = m; own = own; up = up }
+
+  abbrev opening : Entry
+  opening = record { moment = at; event = Quiet; bytes = []; offers = offers }
+
+  abbrev made : ClientContent
+  made = client_made (settings_of m) None
+
+  abbrev first : Step4
+  first = rests (turn_of at salt made) Off
+
+  no_bytes : AreBytes []
+  no_bytes i = lit< tt
+
+  made_amid : (up : Bool) → Amid (site_at up) clean opening [] first made
+  made_amid up = record {
+    settings = refl;
+    sound = made_sound m fits;
+    fields = tt;
+    say = tt;
+    watched = record { xid = tt; on = tt };
+    bears = tt;
+  }
+
+  abbrev opened_when : Bool → IfaceStep
+  opened_when up = if up then carrier_comes at salt (resting m) else silent (resting m)
+
+  pub opens_leased : (up : Bool) → Offered m.spec (ask_of m) clean (opened_when up).said (offers_on m.spec.index.number offers)
+      → Leased (site_at up) clean (opened_when up).iface (opening ∷ [])
+  opens_leased true h =
+      let shown : IsFaced true false (begins at salt (face (site_at true) fits.mac.six clean at salt early [] no_bytes offers [] true false made (off m.spec.index))).iface =
+      begins_faced (site_at true) fits.mac.six clean at salt early [] no_bytes offers [] true false made (off m.spec.index) in
+      record {
+        stopped = shown.stopped;
+        carrier = λ k. shown.up;
+        off = λ k. absurd (let bad : false ≡ true = sym shown.stopped ∙ k in cc);
+        client = begins_carried (site_at true) fits.mac.six clean at salt early [] no_bytes offers [] Quiet first [] tt made (made_amid true) true false (off m.spec.index) refl refl refl h;
+      }
+  opens_leased false h = record {
+    stopped = refl;
+    carrier = λ k. refl;
+    off = λ k. refl;
+    client = passed (site_at false) fits.mac.six clean at salt early [] no_bytes offers [] Quiet first [] tt made (made_amid false) refl refl refl h;
+  }

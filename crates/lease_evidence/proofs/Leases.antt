@@ -1,0 +1,124 @@
+-- A lease that is held has its basis.
+use Rattle.std.proofs.Common.{◌≡◌, ℕ, zero, suc, ◌+◌, ◌*◌, ◌||◌, Bool, true, false, List, [], ◌∷◌, Option, Some, None, inl, inr, refl, sym, ap, subst, ◌∙◌, nat_lt, eqb, arith, if◌then◌else◌}
+use Rattle.std.proofs.lemmas.Bool.Decides.{nat_tests}
+use Rattle.std.specs.Prelude.{option_map}
+use Rattle.machine.proofs.Entries.{since-map}
+use Rattle.machine.specs.Moment.{is_due}
+use Rattle.machine.specs.Since.{Since}
+use Rattle.net_types.specs.declared.address.Ip4.{Ip4}
+use Rattle.net_types.specs.declared.address.Net.TheVariants.{V4}
+use Rattle.lease_text.specs.declared.lease.TheConstants.{INFINITE_LEASE}
+use Rattle.lease_text.specs.declared.lease.Terms4.{Terms4}
+use Rattle.lease_text.specs.Leases.{LeaseContent, terms_of}
+use Rattle.v4_client.specs.declared.moments.TheConstants.{SECOND}
+use Rattle.v4_client.specs.declared.states.State4.{State4}
+use Rattle.v4_client.specs.declared.states.State4.TheVariants.{Off, Init, Selecting, Requesting, Rebooting, Checking, Waiting, Bound, Renewing, Rebinding}
+use Rattle.v4_client.specs.Answers.{is_unexpired}
+use Rattle.v4_client.specs.Clients.{is_held, held_terms, held_of}
+use Rattle.v4_client.specs.Sound.{IsKept}
+use Rattle.client_model.specs.declared.interfaces.Iface.{Iface}
+use Rattle.evidence_words.specs.Entries.{Entry}
+use Rattle.evidence_words.specs.Inputs.{Site}
+use Rattle.evidence_words.specs.Probed.{TurnWord, AsProbe, Probes, Probed}
+use Rattle.lease_evidence.specs.Exchanges.{seen_in}
+use Rattle.lease_evidence.specs.LeaseBasis.{Calm, FirstAck, CalmFor, LeaseBasis, now_in}
+use Rattle.lease_evidence.proofs.LawProofs.{granting}
+use Rattle.lease_evidence.proofs.LeasedInputs.{Leased}
+use Rattle.lease_evidence.proofs.Observer.{Grant, kept_in}
+use Rattle.lease_evidence.proofs.Observed.{observes}
+use Rattle.lease_evidence.proofs.ProbeTicks.{IsProbed, Bears}
+use Rattle.lease_evidence.proofs.Watching.{Holds, On, Lasts}
+
+-- ---- the first probe's turn is of no matter
+
+abbrev AnyTurn : TurnWord
+AnyTurn e past = Unit {0}
+
+module _ (C : TurnWord) (site : Site) (addr : Ip4) where
+  as_probe : (n : ℕ) (e : Entry) (past : List Entry) → AsProbe C C n e past → AsProbe C AnyTurn n e past
+  as_probe zero e past h = tt
+  as_probe (suc n) e past h = h
+
+  probes : (n w b : ℕ) (past : List Entry) → Probes C C site addr n w b past → Probes C AnyTurn site addr n w b past
+  probes zero w b past h = h
+  probes (suc n) w b past h =
+      since-map _ _ _ (λ e earlier q. (as_probe n e earlier q.0, q.1, q.2, q.3, probes n 1000 e.moment earlier q.4)) past h
+
+  probed : (past : List Entry) → Probed C C site addr past → Probed C AnyTurn site addr past
+  probed past h = record {
+    later = h.later;
+    fourth = h.fourth;
+    earlier = h.earlier;
+    cut = h.cut;
+    probes = probes 3 2000 h.fourth.moment h.earlier h.probes;
+    since = h.since;
+  }
+
+-- ---- the grant
+
+lasts_unexpired : (first lease at : ℕ) → is_due (if eqb lease INFINITE_LEASE then None else Some (first + SECOND * lease)) at ≡ false
+    → is_unexpired first lease at ≡ true
+lasts_unexpired first lease at h = by_end (eqb lease INFINITE_LEASE) (first + SECOND * lease) h
+  where
+    by_end : (endless : Bool) (end : ℕ) → is_due (if endless then None else Some end) at ≡ false → (endless || nat_lt at end) ≡ true
+    by_end true end h = refl
+    by_end false end h = grind (arith, nat_tests)
+
+-- an exchange that was granted began with the terms
+granted_first : (site : Site) (grant : Grant) (past : List Entry) → Since (CalmFor site grant.opened) (FirstAck site grant.opened grant.terms) past
+    → grant.terms.first ≡ grant.opened.exchange.first
+granted_first site grant [] h = absurd h
+granted_first site grant (e ∷ past) h = elim h [
+  | inl f ↦ (granting site grant.opened grant.terms e past f.good).granted.first
+  | inr later ↦ granted_first site grant past later.1
+]
+
+module _ (site : Site) (past : List Entry) (lease : LeaseContent) where
+  by_grant : (terms : Terms4) (grant : Option Grant) → (kept_in site past).grant ≡ grant → terms_of lease ≡ terms → Holds (Lasts (now_in past)) terms grant
+      → IsProbed site terms.net.ip past → LeaseBasis site (V4 lease.net) (now_in past) past
+  by_grant terms None is same holds probed_so = absurd holds
+  by_grant terms (Some grant) is same holds probed_so =
+      let stands : Since (CalmFor site grant.opened) (FirstAck site grant.opened grant.terms) past = (observes site past).stands grant is in
+      let lasts : Lasts (now_in past) grant.terms = subst (λ (t : Terms4). Lasts (now_in past) t) (sym holds.0) holds.1 in
+      record {
+        opened = grant.opened;
+        terms = grant.terms;
+        gives = ap (λ (t : Terms4). V4 t.net) (same ∙ sym holds.0);
+        granted = stands;
+        unexpired = subst (λ (n : ℕ). is_unexpired n grant.terms.lease (now_in past) ≡ true) (granted_first site grant past stands)
+            (lasts_unexpired grant.terms.first grant.terms.lease (now_in past) lasts);
+        probed = λ noarp. probed (Calm site) site grant.terms.net.ip past
+            (subst (λ (t : Terms4). Probed (Calm site) (Calm site) site t.net.ip past) (sym holds.0) (probed_so noarp));
+      }
+
+  kept_terms : (kept : Option LeaseContent) (terms : Terms4) → kept ≡ Some lease → option_map terms_of kept ≡ Some terms → terms_of lease ≡ terms
+  kept_terms kept terms is same = some_is (ap (λ (k : Option LeaseContent). option_map terms_of k) (sym is) ∙ same)
+    where
+      some_is : Some (terms_of lease) ≡ Some terms → terms_of lease ≡ terms
+      some_is h = cc
+
+  not_held : {A : Type 0} → None ≡ Some lease → A
+  not_held h = absurd cc
+
+  by_state : (clean : Type 0) (state : State4) (kept : Option LeaseContent) → (if is_held state then kept else None) ≡ Some lease → IsKept (held_terms state) kept
+      → On (Lasts (now_in past)) state (seen_in site past).current (kept_in site past).answered (kept_in site past).grant
+      → Bears site clean state past → LeaseBasis site (V4 lease.net) (now_in past) past
+  by_state clean Off kept is sound on bears = not_held is
+  by_state clean (Init due) kept is sound on bears = not_held is
+  by_state clean (Selecting xid began secs backoff due) kept is sound on bears = not_held is
+  by_state clean (Requesting exchange secs backoff due) kept is sound on bears = not_held is
+  by_state clean (Rebooting exchange backoff end due) kept is sound on bears = not_held is
+  by_state clean (Checking xid terms origin acd) kept is sound on bears = not_held is
+  by_state clean (Waiting due) kept is sound on bears = not_held is
+  by_state clean (Bound xid terms acd) kept is sound on bears =
+      by_grant terms (kept_in site past).grant refl (kept_terms kept terms is sound) on.1 bears
+  by_state clean (Renewing exchange terms acd due) kept is sound on bears =
+      by_grant terms (kept_in site past).grant refl (kept_terms kept terms is sound) on.1 bears.1
+  by_state clean (Rebinding exchange terms acd due) kept is sound on bears =
+      by_grant terms (kept_in site past).grant refl (kept_terms kept terms is sound) on.1 bears.1
+
+-- the lease that an interface holds has its basis at the moment of the newest turn
+pub lease_has_basis : (site : Site) (clean : Type 0) (f : Iface) (past : List Entry) (lease : LeaseContent) → Leased site clean f past
+    → held_of f.dhcp4 ≡ Some lease → LeaseBasis site (V4 lease.net) (now_in past) past
+lease_has_basis site clean f past lease leased held =
+    by_state site past lease clean f.dhcp4.state f.dhcp4.kept held leased.client.sound.held leased.client.watched.on leased.client.bears

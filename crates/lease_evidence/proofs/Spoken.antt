@@ -1,0 +1,183 @@
+-- The messages that the frames of an interface spell are those that it said.
+use Rattle.std.proofs.Common.{◌≡◌, ℕ, Bool, true, false, ◌||◌, List, [], ◌∷◌, ◌++◌, map, Option, Some, None, IfSome, refl, sym, ap, subst, ◌∙◌, arith, append_assoc, lit≤}
+use Rattle.std.specs.Prelude.{option_to_list, option_map}
+use Rattle.std.specs.List.{AllByRecursion, list_any}
+use Rattle.net_types.proofs.AllLaws.{all_join, all_map}
+use Rattle.net_types.specs.Fields.{u16_field}
+use Rattle.net_types.specs.declared.address.Ip4.{Ip4}
+use Rattle.net_types.specs.declared.address.Mac.{Mac}
+use Rattle.frame_link.proofs.Cells.{six, six_cells}
+use Rattle.frame_link.specs.Packets.{request_text}
+use Rattle.arp_acd.specs.declared.detection.ArpSay.{ArpSay}
+use Rattle.arp_acd.specs.declared.detection.ArpSay.TheVariants.{Probe, Announce}
+use Rattle.udp_frame.specs.declared.udp4.TheConstants.{KIND_IPV4}
+use Rattle.v4_message.specs.Requests.{AskContent, AskFits}
+use Rattle.v4_frames.specs.declared.sent.Sent4.{Sent4}
+use Rattle.v4_frames.specs.InRange.{FitsMac, FitsSent}
+use Rattle.v4_frames.specs.Spelled.{sent_in}
+use Rattle.v4_frames.proofs.FramesBack.{reads_back}
+use Rattle.v4_frames.proofs.OtherKinds.{others_spell_nothing}
+use Rattle.v4_client.specs.declared.states.Say4.{Say4}
+use Rattle.v4_client.specs.declared.states.Step4.{Step4}
+use Rattle.v4_client.specs.Saying.{sent_of}
+use Rattle.client_model.specs.declared.steps.Said.{Said}
+use Rattle.client_model.specs.declared.steps.Said.TheVariants.{Dhcp4, Arp}
+use Rattle.client_model.specs.ClientSettings.{ask_of}
+use Rattle.client_model.specs.Clients.{spelled}
+use Rattle.client_model.specs.Dhcp4Steps.{said_in}
+use Rattle.evidence_words.specs.Entries.{Offer}
+use Rattle.evidence_words.specs.Inputs.{Site}
+use Rattle.evidence_words.proofs.Offers.{Offered}
+use Rattle.lease_evidence.specs.Exchanges.{Seen, message_of, shows, show}
+use Rattle.lease_evidence.specs.LeaseBasis.{tells_end}
+use Rattle.lease_evidence.proofs.Watching.{message_in}
+
+-- ---- what is said, and the message in it
+
+abbrev pub message_said : Said → Option Sent4
+message_said (Dhcp4 say) = Some (sent_of say)
+message_said (Arp say) = None
+
+abbrev pub FitsSaid : Said → Type 0
+FitsSaid (Dhcp4 say) = FitsSent (sent_of say)
+FitsSaid (Arp say) = Unit {0}
+
+abbrev pub IsArp : Said → Type 0
+IsArp (Dhcp4 say) = ⊥
+IsArp (Arp say) = Unit {0}
+
+abbrev pub AreArp : List Said → Type 0
+AreArp said = AllByRecursion IsArp said
+
+arp_fits : (say : Said) → IsArp say → FitsSaid say
+arp_fits (Dhcp4 say) h = absurd h
+arp_fits (Arp say) h = tt
+
+pub are_arp : (says : List ArpSay) → AreArp (map Arp says)
+are_arp [] = tt
+are_arp (say ∷ says) = (tt, are_arp says)
+
+pub arps_fit : (said : List Said) → AreArp said → AllByRecursion FitsSaid said
+arps_fit said h = all_map IsArp FitsSaid arp_fits said h
+
+pub step_fits : (step : Step4) → IfSome step.say (λ say. FitsSent (sent_of say)) → AllByRecursion FitsSaid (said_in step)
+step_fits step h = by_parts step.say step.arp h
+  where
+    by_parts : (say : Option Say4) (arp : Option ArpSay) → IfSome say (λ say. FitsSent (sent_of say))
+        → AllByRecursion FitsSaid (map Dhcp4 (option_to_list say) ++ map Arp (option_to_list arp))
+    by_parts None None h = tt
+    by_parts None (Some arp) h = (tt, tt)
+    by_parts (Some say) None h = (h, tt)
+    by_parts (Some say) (Some arp) h = (h, (tt, tt))
+
+-- ---- frames
+
+module _ (ask : AskContent) (fits : AskFits ask) (sender target : Ip4) where
+  abbrev SpellsNothing : List ℕ → Type 0
+  SpellsNothing mac = sent_in ask (request_text (record { bytes = mac }) sender target) ≡ None
+
+  unlike : (kind : ℕ) → kind ≡ 0x0806 → kind ≡ 0x0800 → ⊥
+  unlike kind arp ip = omega (arith, arp, ip)
+
+  arp_cells : (mac : List ℕ) → SpellsNothing (six mac)
+  arp_cells mac =
+      others_spell_nothing ask (request_text (record { bytes = six mac }) sender target) (lit≤ tt) other
+    where
+      other : u16_field 12 (request_text (record { bytes = six mac }) sender target) ≡ KIND_IPV4 → ⊥
+      other same = unlike _ refl same
+
+  arp_spells : (mac : Mac) → FitsMac mac → SpellsNothing mac.bytes
+  arp_spells mac len = subst SpellsNothing (sym (six_cells mac.bytes len)) (arp_cells mac.bytes)
+
+module _ (site : Site) (ask_fits : AskFits (ask_of site.managed)) (mac_fits : FitsMac site.managed.spec.mac) (clean : Type 0) where
+  abbrev ask : AskContent
+  ask = ask_of site.managed
+
+  spells : (say : Said) → FitsSaid say → sent_in ask (spelled site.managed.spec ask say).bytes ≡ message_said say
+  spells (Dhcp4 say) fits = reads_back ask (sent_of say) ask_fits fits
+  spells (Arp (Probe addr)) fits = arp_spells ask ask_fits (record { number = 0 }) addr site.managed.spec.mac mac_fits
+  spells (Arp (Announce addr)) fits = arp_spells ask ask_fits addr addr site.managed.spec.mac mac_fits
+
+  pub messages_are : (said : List Said) (offers : List Offer) → Offered site.managed.spec ask clean said offers → AllByRecursion FitsSaid said
+      → map (message_of site) offers ≡ map message_said said
+  messages_are [] [] h fits = refl
+  messages_are [] (o ∷ offers) h fits = absurd h
+  messages_are (say ∷ said) [] h fits = absurd h
+  messages_are (say ∷ said) (o ∷ offers) h fits = λ i.
+      (ap (sent_in ask) h.0 ∙ spells say fits.0) i ∷ messages_are said offers h.2 fits.1 i
+
+-- ---- what they show
+
+module _ (at : ℕ) (more : List Said) where
+  shows_step : (step : Step4) (s : Seen) → show at (map message_said (said_in step ++ more)) s ≡ show at (map message_said more) (shows at (message_in step) s)
+  shows_step step s = by_parts step.say step.arp
+    where
+      by_parts : (say : Option Say4) (arp : Option ArpSay)
+          → show at (map message_said ((map Dhcp4 (option_to_list say) ++ map Arp (option_to_list arp)) ++ more)) s ≡ show at (map message_said more) (shows at (option_map sent_of say) s)
+      by_parts None None = refl
+      by_parts None (Some arp) = refl
+      by_parts (Some say) None = refl
+      by_parts (Some say) (Some arp) = refl
+
+  shows_arps : (said : List Said) (s : Seen) → AreArp said → show at (map message_said (said ++ more)) s ≡ show at (map message_said more) s
+  shows_arps [] s h = refl
+  shows_arps (Dhcp4 say ∷ said) s h = absurd h.0
+  shows_arps (Arp say ∷ said) s h = shows_arps said s h.1
+
+  ends_step : (step : Step4) → list_any tells_end (map message_said (said_in step ++ more)) ≡ (tells_end (message_in step) || list_any tells_end (map message_said more))
+  ends_step step = by_parts step.say step.arp
+    where
+      by_parts : (say : Option Say4) (arp : Option ArpSay)
+          → list_any tells_end (map message_said ((map Dhcp4 (option_to_list say) ++ map Arp (option_to_list arp)) ++ more))
+          ≡ (tells_end (option_map sent_of say) || list_any tells_end (map message_said more))
+      by_parts None None = refl
+      by_parts None (Some arp) = refl
+      by_parts (Some say) None = refl
+      by_parts (Some say) (Some arp) = refl
+
+  ends_arps : (said : List Said) → AreArp said → list_any tells_end (map message_said (said ++ more)) ≡ list_any tells_end (map message_said more)
+  ends_arps [] h = refl
+  ends_arps (Dhcp4 say ∷ said) h = absurd h.0
+  ends_arps (Arp say ∷ said) h = ends_arps said h.1
+
+-- what an interface says in a turn: a step of its client, ARP packets, another step, ARP packets
+abbrev pub said_all : (one : Step4) (between : List Said) (two : Step4) (after : List Said) → List Said
+said_all one between two after = (said_in one ++ between) ++ (said_in two ++ after)
+
+module _ (at : ℕ) (one two : Step4) (between after : List Said) (arps : AreArp between) (more_arps : AreArp after) where
+  same_list : said_all one between two after ≡ said_in one ++ (between ++ (said_in two ++ (after ++ [])))
+  same_list =
+      append_assoc (said_in one) between (said_in two ++ after)
+      ∙ ap (λ (rest : List Said). said_in one ++ (between ++ (said_in two ++ rest))) (sym (append_nil_said after))
+    where
+      append_nil_said : (said : List Said) → said ++ [] ≡ said
+      append_nil_said [] = refl
+      append_nil_said (say ∷ said) = ap (λ (rest : List Said). say ∷ rest) (append_nil_said said)
+
+  pub shows_all : (s : Seen) → show at (map message_said (said_all one between two after)) s ≡ shows at (message_in two) (shows at (message_in one) s)
+  shows_all s =
+      ap (λ (said : List Said). show at (map message_said said) s) same_list
+      ∙ shows_step at (between ++ (said_in two ++ (after ++ []))) one s
+      ∙ shows_arps at (said_in two ++ (after ++ [])) between (shows at (message_in one) s) arps
+      ∙ shows_step at (after ++ []) two (shows at (message_in one) s)
+      ∙ shows_arps at [] after (shows at (message_in two) (shows at (message_in one) s)) more_arps
+
+  or_none : (a b : Bool) → (a || (b || false)) ≡ (a || b)
+  or_none true b = refl
+  or_none false true = refl
+  or_none false false = refl
+
+  pub ends_all : list_any tells_end (map message_said (said_all one between two after)) ≡ (tells_end (message_in one) || tells_end (message_in two))
+  ends_all =
+      ap (λ (said : List Said). list_any tells_end (map message_said said)) same_list
+      ∙ ends_step at (between ++ (said_in two ++ (after ++ []))) one
+      ∙ ap (λ b. tells_end (message_in one) || b) (ends_arps at (said_in two ++ (after ++ [])) between arps
+      ∙ ends_step at (after ++ []) two ∙ ap (λ b. tells_end (message_in two) || b) (ends_arps at [] after more_arps))
+      ∙ or_none (tells_end (message_in one)) (tells_end (message_in two))
+
+  pub all_fit : IfSome one.say (λ say. FitsSent (sent_of say)) → IfSome two.say (λ say. FitsSent (sent_of say))
+      → AllByRecursion FitsSaid (said_all one between two after)
+  all_fit first second =
+      all_join FitsSaid (said_in one ++ between) (said_in two ++ after)
+      (all_join FitsSaid (said_in one) between (step_fits one first) (arps_fit between arps))
+      (all_join FitsSaid (said_in two) after (step_fits two second) (arps_fit after more_arps))

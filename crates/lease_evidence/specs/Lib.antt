@@ -1,0 +1,6 @@
+pub mod Replies
+pub mod Exchanges
+pub mod LeaseBasis
+pub mod Laws
+pub mod HeldLeases
+pub mod SevenTurns

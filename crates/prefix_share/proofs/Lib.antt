@@ -1,0 +1,4 @@
+pub mod SubnetNumbers
+pub mod SubnetBits
+pub mod Fronts
+pub mod Pairs

@@ -1,0 +1,4 @@
+pub mod Subnets
+pub mod SubnetLaws
+pub mod Rules
+pub mod PlanLaws

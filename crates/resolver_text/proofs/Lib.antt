@@ -1,0 +1,5 @@
+pub mod PlacedParts
+pub mod OrderedParts
+pub mod UnlikeTexts
+pub mod LineSteps
+pub mod PlainLines

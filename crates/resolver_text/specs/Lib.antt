@@ -1,0 +1,6 @@
+pub mod Parts
+pub mod Order
+pub mod Texts
+pub mod ResolverText
+pub mod OrderLaws
+pub mod TextLaws

@@ -1,8 +1,0 @@
-use Rattle.world_mem.proofs.StoreSteps.{put_more, named_at, named_more}
-use Rattle.world_mem.proofs.stores.MemStore.new.Goals as goal
-
-pub loop-file-preserved : goal.loop-file-preserved
-loop-file-preserved c = (
-  put_more c.file-item.result c.deref-file-items.result.now _ _ c.loop-file.file-index c.file-item.is c.loop-file-test.true c.in-Ok.ensures c.loop-file.invariant.0,
-  named_more c.file-item.result _ _ c.in-Ok.ensures (named_at c.args.files.items c.deref-file-items.result.now c.file-item.result c.loop-file.file-index c.loop-file-test.true c.file-item.is c.deref-file-items.ensures.value c.requires) c.loop-file.invariant.1,
-)

@@ -1,9 +1,0 @@
-use Rattle.std.proofs.Common.{◌≡◌, All, map, drop}
-use Rattle.world.specs.FileNames.{IsFileName}
-use Rattle.world_mem.specs.StoreRecord.{entry_file, file_of, put_files, in_name_order}
-use Rattle.world_mem.proofs.stores.MemStore.new.Given as goal
-
-abbrev pub invariant-loop-file : goal.invariant-loop-file
-invariant-loop-file l =
-    (put_files (map entry_file l.held.entries) (map file_of (drop l.file-index l.file-items)) ≡ in_name_order (map file_of l.file-items))
-    × All (λ file. IsFileName file.name) (map entry_file l.held.entries)

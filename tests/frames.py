@@ -1,0 +1,137 @@
+#!/usr/bin/env python3
+"""Spells the frames of a draft: the script that `dhcpcd replay` reads.
+
+    tests/frames.py < examples/lease.draft > examples/lease.script
+
+A draft is a script whose turns may also have one of these events, which become `frame INDEX HEX`:
+
+    offer INDEX WORD..    ack INDEX WORD..    nak INDEX WORD..    arp INDEX WORD..
+
+A WORD is NAME=VALUE. For an offer, an ACK and a NAK, NAME is one of DEFAULTS or the code of an option, whose value is
+as in FORMS; for an ARP packet one of ARP. An option without a value is left out. Any event may have `cut=N`: of the
+frame only the first N bytes. Where `chaddr` or `target_mac` isn't given it is the interface's own.
+"""
+
+import ipaddress
+import struct
+import sys
+
+EVERYONE = "ff:ff:ff:ff:ff:ff"
+# `to` and `from` are hardware addresses, `yiaddr` is the address given, `padded` the least length of the message.
+DEFAULTS = {"to": EVERYONE, "from": "02:00:00:00:00:fe", "xid": "1", "yiaddr": "10.0.0.50", "padded": "300"}
+GRANT = {"54": "10.0.0.1", "51": "3600", "1": "255.255.255.0", "3": "10.0.0.1", "6": "10.0.0.1"}
+OPTIONS = {"offer": {"53": "02", **GRANT}, "ack": {"53": "05", **GRANT}, "nak": {"53": "06", "54": "10.0.0.1"}}
+ARP = {
+    "to": EVERYONE,
+    "from": "02:00:00:00:00:aa",
+    "op": "2",
+    "sender": "10.0.0.50",
+    "target_mac": "",
+    "target": "0.0.0.0",
+}
+
+
+def mac(text):
+    return bytes.fromhex(text.replace(":", ""))
+
+
+def ips(text):
+    """Addresses of IPv4, parted by commas."""
+    return b"".join(ipaddress.IPv4Address(part).packed for part in text.split(","))
+
+
+def routes(text):
+    """Classless static routes (RFC 3442): NET-GATEWAY, parted by commas."""
+    spelled = b""
+    for route in text.split(","):
+        dest, gateway = route.split("-")
+        net = ipaddress.IPv4Network(dest)
+        width = net.prefixlen
+        spelled += bytes([width]) + net.network_address.packed[: (width + 7) // 8] + ips(gateway)
+    return spelled
+
+
+def seconds(text):
+    return struct.pack(">I", int(text))
+
+
+FORMS = {1: ips, 3: ips, 6: ips, 28: ips, 42: ips, 50: ips, 51: seconds, 54: ips, 58: seconds, 59: seconds, 121: routes}
+
+
+def checksum(data):
+    """The Internet checksum (RFC 1071)."""
+    data += b"\0" * (len(data) % 2)
+    total = sum(struct.unpack(f">{len(data) // 2}H", data))
+    while total > 0xFFFF:
+        total = (total & 0xFFFF) + (total >> 16)
+    return ~total & 0xFFFF
+
+
+def ethernet(to, source, kind, body):
+    return mac(to) + mac(source) + struct.pack(">H", kind) + body
+
+
+def udp4(source, to, from_port, to_port, payload):
+    """A UDP datagram in an IPv4 packet."""
+    length = 8 + len(payload)
+    ends = ips(source) + ips(to)
+    udp = struct.pack(">HHHH", from_port, to_port, length, 0) + payload
+    udp_sum = checksum(ends + struct.pack(">HH", 17, length) + udp) or 0xFFFF
+    ip = struct.pack(">BBHHHBBH", 0x45, 0, 20 + length, 0, 0x4000, 64, 17, 0) + ends
+    ip = ip[:10] + struct.pack(">H", checksum(ip)) + ip[12:]
+    return ip + udp[:6] + struct.pack(">H", udp_sum) + udp[8:]
+
+
+def message(fields, options):
+    """A server's message (RFC 2131), as option codes and values say."""
+    head = struct.pack(">BBBBIHH", 2, 1, 6, 0, int(fields["xid"]), 0, 0)
+    head += ips("0.0.0.0") + ips(fields["yiaddr"]) + bytes(8) + mac(fields["chaddr"]) + bytes(10 + 64 + 128)
+    spelled = b""
+    for code, text in options.items():
+        if text:
+            value = FORMS.get(int(code), bytes.fromhex)(text)
+            spelled += bytes([int(code), len(value)]) + value
+    return (head + b"\x63\x82\x53\x63" + spelled + b"\xff").ljust(int(fields["padded"]), b"\0")
+
+
+def dhcp(kind, own, words):
+    fields = {**DEFAULTS, "chaddr": own}
+    if kind == "nak":
+        fields["yiaddr"] = "0.0.0.0"
+    options = dict(OPTIONS[kind])
+    for name, value in words.items():
+        (options if name.isdigit() else fields)[name] = value
+    server = options["54"] or "0.0.0.0"
+    packet = udp4(server, "255.255.255.255", 67, 68, message(fields, options))
+    return ethernet(fields["to"], fields["from"], 0x0800, packet)
+
+
+def arp(own, words):
+    fields = {**ARP, "target_mac": own, **words}
+    body = struct.pack(">HHBBH", 1, 0x0800, 6, 4, int(fields["op"]))
+    body += mac(fields["from"]) + ips(fields["sender"]) + mac(fields["target_mac"]) + ips(fields["target"])
+    return ethernet(fields["to"], fields["from"], 0x0806, body)
+
+
+def frame(kind, own, words):
+    """The frame of an event on the interface with this hardware address."""
+    cut = words.pop("cut", None)
+    spelled = arp(own, words) if kind == "arp" else dhcp(kind, own, words)
+    return spelled if cut is None else spelled[: int(cut)]
+
+
+def spell(lines):
+    """The lines of the script of a draft."""
+    own = {}
+    for line in lines:
+        words = line.split()
+        if words[:1] == ["if"]:
+            own[words[1]] = words[3]
+        if words[:1] == ["turn"] and (words[3] in OPTIONS or words[3] == "arp"):
+            spelled = frame(words[3], own[words[4]], dict(word.split("=") for word in words[5:]))
+            line = " ".join(words[:3] + ["frame", words[4], spelled.hex() or "-"]) + "\n"
+        yield line
+
+
+if __name__ == "__main__":
+    sys.stdout.writelines(spell(sys.stdin))
