@@ -1,5 +1,5 @@
 #!/usr/bin/env python3
-"""Spells the frames of a draft: the script that `dhcpcd replay` reads.
+"""Spells the frames and kept leases of a draft: the script that `dhcpcd replay` reads.
 
     tests/frames.py < examples/lease.draft > examples/lease.script
 
@@ -10,6 +10,9 @@ A draft is a script whose turns may also have one of these events, which become 
 A WORD is NAME=VALUE. For an offer, an ACK and a NAK, NAME is one of DEFAULTS or the code of an option, whose value is
 as in FORMS; for an ARP packet one of ARP. An option without a value is left out. Any event may have `cut=N`: of the
 frame only the first N bytes. Where `chaddr` or `target_mac` isn't given it is the interface's own.
+
+A line `lease4 INTERFACE WORD..` becomes `file INTERFACE.lease4 HEX`: the lease that KEPT gives, but for the lines that
+the words name.
 """
 
 import ipaddress
@@ -28,6 +31,18 @@ ARP = {
     "sender": "10.0.0.50",
     "target_mac": "",
     "target": "0.0.0.0",
+}
+# The lines of a kept lease; those with a number are options.
+KEPT = {
+    "address": "10.0.0.50/24",
+    "server": "10.0.0.1",
+    "servermac": "02:00:00:00:00:fe",
+    "first": "100",
+    "lease": "3600",
+    "t1": "1800",
+    "t2": "3150",
+    "3": "0a000001",
+    "6": "0a000001",
 }
 
 
@@ -120,6 +135,20 @@ def frame(kind, own, words):
     return spelled if cut is None else spelled[: int(cut)]
 
 
+def words_of(words):
+    return dict(word.split("=") for word in words)
+
+
+def kept(name, words):
+    """The file of a kept lease."""
+    lines = ["dhcpcd-lease4 1", f"interface {name}"]
+    for key, value in {**KEPT, **words}.items():
+        if value:
+            lines.append(f"option {key} {value}" if key.isdigit() else f"{key} {value}")
+    text = "".join(line + "\n" for line in [*lines, "end"])
+    return f"file {name}.lease4 {text.encode().hex()}\n"
+
+
 def spell(lines):
     """The lines of the script of a draft."""
     own = {}
@@ -128,8 +157,10 @@ def spell(lines):
         if words[:1] == ["if"]:
             own[words[1]] = words[3]
         if words[:1] == ["turn"] and (words[3] in OPTIONS or words[3] == "arp"):
-            spelled = frame(words[3], own[words[4]], dict(word.split("=") for word in words[5:]))
+            spelled = frame(words[3], own[words[4]], words_of(words[5:]))
             line = " ".join(words[:3] + ["frame", words[4], spelled.hex() or "-"]) + "\n"
+        if words[:1] == ["lease4"]:
+            line = kept(words[1], words_of(words[2:]))
         yield line
 
 

@@ -1,33 +1,21 @@
--- Interfaces that fit go on to fit.
-use Rattle.std.proofs.Common.{ℕ, ◌≡◌, ◌+◌, ◌<◌, List, [], ◌∷◌, ◌++◌, length, get_or, take, sym, ap, ◌∙◌}
+-- What interfaces that fit offer, and a loop in which they are opened.
+use Rattle.std.proofs.Common.{ℕ, ◌≡◌, List, [], ◌∷◌, ◌++◌, length, refl, sym, ap, subst, ◌∙◌, arith}
 use Rattle.std.specs.Prelude.{map, flat_map}
 use Rattle.std.specs.List.{AllByRecursion}
-use Rattle.std.proofs.lemmas.List.{take_more, map-append, flat_map_more}
+use Rattle.std.proofs.lemmas.List.{append-nil, map-append, flat_map_more}
+use Rattle.std.proofs.lemmas.List.Folds.{flat_map-map}
+use Rattle.std.proofs.lemmas.Simd.{map-map}
 use Rattle.net_types.proofs.AllLaws.{all_join}
-use Rattle.net_types.specs.declared.address.Mac.{Mac}
 use Rattle.net_types.specs.declared.interface.IfSpec.{IfSpec}
 use Rattle.v4_message.specs.Requests.{AskContent}
 use Rattle.world.specs.Rows.{IsInterface}
-use Rattle.settings.specs.declared.interfaces.Managed.{Managed}
-use Rattle.settings.specs.Fitting.{AreManaged}
 use Rattle.client_model.specs.declared.interfaces.Iface.{Iface}
 use Rattle.client_model.specs.declared.steps.Said.{Said}
 use Rattle.client_model.specs.IfaceSteps.{IfaceStep, news_of}
-use Rattle.client_model.specs.Interfaces.{opened}
-use Rattle.client_model.specs.IfaceTurns.{Turn, iface_turned}
 use Rattle.client_model.specs.Clients.{spelled, sends_of}
 use Rattle.client_model.specs.Fitting.{AreIfaces}
 use Rattle.iface_core.specs.Outcomes.{Asked, Goes}
-use Rattle.iface_core.proofs.Staying.{turn_stays, stays_fit, opened_fits}
 use Rattle.client_core.specs.Stepping.{IsOnInterface, GoAll}
-
-pub opened_fit : (up at salt : ℕ) (managed : List Managed) → AreManaged managed → AreIfaces (map (λ m. (opened up at salt m).iface) managed)
-opened_fit up at salt [] fit = tt
-opened_fit up at salt (m ∷ managed) fit = (opened_fits up at salt m fit.0, opened_fit up at salt managed fit.1)
-
-pub turned_fit : (own : List Mac) (turn : Turn) (ifaces : List Iface) → AreIfaces ifaces → AreIfaces (map (λ iface. (iface_turned own turn iface).iface) ifaces)
-turned_fit own turn [] fit = tt
-turned_fit own turn (iface ∷ ifaces) fit = (stays_fit iface (iface_turned own turn iface).iface (turn_stays own turn iface) fit.0, turned_fit own turn ifaces fit.1)
 
 -- ---- the frames that interfaces offer
 
@@ -44,16 +32,33 @@ steps_on step (x ∷ xs) fit =
 
 -- ---- one after another
 
-pub go_more : {X : Type 0} (step : X → IfaceStep) (xs : List X) (i : ℕ) (d : X) (ifaces : List Iface) (iface : Iface) (before amid after : Asked) → i < length xs
-    → GoAll step (take i xs) ifaces before amid → Goes (step (get_or xs i d)) iface amid after → GoAll step (take (i + 1) xs) (ifaces ++ iface ∷ []) before after
-go_more step xs i d ifaces iface before amid after lt all one =
-    let x = get_or xs i d in
-    let more : take (i + 1) xs ≡ take i xs ++ x ∷ [] = take_more xs i d lt in
-    record {
-      go_on = ap (λ (done : List Iface). done ++ iface ∷ []) all.go_on ∙ ap (λ (last : Iface). map (λ y. (step y).iface) (take i xs) ++ last ∷ []) one.goes_on
-          ∙ sym (ap (map (λ y. (step y).iface)) more ∙ map-append (λ y. (step y).iface) (take i xs) (x ∷ []));
-      offer = one.offers ∙ ap (λ s. s ++ sends_of (step x)) all.offer ∙ flat_map_more (λ y. sends_of (step y)) before.sends (take i xs) x
-          ∙ ap (λ ys. before.sends ++ flat_map (λ y. sends_of (step y)) ys) (sym more);
-      tell = one.tells ∙ ap (λ s. s ++ news_of (step x)) all.tell ∙ flat_map_more (λ y. news_of (step y)) before.news (take i xs) x
-          ∙ ap (λ ys. before.news ++ flat_map (λ y. news_of (step y)) ys) (sym more);
-    }
+pub go_none : {X : Type 0} (step : X → IfaceStep) (ifaces : List Iface) (before : Asked) → ifaces ≡ [] → GoAll step [] ifaces before before
+go_none step ifaces before none = record { go_on = none; offer = sym (append-nil before.sends); tell = sym (append-nil before.news) }
+
+pub go_next : {X : Type 0} (step : X → IfaceStep) (xs : List X) (x : X) (ifaces longer : List Iface) (iface : Iface) (before amid after : Asked)
+    → longer ≡ ifaces ++ iface ∷ [] → GoAll step xs ifaces before amid → Goes (step x) iface amid after → GoAll step (xs ++ x ∷ []) longer before after
+go_next step xs x ifaces longer iface before amid after more all one = record {
+  go_on = more ∙ ap (λ (done : List Iface). done ++ iface ∷ []) all.go_on ∙ ap (λ (last : Iface). map (λ y. (step y).iface) xs ++ last ∷ []) one.goes_on
+      ∙ sym (map-append (λ y. (step y).iface) xs (x ∷ []));
+  offer = one.offers ∙ ap (λ s. s ++ sends_of (step x)) all.offer ∙ flat_map_more (λ y. sends_of (step y)) before.sends xs x;
+  tell = one.tells ∙ ap (λ s. s ++ news_of (step x)) all.tell ∙ flat_map_more (λ y. news_of (step y)) before.news xs x;
+}
+
+pub go_mapped : {X Y : Type 0} (f : X → Y) (step : Y → IfaceStep) (xs : List X) (ifaces : List Iface) (before after : Asked)
+    → GoAll (λ x. step (f x)) xs ifaces before after → GoAll step (map f xs) ifaces before after
+go_mapped f step xs ifaces before after all = record {
+  go_on = all.go_on ∙ sym (map-map (λ y. (step y).iface) f xs);
+  offer = all.offer ∙ ap (λ s. before.sends ++ s) (sym (flat_map-map (λ y. sends_of (step y)) f xs));
+  tell = all.tell ∙ ap (λ s. before.news ++ s) (sym (flat_map-map (λ y. news_of (step y)) f xs));
+}
+
+-- ---- those that a loop has taken out of a list, the next one, and the rest
+
+pub next_fits : {X Y : Type 0} (P : Y → Type 0) (f : X → Y) (done rest all : List X) (x : X) → done ++ x ∷ rest ≡ all → AllByRecursion P (map f all) → P (f x)
+next_fits P f [] rest all x is fits = (subst (λ (ys : List _). AllByRecursion P (map f ys)) (sym is) fits).0
+next_fits P f (first ∷ done) rest all x is fits =
+    next_fits P f done rest (done ++ x ∷ rest) x refl (subst (λ (ys : List _). AllByRecursion P (map f ys)) (sym is) fits).1
+
+pub all_taken : {X : Type 0} (done rest all : List X) (left : ℕ) → done ++ rest ≡ all → left ≡ length rest → left ≡ 0 → done ≡ all
+all_taken done [] all left is counted none = sym (append-nil done) ∙ is
+all_taken done (x ∷ rest) all left is counted none = let some : left ≡ length (x ∷ rest) = counted in absurd (omega arith)

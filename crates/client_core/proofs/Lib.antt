@@ -1,8 +1,11 @@
 pub mod Destinations
 pub mod Fit
+pub mod Going
 pub mod InPlace
 pub mod Joined
 pub mod LeaseValues
 pub mod Order
+pub mod OwnMetrics
 pub mod RowsFit
 pub mod SameRows
+pub mod Untouched

@@ -1,35 +1,53 @@
--- Where nothing is new of an interface, its rows are as before.
-use Rattle.std.proofs.Common.{◌≡◌, ◌+◌, ◌≤◌, ℕ, false, nat_lt, List, [], ◌∷◌, ◌++◌, map, length, refl, ap, ◌∙◌, arith, length-append}
+-- Where nothing is new of an interface, its rows are as before, and where it says nothing either, the lease that it keeps.
+use Rattle.std.proofs.Common.{◌≡◌, ◌+◌, ◌≤◌, ℕ, Bool, true, false, ◌||◌, nat_lt, List, [], ◌∷◌, ◌++◌, map, length, refl, ap, ◌∙◌, arith, length-append}
 use Rattle.std.proofs.lemmas.Bool.Decides.{nat_tests}
 use Rattle.std.specs.Prelude.{flat_map, filter}
 use Rattle.net_types.specs.declared.address.Mac.{Mac}
 use Rattle.world.specs.declared.rows.HostRow.{HostRow}
 use Rattle.world.specs.RowOrder.{in_row_order}
 use Rattle.client_model.specs.declared.interfaces.Iface.{Iface}
-use Rattle.client_model.specs.declared.steps.News.{News}
-use Rattle.client_model.specs.IfaceSteps.{Report, news_of}
+use Rattle.client_model.specs.IfaceSteps.{Report, IfaceStep, news_of}
+use Rattle.client_model.specs.Clients.{sends_of}
 use Rattle.client_model.specs.IfaceTurns.{Turn, iface_turned}
 use Rattle.client_model.specs.WantedRows.{iface_rows, is_kept, wanted_rows}
 use Rattle.client_model.proofs.QuietTurns.{quiet_rows}
+use Rattle.client_model.proofs.QuietKept.{quiet_kept}
 use Rattle.iface_core.specs.Outcomes.{Asked, Goes}
 
 pub same_wanted : (old new : List Iface) → flat_map iface_rows new ≡ flat_map iface_rows old → wanted_rows new ≡ wanted_rows old
 same_wanted old new same = ap (λ (rows : List HostRow). in_row_order (filter (is_kept rows) rows)) same
 
-none_more : (before more : List News) → length (before ++ more) ≤ length before → more ≡ []
+none_more : {X : Type 0} (before more : List X) → length (before ++ more) ≤ length before → more ≡ []
 none_more before [] few = refl
-none_more before (news ∷ more) few = let sum : length (before ++ news ∷ more) ≡ length before + length (news ∷ more) = length-append before (news ∷ more) in absurd (omega arith)
+none_more before (x ∷ more) few = let sum : length (before ++ x ∷ more) ≡ length before + length (x ∷ more) = length-append before (x ∷ more) in absurd (omega arith)
 
-no_reports : (reports : List Report) → map (λ report. report.news) reports ≡ [] → reports ≡ []
-no_reports [] none = refl
-no_reports (report ∷ reports) none = cc
+none_mapped : {X Y : Type 0} (f : X → Y) (xs : List X) → map f xs ≡ [] → xs ≡ []
+none_mapped f [] none = refl
+none_mapped f (x ∷ xs) none = cc
+
+pub neither : (a b : Bool) → (a || b) ≡ false → (a ≡ false) × (b ≡ false)
+neither true b none = let never : true ≡ false = none in cc
+neither false b none = (refl, none)
 
 pub no_more : (told counted before after : ℕ) → told ≡ before → counted ≡ after → nat_lt told counted ≡ false → after ≤ before
 no_more told counted before after e f few = grind (arith, nat_tests)
 
-pub unchanged : (own : List Mac) (turn : Turn) (iface new : Iface) (before after : Asked) → Goes (iface_turned own turn iface) new before after
-    → length after.news ≤ length before.news → iface_rows new ≡ iface_rows iface
-unchanged own turn iface new before after goes few =
-    let sum : length after.news ≡ length (before.news ++ news_of (iface_turned own turn iface)) = ap length goes.tells in
-    let none : news_of (iface_turned own turn iface) ≡ [] = none_more before.news (news_of (iface_turned own turn iface)) (omega arith) in
-    ap iface_rows goes.goes_on ∙ quiet_rows own turn iface (no_reports (iface_turned own turn iface).reports none)
+module _ (own : List Mac) (turn : Turn) (iface new : Iface) (before after : Asked) (goes : Goes (iface_turned own turn iface) new before after) where
+  no_news : length after.news ≤ length before.news → news_of (iface_turned own turn iface) ≡ []
+  no_news few =
+      let sum : length after.news ≡ length (before.news ++ news_of (iface_turned own turn iface)) = ap length goes.tells in
+      none_more before.news (news_of (iface_turned own turn iface)) (omega arith)
+
+  none_said : length after.sends ≤ length before.sends → (iface_turned own turn iface).said ≡ []
+  none_said few =
+      let step : IfaceStep = iface_turned own turn iface in
+      let sum : length after.sends ≡ length (before.sends ++ sends_of step) = ap length goes.offers in
+      none_mapped _ step.said (none_more before.sends (sends_of step) (omega arith))
+
+  pub unchanged : length after.news ≤ length before.news → iface_rows new ≡ iface_rows iface
+  unchanged few =
+      ap iface_rows goes.goes_on ∙ quiet_rows own turn iface (none_mapped (λ (r : Report). r.news) (iface_turned own turn iface).reports (no_news few))
+
+  pub keeps_lease : length after.news ≤ length before.news → length after.sends ≤ length before.sends → new.dhcp4.kept ≡ iface.dhcp4.kept
+  keeps_lease few quiet =
+      ap (λ (i : Iface). i.dhcp4.kept) goes.goes_on ∙ quiet_kept own turn iface (no_news few) (none_said quiet)

@@ -1,3 +1,6 @@
 pub mod Routing
+pub mod Running
 pub mod Stepping
+pub mod Touched
+pub mod Displaced
 pub mod Wanted

@@ -1,24 +1,30 @@
-ghost use Rattle.std.specs.Prelude.{◌≡◌, ◌<◌, ◌^◌, IfOk, map, Bool, false};
+ghost use Rattle.std.specs.Prelude.{◌≡◌, ◌==◌, ◌<◌, ◌^◌, IfOk, IfSome, find, map, option_map, Bool, false};
+ghost use Rattle.std.specs.Option.{option_copied};
 ghost use Rattle.std.specs.List.{AllByRecursion};
 ghost use Rattle.machine.specs.Moment.{moment_of};
 ghost use Rattle.world.specs.Rows.{IsRow};
-ghost use Rattle.settings.specs.Fitting.{AreManaged};
+ghost use Rattle.lease_text.specs.Bounds.{FitsLease};
+ghost use Rattle.lease_text.specs.Leases.{lease_content};
+ghost use Rattle.client_model.specs.IfaceSteps.{index_of};
 ghost use Rattle.client_model.specs.Interfaces.{opened};
 ghost use Rattle.client_model.specs.WantedRows.{wanted_rows};
-ghost use Rattle.client_model.specs.Fitting.{AreIfaces};
-ghost use Rattle.client_model.specs.Clients.{Client, opening, client_turned, client_due, rows_of};
+ghost use Rattle.client_model.specs.Fitting.{AreBeginnings};
+ghost use Rattle.client_model.specs.Clients.{Client, opening, client_turned, client_due, kept_lease, rows_of};
+ghost use Rattle.iface_core.specs.Beginnings.{beginning_of};
 ghost use Rattle.iface_core.specs.Inputs.{turn_of};
 ghost use Rattle.iface_core.specs.Outcomes.{asked_in, sends_in};
+ghost use Rattle.client_core.specs.Running.{AreRunning, ifaces_in};
 ghost use Rattle.client_core.specs.Stepping.{Steps, GoAll, IsOnInterface};
+ghost use Rattle.client_core.specs.Touched.{KeepsUntouched};
 ghost use Rattle.client_core.specs.Wanted.{IsWanted};
 
-use crate::turning::turn_ifaces;
+use crate::running::{Running, running_of};
+use crate::turning::turn_all;
 use crate::wanting::wanted;
-use client_model::Iface;
-use iface_core::{Outs, Turn, earlier_of, iface_due, iface_open};
+use iface_core::{Beginning, Outs, Turn, earlier_of, iface_due, iface_kept, iface_open};
+use lease_text::Lease4;
 use machine::clamp_moment;
-use net_types::{IfSpec, Mac, NoMemory};
-use settings::Managed;
+use net_types::{IfIndex, IfSpec, Mac, NoMemory};
 use std::alloc::{AllocError, Global};
 use std::collections::BTreeSet;
 use std::marker::Model;
@@ -29,38 +35,40 @@ use world::{Begin, HostRow};
 pub struct Core {
     alloc: Global,
     own: Vec<Mac>,
-    ifaces: Vec<Iface>,
+    running: Vec<Running>,
     wanted: BTreeSet<HostRow>,
 }
 
 impl Model for Core {
     ghost Value = { Client };
 
-    ghost view = { λ core. record { own = core.own.items; ifaces = core.ifaces.items } };
+    ghost view = { λ core. record { own = core.own.items; ifaces = ifaces_in core.running.items } };
 
-    ghost invariant = { λ core. IsWanted core.ifaces.items core.wanted.keys };
+    ghost invariant = { λ core. IsWanted core.running.items core.wanted.keys };
 }
 
 /// The interfaces as they are opened, one after another.
 fn opened_ifaces(
     alloc: Global,
-    managed: &[Managed],
+    beginnings: Vec<Beginning>,
     begin: Begin,
     outs: &mut Outs,
-) -> Result<Vec<Iface>, NoMemory>
-    requires { AreManaged managed.now }
-    ensures { IfOk result (λ ifaces. GoAll (opened begin.up (moment_of begin.at) begin.salt) managed.now ifaces.items (asked_in outs.old) (asked_in outs.new)) }
+) -> Result<Vec<Running>, NoMemory>
+    requires { AreBeginnings (map beginning_of beginnings.items) }
+    ensures goes { IfOk result (λ all. GoAll (opened begin.up (moment_of begin.at) begin.salt) (map beginning_of beginnings.items) (ifaces_in all.items) (asked_in outs.old) (asked_in outs.new)) }
+    ensures running { IfOk result (λ all. AreRunning all.items) }
 {
     let opening = Begin {
         at: clamp_moment(begin.at),
         ..begin
     };
-    let mut ifaces = Vec::new(alloc);
-    for m in managed {
-        let iface = iface_open(alloc, m, opening, outs)?;
-        ifaces.push(iface)?;
+    let mut running = Vec::new(alloc);
+    for beginning in beginnings {
+        let iface = iface_open(alloc, beginning, opening, outs)?;
+        let one = running_of(alloc, iface)?;
+        running.push(one)?;
     }
-    Ok(ifaces)
+    Ok(running)
 }
 
 /// The hardware addresses of the interfaces.
@@ -70,26 +78,26 @@ fn own_addresses(alloc: Global, specs: &[IfSpec]) -> Result<Vec<Mac>, AllocError
     specs.iter().map(|spec| spec.mac).collect(alloc)
 }
 
-/// Opens the client over the managed interfaces, as a life begins. `specs` are all interfaces, managed or not, whose packets
+/// Opens the client over its managed interfaces, as a life begins. `specs` are all interfaces, managed or not, whose packets
 /// are known as the client's own.
 pub fn core_open(
     alloc: Global,
-    managed: &[Managed],
+    beginnings: Vec<Beginning>,
     specs: &[IfSpec],
     begin: Begin,
 ) -> Result<(Core, Outs), NoMemory>
-    requires { AreManaged managed.now }
-    ensures steps { IfOk result (λ done. Steps (opening managed.now specs.now begin) done.0 (asked_in done.1)) }
+    requires { AreBeginnings (map beginning_of beginnings.items) }
+    ensures steps { IfOk result (λ done. Steps (opening (map beginning_of beginnings.items) specs.now begin) done.0 (asked_in done.1)) }
     ensures on_interfaces { IfOk result (λ done. AllByRecursion IsOnInterface (sends_in done.1)) }
 {
     let own = own_addresses(alloc, specs)?;
     let mut outs = Outs::new(alloc);
-    let ifaces = opened_ifaces(alloc, managed, begin, &mut outs)?;
-    let wanted = wanted(alloc, &ifaces)?;
+    let running = opened_ifaces(alloc, beginnings, begin, &mut outs)?;
+    let wanted = wanted(alloc, &running)?;
     let core = Core {
         alloc,
         own,
-        ifaces,
+        running,
         wanted,
     };
     Ok((core, outs))
@@ -99,43 +107,58 @@ pub fn core_open(
 fn renewed(
     alloc: Global,
     before: BTreeSet<HostRow>,
-    ifaces: &[Iface],
+    running: &[Running],
     changed: bool,
 ) -> Result<BTreeSet<HostRow>, NoMemory>
-    requires fit { AreIfaces ifaces.now }
-    requires same { changed ≡ false → before.keys ≡ wanted_rows ifaces.now }
+    requires running { AreRunning running.now }
+    requires same { changed ≡ false → before.keys ≡ wanted_rows (ifaces_in running.now) }
     requires rows { AllByRecursion IsRow before.keys }
-    ensures { IfOk result (λ wanted. IsWanted ifaces.now wanted.keys) }
+    ensures { IfOk result (λ wanted. IsWanted running.now wanted.keys) }
 {
     if changed {
-        wanted(alloc, ifaces)
+        wanted(alloc, running)
     } else {
         Ok(before)
     }
 }
 
+/// What a turn makes of the client, and what it asks.
+#[derive(Drop)]
+pub struct Stepped {
+    pub core: Core,
+    /// What the outside is asked.
+    pub outs: Outs,
+    /// The interfaces that may keep another lease than before; all others keep the one that they kept.
+    pub touched: Vec<IfIndex>,
+}
+
 /// One turn: what comes of it, and what the outside is asked.
-pub fn step(core: Core, turn: Turn<'_>) -> Result<(Core, Outs), NoMemory>
+pub fn step(core: Core, turn: Turn<'_>) -> Result<Stepped, NoMemory>
     requires { turn.at < 10 ^ 15 }
-    ensures steps { IfOk result (λ done. Steps (client_turned (turn_of turn.entry) core) done.0 (asked_in done.1)) }
-    ensures on_interfaces { IfOk result (λ done. AllByRecursion IsOnInterface (sends_in done.1)) }
+    ensures steps { IfOk result (λ done. Steps (client_turned (turn_of turn.entry) core) done.core (asked_in done.outs)) }
+    ensures on_interfaces { IfOk result (λ done. AllByRecursion IsOnInterface (sends_in done.outs)) }
+    ensures untouched { IfOk result (λ done. KeepsUntouched done.touched.items core.ifaces done.core.ifaces) }
 {
     let Core {
         alloc,
         own,
-        mut ifaces,
+        mut running,
         wanted,
     } = core;
     let mut outs = Outs::new(alloc);
-    let changed = turn_ifaces(&mut ifaces, &turn, &own, &mut outs)?;
-    let wanted = renewed(alloc, wanted, &ifaces, changed)?;
+    let changed = turn_all(alloc, &mut running, &turn, &own, &mut outs)?;
+    let wanted = renewed(alloc, wanted, &running, changed.rows)?;
     let core = Core {
         alloc,
         own,
-        ifaces,
+        running,
         wanted,
     };
-    Ok((core, outs))
+    Ok(Stepped {
+        core,
+        outs,
+        touched: changed.touched,
+    })
 }
 
 /// The rows that the host is to hold on the managed interfaces.
@@ -146,13 +169,38 @@ pub fn rows(core: &Core) -> &BTreeSet<HostRow>
     &core.wanted
 }
 
+/// The lease that the interface of this number keeps for its next start, held or not.
+pub fn kept(core: &Core, index: IfIndex) -> Option<&Lease4>
+    ensures value { option_map (λ lease. lease_content lease.now) result ≡ kept_lease index.number core.now.ifaces }
+    ensures fits { IfSome (option_map (λ lease. lease_content lease.now) result) FitsLease }
+{
+    kept_among(&core.running, index)
+}
+
+fn kept_among(running: &[Running], index: IfIndex) -> Option<&Lease4>
+    ensures value { option_map (λ lease. lease_content lease.now) result ≡ kept_lease index.number (ifaces_in running.now) }
+    ensures fits { IfSome (option_map (λ lease. lease_content lease.now) result) FitsLease }
+{
+    let one = one_of(running, index)?;
+    iface_kept(&one.iface)
+}
+
+/// The interface of this number.
+fn one_of(running: &[Running], index: IfIndex) -> Option<&Running>
+    ensures { option_copied result ≡ find (λ one. index_of one.iface == index.number) running.now }
+{
+    running
+        .iter()
+        .find(|one| one.iface.managed.spec.index == index)
+}
+
 /// The next moment at which a machine is due.
 pub fn core_due(core: &Core) -> Option<u64>
     ensures { result ≡ client_due core.now.ifaces }
 {
     let mut due = None;
-    for iface in &core.ifaces {
-        due = earlier_of(due, iface_due(iface));
+    for one in &core.running {
+        due = earlier_of(due, iface_due(&one.iface));
     }
     due
 }

@@ -1,4 +1,4 @@
-ghost use Rattle.std.specs.Prelude.{◌≡◌, [], ◌∷◌, ◌++◌, OnOk};
+ghost use Rattle.std.specs.Prelude.{◌≡◌, [], ◌∷◌, ◌++◌, true, OnOk};
 ghost use Rattle.std.specs.List.{AllByRecursion};
 ghost use Rattle.world.specs.Rows.{IsRow};
 
@@ -47,5 +47,21 @@ impl HostRows {
         ensures fit { AllByRecursion IsRow result.now }
     {
         &self.rows
+    }
+
+    /// Appends all of them.
+    #[tactic(auto, using(net_types::proofs::AllLaws::all_join))]
+    pub fn append(&mut self, more: &HostRows) -> Result<(), AllocError>
+        ensures { OnOk result (self.new ≡ self.old ++ more.now) }
+    {
+        self.rows.extend_from_slice(&more.rows)?;
+        Ok(())
+    }
+
+    /// Whether these are the same rows.
+    pub fn is_same(&self, other: &HostRows) -> bool
+        ensures { result ≡ true → self.now ≡ other.now }
+    {
+        self.rows == other.rows
     }
 }

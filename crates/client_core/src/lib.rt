@@ -6,8 +6,9 @@ mod clients;
 mod host_rows;
 mod iface_rows;
 mod lease_rows;
+mod running;
 mod turning;
 mod wanting;
 
-pub use clients::{Core, core_due, core_open, rows, step};
-pub use iface_core::{Outs, Sending, Turn, TurnInput, earlier_of};
+pub use clients::{Core, Stepped, core_due, core_open, kept, rows, step};
+pub use iface_core::{Beginning, Outs, Sending, Turn, TurnInput, earlier_of};

@@ -1,14 +1,14 @@
-ghost use Rattle.std.specs.Prelude.{◌≡◌, ◌++◌, Bool, IfOk, OnOk, flat_map, length, filter, not};
+ghost use Rattle.std.specs.Prelude.{◌≡◌, ◌++◌, Bool, IfOk, OnOk, flat_map, length, filter};
 ghost use Rattle.std.specs.List.{AllByRecursion, list_any};
 ghost use Rattle.world.specs.Rows.{IsRow};
 ghost use Rattle.world.specs.RowOrder.{in_row_order};
-ghost use Rattle.client_model.specs.WantedRows.{same_net, same_target, goes_before, outranks, is_kept, iface_rows};
-ghost use Rattle.client_model.specs.Fitting.{AreIfaces};
+ghost use Rattle.client_model.specs.WantedRows.{same_net, same_target, goes_before, outranks};
+ghost use Rattle.client_core.specs.Displaced.{displaces, stays_among};
+ghost use Rattle.client_core.specs.Running.{AreRunning};
 ghost use Rattle.client_core.specs.Wanted.{IsWanted};
 
 use crate::host_rows::HostRows;
-use crate::iface_rows::push_iface;
-use client_model::Iface;
+use crate::running::Running;
 use net_types::{Net, NoMemory};
 use std::alloc::{AllocError, Global};
 use std::collections::BTreeSet;
@@ -64,31 +64,50 @@ fn has_outranking(rows: &[HostRow], row: HostRow) -> bool
     rows.iter().any(|other| is_outranked(row, *other))
 }
 
-fn is_unique(rows: &[HostRow], row: HostRow) -> bool
-    ensures { result ≡ is_kept rows.now row }
+/// Whether an interface brings a row in the place of this one, which is on it.
+fn displaces(one: &Running, row: HostRow) -> bool
+    ensures { result ≡ displaces one.now row }
 {
-    !has_outranking(rows, row)
+    one.iface.managed.spec.index.number == row.iface().number
+        && has_outranking(one.rows.as_slice(), row)
 }
 
-fn all_rows(alloc: Global, ifaces: &[Iface]) -> Result<HostRows, NoMemory>
-    requires { AreIfaces ifaces.now }
-    ensures { IfOk result (λ rows. rows ≡ flat_map iface_rows ifaces.now) }
+fn is_displaced(running: &[Running], row: HostRow) -> bool
+    ensures { result ≡ list_any (λ one. displaces one row) running.now }
+{
+    running.iter().any(|one| displaces(one, row))
+}
+
+/// Whether no interface brings a row in the place of this one. Routes of unlike interfaces have unlike metrics, so the rows
+/// of the row's own interface alone are looked at.
+fn is_unique(running: &[Running], row: HostRow) -> bool
+    ensures { result ≡ stays_among running.now row }
+{
+    !is_displaced(running, row)
+}
+
+fn all_rows(alloc: Global, running: &[Running]) -> Result<HostRows, AllocError>
+    ensures { IfOk result (λ rows. rows ≡ flat_map (λ one. one.rows) running.now) }
 {
     let mut rows = HostRows::new(alloc);
-    for iface in ifaces {
-        push_iface(alloc, &mut rows, iface)?;
+    for one in running {
+        rows.append(&one.rows)?;
     }
     Ok(rows)
 }
 
-fn unique_rows(alloc: Global, rows: &[HostRow]) -> Result<BTreeSet<HostRow>, AllocError>
+fn unique_rows(
+    alloc: Global,
+    running: &[Running],
+    rows: &[HostRow],
+) -> Result<BTreeSet<HostRow>, AllocError>
     requires { AllByRecursion IsRow rows.now }
-    ensures rows { IfOk result (λ wanted. wanted.keys ≡ in_row_order (filter (is_kept rows.now) rows.now)) }
+    ensures rows { IfOk result (λ wanted. wanted.keys ≡ in_row_order (filter (stays_among running.now) rows.now)) }
     ensures fit { IfOk result (λ wanted. AllByRecursion IsRow wanted.keys) }
 {
     let mut wanted = BTreeSet::new(alloc);
     for row in rows {
-        if is_unique(rows, *row) {
+        if is_unique(running, *row) {
             wanted.insert(*row)?;
         }
     }
@@ -96,11 +115,11 @@ fn unique_rows(alloc: Global, rows: &[HostRow]) -> Result<BTreeSet<HostRow>, All
 }
 
 /// The rows that the interfaces bring together, in row order.
-pub fn wanted(alloc: Global, ifaces: &[Iface]) -> Result<BTreeSet<HostRow>, NoMemory>
-    requires { AreIfaces ifaces.now }
-    ensures { IfOk result (λ wanted. IsWanted ifaces.now wanted.keys) }
+pub fn wanted(alloc: Global, running: &[Running]) -> Result<BTreeSet<HostRow>, NoMemory>
+    requires { AreRunning running.now }
+    ensures { IfOk result (λ wanted. IsWanted running.now wanted.keys) }
 {
-    let rows = all_rows(alloc, ifaces)?;
-    let wanted = unique_rows(alloc, rows.as_slice())?;
+    let rows = all_rows(alloc, running)?;
+    let wanted = unique_rows(alloc, running, rows.as_slice())?;
     Ok(wanted)
 }

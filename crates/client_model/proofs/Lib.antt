@@ -4,5 +4,7 @@ mod OwnTurns
 mod Keepers
 pub mod HostTableWanted
 pub mod SameInterfaces
+pub mod KeptTexts
 mod QuietLeases
 pub mod QuietTurns
+pub mod QuietKept

@@ -160,11 +160,11 @@ in_turn a b c first next = record {
 abbrev IsQuiet : Iface → IfaceStep → Type 0
 IsQuiet old step = step.reports ≡ [] → SameSources old step.iface
 
-none_first : {X : Type 0} (xs ys : List X) → xs ++ ys ≡ [] → xs ≡ []
+pub none_first : {X : Type 0} (xs ys : List X) → xs ++ ys ≡ [] → xs ≡ []
 none_first [] ys e = refl
 none_first (x ∷ xs) ys e = cc
 
-none_next : {X : Type 0} (xs ys : List X) → xs ++ ys ≡ [] → ys ≡ []
+pub none_next : {X : Type 0} (xs ys : List X) → xs ++ ys ≡ [] → ys ≡ []
 none_next [] ys e = e
 none_next (x ∷ xs) ys e = cc
 
@@ -182,7 +182,7 @@ news_loud old before news step e = cc
 
 -- ---- DHCPv4
 
-no_lease_news : (f : News → Report) (said : News4) → map f (lease_news said) ≡ [] → said ≡ news4.Nothing
+pub no_lease_news : (f : News → Report) (said : News4) → map f (lease_news said) ≡ [] → said ≡ news4.Nothing
 no_lease_news f news4.Nothing e = refl
 no_lease_news f news4.Bound e = cc
 no_lease_news f news4.Reboot e = cc

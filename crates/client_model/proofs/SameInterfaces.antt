@@ -15,6 +15,7 @@ use Rattle.client_model.specs.ClientSettings.{runs_dhcp4}
 use Rattle.client_model.specs.Dhcp4Steps.{arms, begin_dhcp4, dhcp4_step, rebind_dhcp4}
 use Rattle.client_model.specs.IfaceSteps.{IfaceStep, index_of, silent, then_step}
 use Rattle.client_model.specs.LocalSteps.{armed}
+use Rattle.client_model.specs.KeptLeases.{Beginning}
 use Rattle.client_model.specs.Interfaces.{begins, machines_rebind, resting, carrier_comes, carrier_goes, opened, restarted, unsent_in, ticked, carried, released, rebound, halted}
 use Rattle.client_model.specs.IfaceTurns.{Turn, arp_heard, hears, hears_either, hears_message, hears_packet, taken, input_step, iface_turned}
 use Rattle.client_model.specs.Runs.{iface_run}
@@ -114,10 +115,10 @@ turned_is_same own turn iface =
     in_turn iface anew _ (unsent_same turn.unsent turn.at turn.salt iface)
     (in_turn anew first.iface _ (ticked_same turn.at turn.salt anew) (input_same own turn.at turn.salt turn.event turn.bytes first.iface))
 
-pub opened_is_same : (up at salt : ℕ) (managed : Managed) → StepSame (resting managed) (opened up at salt managed)
-opened_is_same up at salt managed =
-    gated (StepSame (resting managed)) (is_up up managed.spec.index.number) (carrier_comes at salt (resting managed)) (silent (resting managed))
-    (comes_same at salt (resting managed)) (itself (resting managed))
+pub opened_is_same : (up at salt : ℕ) (beginning : Beginning) → StepSame (resting beginning) (opened up at salt beginning)
+opened_is_same up at salt beginning =
+    gated (StepSame (resting beginning)) (is_up up beginning.managed.spec.index.number) (carrier_comes at salt (resting beginning)) (silent (resting beginning))
+    (comes_same at salt (resting beginning)) (itself (resting beginning))
 
 pub turned_same : (own : List Mac) (turn : Turn) (iface : Iface) → (iface_turned own turn iface).iface.managed ≡ iface.managed
 turned_same own turn iface = (turned_is_same own turn iface).managed
@@ -130,12 +131,13 @@ run_same own iface (turn ∷ before) = turned_same own turn (iface_run own iface
 abbrev pub managed_in : List Iface → List Managed
 managed_in ifaces = map (λ (iface : Iface). iface.managed) ifaces
 
-pub opened_same : (up at salt : ℕ) (managed : Managed) → (opened up at salt managed).iface.managed ≡ managed
-opened_same up at salt managed = (opened_is_same up at salt managed).managed
+pub opened_same : (up at salt : ℕ) (beginning : Beginning) → (opened up at salt beginning).iface.managed ≡ beginning.managed
+opened_same up at salt beginning = (opened_is_same up at salt beginning).managed
 
-pub all_opened : (up at salt : ℕ) (managed : List Managed) → managed_in (map (λ (step : IfaceStep). step.iface) (map (opened up at salt) managed)) ≡ managed
+pub all_opened : (up at salt : ℕ) (beginnings : List Beginning)
+    → managed_in (map (λ (step : IfaceStep). step.iface) (map (opened up at salt) beginnings)) ≡ map (λ (b : Beginning). b.managed) beginnings
 all_opened up at salt [] = refl
-all_opened up at salt (m ∷ managed) = ap₂ (λ (n : Managed) (more : List Managed). n ∷ more) (opened_same up at salt m) (all_opened up at salt managed)
+all_opened up at salt (b ∷ beginnings) = ap₂ (λ (m : Managed) (more : List Managed). m ∷ more) (opened_same up at salt b) (all_opened up at salt beginnings)
 
 pub all_turned : (own : List Mac) (turn : Turn) (ifaces : List Iface) → managed_in (map (λ (step : IfaceStep). step.iface) (map (iface_turned own turn) ifaces)) ≡ managed_in ifaces
 all_turned own turn [] = refl

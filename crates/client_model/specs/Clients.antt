@@ -1,10 +1,11 @@
 -- The client over all managed interfaces: each has a run of its own, and what they say goes out in their order.
-use Rattle.std.specs.Prelude.{ℕ, List, [], ◌∷◌, map, flat_map, Option, Some, None}
+use Rattle.std.specs.Prelude.{ℕ, ◌==◌, if◌then◌else◌, List, [], ◌∷◌, map, flat_map, Option, Some, None}
 use Rattle.net_types.specs.declared.address.Mac.{Mac}
 use Rattle.net_types.specs.declared.interface.IfIndex.{IfIndex}
 use Rattle.net_types.specs.declared.interface.IfSpec.{IfSpec}
 use Rattle.frame_link.specs.Packets.{probe_text, announcement_text}
 use Rattle.machine.specs.Moment.{moment_of}
+use Rattle.lease_text.specs.Leases.{LeaseContent}
 use Rattle.v4_message.specs.Requests.{AskContent}
 use Rattle.v4_frames.specs.Spelled as dhcp4
 pub use Rattle.v4_client.specs.Moments.{earlier}
@@ -12,12 +13,12 @@ use Rattle.v4_client.specs.Saying.{sent_of}
 use Rattle.arp_acd.specs.declared.detection.ArpSay.TheVariants.{Probe, Announce}
 use Rattle.world.specs.declared.rows.HostRow.{HostRow}
 use Rattle.world.specs.declared.wakes.Begin.{Begin}
-use Rattle.settings.specs.declared.interfaces.Managed.{Managed}
 use Rattle.client_model.specs.declared.interfaces.Iface.{Iface}
 use Rattle.client_model.specs.declared.steps.Said.{Said}
 use Rattle.client_model.specs.declared.steps.Said.TheVariants.{Arp, Dhcp4}
-use Rattle.client_model.specs.IfaceSteps.{Report, IfaceStep}
+use Rattle.client_model.specs.IfaceSteps.{Report, IfaceStep, index_of}
 use Rattle.client_model.specs.Interfaces.{opened, iface_due}
+use Rattle.client_model.specs.KeptLeases.{Beginning}
 use Rattle.client_model.specs.IfaceTurns.{Turn, iface_turned}
 use Rattle.client_model.specs.WantedRows.{wanted_rows}
 
@@ -59,9 +60,9 @@ joined own steps = record {
   reports = flat_map (λ step. step.reports) steps;
 }
 
--- the opening: `specs` are all interfaces, `managed` those that the client manages
-abbrev pub opening : List Managed → (specs : List IfSpec) → Begin → ClientStep
-opening managed specs begin = joined (map (λ spec. spec.mac) specs) (map (opened begin.up (moment_of begin.at) begin.salt) managed)
+-- the opening: `specs` are all interfaces, `beginnings` those that the client manages
+abbrev pub opening : List Beginning → (specs : List IfSpec) → Begin → ClientStep
+opening beginnings specs begin = joined (map (λ spec. spec.mac) specs) (map (opened begin.up (moment_of begin.at) begin.salt) beginnings)
 
 abbrev pub steps_of : Turn → Client → List IfaceStep
 steps_of turn client = map (iface_turned client.own turn) client.ifaces
@@ -71,6 +72,11 @@ client_turned turn client = joined client.own (steps_of turn client)
 
 abbrev pub rows_of : Client → List HostRow
 rows_of client = wanted_rows client.ifaces
+
+-- the lease that the interface of a number keeps, held or not
+abbrev pub kept_lease : ℕ → List Iface → Option LeaseContent
+kept_lease index [] = None
+kept_lease index (iface ∷ ifaces) = if index_of iface == index then iface.dhcp4.kept else kept_lease index ifaces
 
 -- the earliest moment at which a machine is due
 abbrev pub client_due : List Iface → Option ℕ

@@ -3,8 +3,18 @@ use Rattle.std.specs.Prelude.{IfSome, List}
 use Rattle.std.specs.List.{AllByRecursion}
 use Rattle.ipv4ll.specs.Choice.{IsChoice}
 use Rattle.ipv4ll.specs.Laws.{chosen_address}
+use Rattle.lease_text.specs.Bounds.{FitsLease}
 use Rattle.settings.specs.Fitting.{FitsManaged}
 use Rattle.client_model.specs.declared.interfaces.Iface.{Iface}
+use Rattle.client_model.specs.KeptLeases.{Beginning}
+
+-- an interface before its opening: the lease that was kept is within the bounds
+pub record FitsBeginning (beginning : Beginning) : Type 0 where
+  pub managed : FitsManaged beginning.managed
+  pub kept : IfSome beginning.kept FitsLease
+
+abbrev pub AreBeginnings : List Beginning → Type 0
+AreBeginnings beginnings = AllByRecursion FitsBeginning beginnings
 
 -- an interface in a run: the address that it probes or holds is one that a host may choose by itself
 pub record FitsIface (iface : Iface) : Type 0 where

@@ -1,5 +1,5 @@
 -- One interface: its carrier, its machines, and the steps that it makes.
-use Rattle.std.specs.Prelude.{ℕ, Bool, true, false, if◌then◌else◌, Option, None}
+use Rattle.std.specs.Prelude.{ℕ, Bool, true, false, if◌then◌else◌, Option}
 use Rattle.ipv4ll.specs.Table as local
 use Rattle.ipv4ll.specs.Table.{ll_restarts, off}
 use Rattle.v4_client.specs.declared.states.Tell.{Tell}
@@ -9,7 +9,6 @@ use Rattle.v4_client.specs.Clients.{client_made}
 use Rattle.v4_client.specs.Due as lease
 use Rattle.v4_client.specs.Moments.{earlier}
 use Rattle.settings.specs.declared.interfaces.IfConf.{IfConf}
-use Rattle.settings.specs.declared.interfaces.Managed.{Managed}
 use Rattle.script_model.specs.IfaceSets.{is_in, is_up}
 use Rattle.client_model.specs.declared.interfaces.Iface.{Iface}
 use Rattle.client_model.specs.declared.steps.News.TheVariants.{CarrierCame, CarrierWent, Released, Stopped}
@@ -18,6 +17,7 @@ use Rattle.client_model.specs.declared.steps.TimedMachine.TheVariants.{Dhcp4, Li
 use Rattle.client_model.specs.ClientSettings.{settings_of}
 use Rattle.client_model.specs.Dhcp4Steps.{arms, begin_dhcp4, rebind_dhcp4, drop_dhcp4, stop_dhcp4, tick_dhcp4}
 use Rattle.client_model.specs.IfaceSteps.{IfaceStep, index_of, silent, then_step, with_news}
+use Rattle.client_model.specs.KeptLeases.{Beginning}
 use Rattle.client_model.specs.LocalSteps.{local_off, tick_local}
 
 -- machines that are off begin
@@ -35,22 +35,22 @@ machines_stop tell at salt iface = then_step (stop_dhcp4 tell at salt iface) loc
 -- ---- the opening
 
 -- an interface before its opening
-abbrev pub resting : Managed → Iface
-resting managed = record {
-  managed = managed;
+abbrev pub resting : Beginning → Iface
+resting beginning = record {
+  managed = beginning.managed;
   up = false;
   stopped = false;
-  dhcp4 = client_made (settings_of managed) None;
-  local = off managed.spec.index;
+  dhcp4 = client_made (settings_of beginning.managed) beginning.kept;
+  local = off beginning.managed.spec.index;
 }
 
 abbrev pub carrier_comes : (at salt : ℕ) → Iface → IfaceStep
 carrier_comes at salt iface = with_news CarrierCame iface (begins at salt (record iface { up = true }))
 
 -- Where it has carrier at the opening, this is a carrier that comes. No machine ticks.
-abbrev pub opened : (up at salt : ℕ) → Managed → IfaceStep
-opened up at salt managed =
-    if is_up up managed.spec.index.number then carrier_comes at salt (resting managed) else silent (resting managed)
+abbrev pub opened : (up at salt : ℕ) → Beginning → IfaceStep
+opened up at salt beginning =
+    if is_up up beginning.managed.spec.index.number then carrier_comes at salt (resting beginning) else silent (resting beginning)
 
 -- ---- ticks
 

@@ -2,6 +2,7 @@ pub mod IfaceSteps
 pub mod ClientSettings
 pub mod LocalSteps
 pub mod Dhcp4Steps
+pub mod KeptLeases
 pub mod Interfaces
 pub mod IfaceTurns
 pub mod WantedRows

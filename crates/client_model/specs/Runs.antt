@@ -5,7 +5,7 @@ use Rattle.world.specs.declared.wakes.Event.{Event}
 use Rattle.world.specs.declared.wakes.Event.TheVariants.{Frame, Carrier, Duplicate, Release, Rebind, Stop, Quiet, End}
 use Rattle.script_model.specs.IfaceSets.{is_in}
 use Rattle.client_model.specs.declared.interfaces.Iface.{Iface}
-use Rattle.client_model.specs.IfaceSteps.{index_of}
+use Rattle.client_model.specs.IfaceSteps.{index_of, news_of}
 use Rattle.client_model.specs.IfaceTurns.{Turn, iface_turned}
 use Rattle.client_model.specs.Clients.{Client, Sending, sends_of, client_turned}
 
@@ -44,3 +44,8 @@ NamesOther index End = ⊥
 abbrev pub IsQuietElsewhere : Type 0
 IsQuietElsewhere = (own : List Mac) (turn : Turn) (iface : Iface) → NamesOther (index_of iface) turn.event
     → iface_turned own turn iface ≡ iface_turned own (record turn { event = Quiet; bytes = [] }) iface
+
+-- A turn of an interface of which nothing is new, and in which it says nothing, leaves the lease that it keeps.
+abbrev pub KeepsInQuiet : Type 0
+KeepsInQuiet = (own : List Mac) (turn : Turn) (iface : Iface) → news_of (iface_turned own turn iface) ≡ []
+    → (iface_turned own turn iface).said ≡ [] → (iface_turned own turn iface).iface.dhcp4.kept ≡ iface.dhcp4.kept

@@ -1,12 +1,14 @@
-ghost use Rattle.std.specs.Prelude.{List, map};
+ghost use Rattle.std.specs.Prelude.{ℕ, List, map};
+ghost use Rattle.lease_text.specs.Leases.{LeaseContent};
 ghost use Rattle.world.specs.declared.rows.HostRow.{HostRow};
 ghost use Rattle.world.specs.RowOrder.{in_row_order};
 ghost use Rattle.host_model.specs.HostTable.{InRowOrder, Wantable};
 ghost use Rattle.client_model.specs.declared.interfaces.Iface.{Iface};
 ghost use Rattle.client_model.specs.IfaceTurns.{Turn};
 ghost use Rattle.client_model.specs.Clients.{Client};
+ghost use Rattle.client_model.specs.KeptLeases.{IsReading};
 ghost use Rattle.client_model.specs.WantedRows.{wanted_rows};
-ghost use Rattle.client_model.specs.Runs.{RunsApart, IsQuietElsewhere};
+ghost use Rattle.client_model.specs.Runs.{RunsApart, IsQuietElsewhere, KeepsInQuiet};
 ghost use Rattle.client_model.specs.OwnInputs.{OwnInputsCount};
 ghost use Rattle.client_model.specs.KeptRows.{KeptUnlike, DroppedHaveKeeper, AddressesStay};
 
@@ -39,4 +41,14 @@ pub fn kept_rows_are_unlike()
     ensures unlike { KeptUnlike }
     ensures keepers { DroppedHaveKeeper }
     ensures addresses { AddressesStay }
+{}
+
+/// Law of the lease that a text spells, by which a kept lease is read: it is the one whose text this is.
+pub fn kept_texts_are_leases()
+    ensures { (text : List ℕ) (lease : LeaseContent) → IsReading text lease }
+{}
+
+/// Law: the lease that an interface keeps changes only in turns of which something is new, or in which it says something.
+pub fn kept_leases_stay_in_quiet_turns()
+    ensures { KeepsInQuiet }
 {}

@@ -9,7 +9,8 @@ mod steps;
 pub use asking::{ETHERNET, WANTED_CODES};
 pub use interfaces::Iface;
 pub use laws::{
-    interfaces_run_apart, kept_rows_are_unlike, other_inputs_are_quiet, own_inputs_alone_count,
+    interfaces_run_apart, kept_leases_stay_in_quiet_turns, kept_rows_are_unlike,
+    kept_texts_are_leases, other_inputs_are_quiet, own_inputs_alone_count,
     wanted_rows_can_be_wanted,
 };
 pub use steps::{News, Said, TimedMachine};

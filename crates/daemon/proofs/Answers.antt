@@ -9,12 +9,13 @@ use Rattle.world.specs.declared.rows.HostRow.{HostRow}
 use Rattle.world.specs.RowOrder.{in_row_order}
 use Rattle.world.specs.LinkCalls.{LinkTold, Offered, offered, Offers, send_number}
 use Rattle.world.specs.HostCalls.{HostCall, HostTold, Listed, host_answered, host_number, Shows, ListsRows, ListsNone, Changes}
-use Rattle.world.specs.FileLists.{asides, file_at, drop_file}
-use Rattle.world.specs.StoreCalls.{StoreCall, StoreTold, Reading, Found, Missing, Unread, ListedAsides, ReadFile, RemovedFile, SettledFiles, reading_of, Appended, ListsAsides, ReadsFile, store_answered, store_number, ChangesFiles}
+use Rattle.world.specs.FileLists.{asides, file_at, put_file, rename_file, drop_file}
+use Rattle.world.specs.FileNames.{aside_of}
+use Rattle.world.specs.StoreCalls.{StoreCall, StoreTold, Reading, Found, Missing, Unread, ListedAsides, ReadFile, WroteAside, SyncedAside, RenamedAside, RemovedFile, SettledFiles, reading_of, Appended, ListsAsides, ReadsFile, store_answered, store_number, ChangesFiles, RenameForetold}
 use Rattle.host_model.specs.declared.changes.HostChange.{HostChange}
 use Rattle.host_model.specs.HostTurn.{change_call, applied}
 use Rattle.device_calls.specs.Telling.{Adds}
-use Rattle.daemon.specs.Answered.{OfferedBy, ListedBy, ChangedBy, AsidesBy, ReadBy, RemovedBy, SettledBy}
+use Rattle.daemon.specs.Answered.{OfferedBy, ListedBy, ChangedBy, AsidesBy, ReadBy, WrittenBy, SyncedBy, RenamedBy, RemovedBy, SettledBy}
 
 abbrev done_call : Result (Unit {0}) DeviceAnswer
 done_call = Ok tt
@@ -170,6 +171,39 @@ unread_by name (Some failing) (Some told) new before after reads foretold = reco
 pub not_read : (name : List ℕ) (old new : Option StoreTold) (before after : List ℕ) → ReadsFile name old new before after no_memory → new ≡ old
 not_read name None new before after reads = reads
 not_read name (Some told) new before after reads = reads
+
+pub written_by : (name bytes : List ℕ) (failing : Option StoreFails) (old new : Option StoreTold) → ChangesFiles failing (put_file (record { name = aside_of name; bytes = bytes })) (WroteAside name bytes) old new done_call → StoreForetold failing (store_number old) done_call → WrittenBy name bytes true failing old new
+written_by name bytes failing None new changes foretold = record { adds = tt; foretold_is = tt }
+written_by name bytes None (Some told) new changes foretold = record { adds = store_adds (WroteAside name bytes true) _ told new changes; foretold_is = tt }
+written_by name bytes (Some failing) (Some told) new changes foretold = record { adds = store_adds (WroteAside name bytes true) _ told new changes; foretold_is = (ap not (sym foretold), changes) }
+
+pub not_written_by : (name bytes : List ℕ) (failing : Option StoreFails) (old new : Option StoreTold) → ChangesFiles failing (put_file (record { name = aside_of name; bytes = bytes })) (WroteAside name bytes) old new failed_call → StoreForetold failing (store_number old) failed_call → WrittenBy name bytes false failing old new
+not_written_by name bytes failing None new changes foretold = record { adds = tt; foretold_is = tt }
+not_written_by name bytes None (Some told) new (inl changes) foretold = record { adds = store_adds (WroteAside name bytes false) _ told new changes; foretold_is = tt }
+not_written_by name bytes None (Some told) new (inr changes) foretold = record { adds = store_adds (WroteAside name bytes false) _ told new changes; foretold_is = tt }
+not_written_by name bytes (Some failing) (Some told) new changes foretold = record { adds = store_adds (WroteAside name bytes false) _ told new changes; foretold_is = (ap not (sym foretold), changes) }
+
+pub synced_by : (name : List ℕ) (failing : Option StoreFails) (old new : Option StoreTold) → ChangesFiles failing (λ files. files) (SyncedAside name) old new done_call → StoreForetold failing (store_number old) done_call → SyncedBy name true failing old new
+synced_by name failing None new changes foretold = record { adds = tt; foretold_is = tt }
+synced_by name None (Some told) new changes foretold = record { adds = store_adds (SyncedAside name true) _ told new changes; foretold_is = tt }
+synced_by name (Some failing) (Some told) new changes foretold = record { adds = store_adds (SyncedAside name true) _ told new changes; foretold_is = (ap not (sym foretold), changes) }
+
+pub not_synced_by : (name : List ℕ) (failing : Option StoreFails) (old new : Option StoreTold) → ChangesFiles failing (λ files. files) (SyncedAside name) old new failed_call → StoreForetold failing (store_number old) failed_call → SyncedBy name false failing old new
+not_synced_by name failing None new changes foretold = record { adds = tt; foretold_is = tt }
+not_synced_by name None (Some told) new (inl changes) foretold = record { adds = store_adds (SyncedAside name false) _ told new changes; foretold_is = tt }
+not_synced_by name None (Some told) new (inr changes) foretold = record { adds = store_adds (SyncedAside name false) _ told new changes; foretold_is = tt }
+not_synced_by name (Some failing) (Some told) new changes foretold = record { adds = store_adds (SyncedAside name false) _ told new changes; foretold_is = (ap not (sym foretold), changes) }
+
+pub renamed_by : (name : List ℕ) (failing : Option StoreFails) (old new : Option StoreTold) → ChangesFiles failing (λ files. rename_file name (file_at (aside_of name) files) files) (RenamedAside name) old new done_call → RenameForetold failing name old done_call → RenamedBy name true failing old new
+renamed_by name failing None new changes foretold = record { adds = tt; foretold_is = tt }
+renamed_by name None (Some told) new changes foretold = record { adds = store_adds (RenamedAside name true) _ told new changes; foretold_is = tt }
+renamed_by name (Some failing) (Some told) new changes foretold = record { adds = store_adds (RenamedAside name true) _ told new changes; foretold_is = (ap not (sym foretold), changes) }
+
+pub not_renamed_by : (name : List ℕ) (failing : Option StoreFails) (old new : Option StoreTold) → ChangesFiles failing (λ files. rename_file name (file_at (aside_of name) files) files) (RenamedAside name) old new failed_call → RenameForetold failing name old failed_call → RenamedBy name false failing old new
+not_renamed_by name failing None new changes foretold = record { adds = tt; foretold_is = tt }
+not_renamed_by name None (Some told) new (inl changes) foretold = record { adds = store_adds (RenamedAside name false) _ told new changes; foretold_is = tt }
+not_renamed_by name None (Some told) new (inr changes) foretold = record { adds = store_adds (RenamedAside name false) _ told new changes; foretold_is = tt }
+not_renamed_by name (Some failing) (Some told) new changes foretold = record { adds = store_adds (RenamedAside name false) _ told new changes; foretold_is = (ap not (sym foretold), changes) }
 
 pub removed_by : (name : List ℕ) (failing : Option StoreFails) (old new : Option StoreTold) → ChangesFiles failing (drop_file name) (RemovedFile name) old new done_call → StoreForetold failing (store_number old) done_call → RemovedBy name true failing old new
 removed_by name failing None new changes foretold = record { adds = tt; foretold_is = tt }

@@ -1,21 +1,15 @@
--- The names of the files that a life reads are names of files.
-use Rattle.std.proofs.Common.{ℕ, ◌≡◌, Bool, true, false, eqb, ◌&&◌, ◌||◌, List, [], ◌∷◌, ◌++◌, codes, map, refl, sym, subst, ap, ◌∙◌}
-use Rattle.std.specs.Prelude.{flat_map, if◌then◌else◌, slice_index}
-use Rattle.std.specs.String.{string_bytes}
-use Rattle.std.specs.Prelude.{String}
-use Rattle.std.specs.Global.{Global}
+-- The names of the files of leases are names of files.
+use Rattle.std.proofs.Common.{ℕ, ◌≡◌, Bool, true, false, eqb, ◌&&◌, ◌||◌, List, [], ◌∷◌, ◌++◌, codes, take, refl, sym, subst, ◌∙◌}
+use Rattle.std.specs.Prelude.{if◌then◌else◌, slice_index}
 use Rattle.std.specs.Char.{is_ascii_alphanumeric, is_ascii_digit, is_ascii_lowercase, is_ascii_uppercase}
-use Rattle.std.specs.List.{AllByRecursion, list_all}
+use Rattle.std.specs.List.{list_all}
 use Rattle.std.proofs.lemmas.List.Folds.{list_all-append}
-use Rattle.net_types.proofs.AllLaws.{all_join, all_mapped}
-use Rattle.net_types.proofs.CaseLaws.{gated}
 use Rattle.net_types.specs.declared.interface.Name.{Name}
 use Rattle.net_types.specs.NameText.{FitsName, is_name, is_name_byte, name_text}
 use Rattle.world.specs.FileNames.{IsFileName, is_file_byte}
 use Rattle.settings.specs.declared.interfaces.Managed.{Managed}
-use Rattle.settings.specs.Fitting.{AreManaged, FitsManaged}
-use Rattle.client_model.specs.ClientSettings.{runs_dhcp4}
-use Rattle.turn_model.specs.Opening.{file_names, lease_files}
+use Rattle.settings.specs.Fitting.{FitsManaged}
+use Rattle.turn_model.specs.LeaseFiles.{lease_file_name}
 
 -- ---- the bytes of an interface's name are bytes of a file's name
 
@@ -56,23 +50,10 @@ lease_file_fits : (name : Name) → FitsName name → IsFileName (name_text name
 lease_file_fits name fits =
     list_all-append is_file_byte (name_text name) (codes ".lease4") ∙ and_so (list_all is_file_byte (name_text name)) _ (name_fits (name_text name) fits.spelled) refl
 
--- ---- all of them
+-- the bytes of a name are its text
+pub text_of_name : (name : Name) → take name.len name.bytes ≡ name_text name
+unfolding name_text
+text_of_name name = refl
 
-abbrev AreFileNames : List (List ℕ) → Type 0
-AreFileNames names = AllByRecursion IsFileName names
-
-lease_files_fit : (managed : Managed) → FitsManaged managed → AreFileNames (lease_files managed)
-lease_files_fit managed fits =
-    gated AreFileNames (runs_dhcp4 managed.conf) ((name_text managed.spec.name ++ codes ".lease4") ∷ []) [] (lease_file_fits managed.spec.name fits.name, tt) tt
-
-all_lease_files_fit : (managed : List Managed) → AreManaged managed → AreFileNames (flat_map lease_files managed)
-all_lease_files_fit [] fits = tt
-all_lease_files_fit (m ∷ managed) fits =
-    all_join IsFileName (lease_files m) (flat_map lease_files managed) (lease_files_fit m fits.0) (all_lease_files_fit managed fits.1)
-
-file_names_fit : (managed : List Managed) → AreManaged managed → AreFileNames (file_names managed)
-file_names_fit managed fits = all_join IsFileName (flat_map lease_files managed) (codes "resolv.conf" ∷ []) (all_lease_files_fit managed fits) (refl, tt)
-
-pub names_fit : (managed : List Managed) (names : List (String Global)) → AreManaged managed → map string_bytes names ≡ file_names managed
-    → AllByRecursion (λ (name : String Global). IsFileName (string_bytes name)) names
-names_fit managed names fits same = all_mapped IsFileName string_bytes names (subst AreFileNames (sym same) (file_names_fit managed fits))
+pub lease_name_fits : (managed : Managed) (text : List ℕ) → FitsManaged managed → text ≡ lease_file_name managed → IsFileName text
+lease_name_fits managed text fits is = subst IsFileName (sym is) (lease_file_fits managed.spec.name fits.name)

@@ -4,6 +4,9 @@ pub mod Printings
 pub mod Causes
 pub mod Parts
 pub mod OpeningSteps
+pub mod Bringing
+pub mod KeptFiles
+pub mod LoadedFiles
 pub mod TurnSteps
 pub mod Waitings
 pub mod OneTurn

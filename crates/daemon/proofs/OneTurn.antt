@@ -1,6 +1,6 @@
 -- One wake of a life.
 use Rattle.std.proofs.Common.{ℕ, ◌≡◌, Bool, true, false, cond, ◌||◌, List, [], ◌∷◌, ◌++◌, length, take, drop, Option, Some, None, refl, sym, ap, subst, ◌∙◌, append-nil, arith}
-use Rattle.std.specs.Prelude.{IfSome}
+use Rattle.std.specs.Prelude.{IfSome, option_map}
 use Rattle.world.specs.declared.wakes.Wake.{Wake}
 use Rattle.world.specs.StoreFails.{StoreFails}
 use Rattle.world.specs.LinkCalls.{LinkTold, Given, Waited, frame_len, Comes, Waits}
@@ -17,11 +17,11 @@ use Rattle.device_calls.proofs.Doing.{tells_then}
 use Rattle.device_calls.proofs.Running.{run_coming}
 use Rattle.turn_model.specs.Turns.{Life, turn_asks, until, is_over, is_end}
 use Rattle.turn_model.specs.Lives.{Met, met_with, turn_lines, turn_calls, turns_calls}
-use Rattle.turn_model.specs.Foretold.{told_wake, told_bytes, woken, met_of, ran_turn, told_turns, foretold_turns}
+use Rattle.turn_model.specs.Foretold.{told_wake, told_bytes, woken, met_of, ran_turn, told_turns, told_after, foretold_turns, left_in}
 use Rattle.daemon.specs.Waits.{WaitsThere}
 use Rattle.daemon.specs.Streams.{WritesBytes, WritesLines}
-use Rattle.daemon.specs.Serving.{MakesTurn, AreFirst, Goes, Ends}
-use Rattle.daemon.proofs.Waitings.{woke, is_end-cut, Woke, woke_world, wait_tells, Gave, gave, link_alone}
+use Rattle.daemon.specs.Serving.{MakesTurn, told_last, AreFirst, Goes, Ends}
+use Rattle.daemon.proofs.Waitings.{woke, is_end-cut, Woke, woke_world, wait_tells, Gave, gave, link_alone, same_but_link}
 use Rattle.daemon.proofs.Stretches.{lines_none}
 
 or_false : (a b : Bool) → a ≡ false → b ≡ false → (a || b) ≡ false
@@ -56,6 +56,11 @@ module _ (managed : List Managed) (from to : Life) (wake : Wake) (bytes : List �
             ∙ ap (λ (m : Met). m ∷ told_turns managed (ran_for world wake bytes).result (ran_for world wake bytes).world w.coming) met_is
             ∙ ap (λ (life : Life). met_with wake bytes calls to ∷ told_turns managed life (ran_for world wake bytes).world w.coming) (sym is_run.result_is)
             ∙ ap (λ (c : List Given). met_with wake bytes calls to ∷ told_turns managed to (ran_for world wake bytes).world c) (sym comes_on);
+        ends = ap (told_after managed from world) w.comes
+            ∙ ap (λ (b : Bool). cond b world (told_after managed (ran_turn managed from world w.given).result (ran_turn managed from world w.given).world w.coming)) (or_false (is_over from) (is_end w.given.wake.event) going not_end)
+            ∙ ap (λ (r : Ran Life). told_after managed r.result r.world w.coming) ran_is
+            ∙ ap (λ (life : Life). told_after managed life (ran_for world wake bytes).world w.coming) (sym is_run.result_is)
+            ∙ ap (λ (c : List Given). told_after managed to (ran_for world wake bytes).world c) (sym comes_on);
         counted = ap length w.comes ∙ omega (arith, ap length comes_on);
       }
 
@@ -116,6 +121,27 @@ last_at managed life wake buffer asked (Some told) mid (Some failing) None store
 last_at managed life wake buffer asked (Some told) mid (Some failing) (Some host) None end waits = tt
 last_at managed life wake buffer asked (Some told) mid (Some failing) (Some host) (Some store) end waits = last_in managed life wake buffer asked told mid _ told.coming end waits
 
+-- what is left then
+left_in-last : (managed : List Managed) (life : Life) (wake : Wake) (buffer : List ℕ) (asked : Option ℕ) (told : LinkTold) (mid : Option LinkTold) (failing : List ℕ) (host : Told HostTold (List ℕ)) (store : Told StoreTold StoreFails) (coming : List Given)
+    → is_end wake.event ≡ true → Comes asked told coming mid buffer wake
+    → option_map left_in (world_from (told_from mid (Some failing)) (Some host) (Some store)) ≡ Some (left_in (told_after managed life (record { link = record { told = told; failing = failing }; host = host; store = store }) coming))
+left_in-last managed life wake buffer asked told mid failing host store [] end comes =
+    ap (λ (l : Option LinkTold). option_map left_in (world_from (told_from l (Some failing)) (Some host) (Some store))) comes.1
+left_in-last managed life wake buffer asked told mid failing host store (given ∷ coming) end comes =
+    let is : is_end given.wake.event ≡ true = sym (is_end-cut given.wake.event (length given.bytes) (length buffer)) ∙ ap (λ (w : Wake). is_end w.event) (sym comes.0) ∙ end in
+    let world : World = record { link = record { told = told; failing = failing }; host = host; store = store } in
+    ap (λ (l : Option LinkTold). option_map left_in (world_from (told_from l (Some failing)) (Some host) (Some store))) comes.2
+    ∙ sym (ap (λ (b : Bool). Some (left_in (cond b world (told_after managed (ran_turn managed life world given).result (ran_turn managed life world given).world coming)))) (or_true (is_over life) (is_end given.wake.event) is))
+
+left_at : (managed : List Managed) (life : Life) (wake : Wake) (buffer : List ℕ) (asked : Option ℕ) (link mid : Option LinkTold) (failing : Option (List ℕ)) (host : Option (Told HostTold (List ℕ))) (store : Option (Told StoreTold StoreFails)) → is_end wake.event ≡ true
+    → Waits asked link mid buffer (woke wake)
+    → IfSome (world_from (told_from link failing) host store) (λ world. option_map left_in (world_from (told_from mid failing) host store) ≡ Some (left_in (told_last managed life world)))
+left_at managed life wake buffer asked None mid failing host store end waits = tt
+left_at managed life wake buffer asked (Some told) mid None host store end waits = tt
+left_at managed life wake buffer asked (Some told) mid (Some failing) None store end waits = tt
+left_at managed life wake buffer asked (Some told) mid (Some failing) (Some host) None end waits = tt
+left_at managed life wake buffer asked (Some told) mid (Some failing) (Some host) (Some store) end waits = left_in-last managed life wake buffer asked told mid failing host store told.coming end waits
+
 pub wait_ends : (managed : List Managed) (life : Life) (wake : Wake) (buffer : List ℕ) (asked : Option ℕ) (old mid : Seen) (out : Option (List ℕ))
     → asked ≡ until life → is_end wake.event ≡ true → WaitsThere asked old mid buffer (woke wake) → Ends managed life old out life mid out
 wait_ends managed life wake buffer asked old mid out asked_is end waits =
@@ -129,4 +155,6 @@ wait_ends managed life wake buffer asked old mid out asked_is end waits =
       last_is = (asked_is, ap (λ (k : Wake). is_end k.event) it.its_wake ∙ end);
       tells = link_alone old mid (Waited asked (Some it.given)) waits.only waits.begins it.adds;
       whole = last_at managed life wake buffer asked old.link.told mid.link.told old.link.failing (told_of old.host) (told_of old.store) end waits.told;
+      left = subst (λ (m : Option World). IfSome (world_of old) (λ world. option_map left_in m ≡ Some (left_in (told_last managed life world)))) (same_but_link old mid waits.only)
+          (left_at managed life wake buffer asked old.link.told mid.link.told old.link.failing (told_of old.host) (told_of old.store) end waits.told);
     }

@@ -7,12 +7,12 @@ use Rattle.world.specs.LinkCalls.{LinkTold, offered}
 use Rattle.world.specs.HostCalls.{HostTold, Listed, host_answered}
 use Rattle.world.specs.StoreCalls.{StoreTold, Reading, ListedAsides, ReadFile, SettledFiles, store_answered}
 use Rattle.host_model.specs.declared.changes.HostChange.{HostChange}
-use Rattle.device_calls.specs.Calls.{Offer, ListRows, Change, ListAsides, Read, RemoveFile, Settle}
+use Rattle.device_calls.specs.Calls.{Offer, ListRows, Change, ListAsides, Read, WriteAside, SyncAside, RenameAside, RemoveFile, Settle}
 use Rattle.device_calls.specs.Worlds as worlds
-use Rattle.device_calls.specs.Worlds.{Seen, Told, told_from, told_of, world_from, host_with, store_without}
+use Rattle.device_calls.specs.Worlds.{Seen, Told, told_from, told_of, world_from, host_with, store_written, store_synced, store_renamed, store_without}
 use Rattle.device_calls.specs.Does.{One}
 use Rattle.device_calls.proofs.Doing.{adds_none}
-use Rattle.daemon.specs.Answered.{OfferedBy, ListedBy, ChangedBy, AsidesBy, ReadBy, RemovedBy, SettledBy}
+use Rattle.daemon.specs.Answered.{OfferedBy, ListedBy, ChangedBy, AsidesBy, ReadBy, WrittenBy, SyncedBy, RenamedBy, RemovedBy, SettledBy}
 
 module _ {B : Type 0} (answer : B) where
   link_told : (foretold : Told LinkTold (List ℕ) → B) (next : LinkTold → LinkTold) (failing : Option (List ℕ)) (old new : Option LinkTold) (host : Option (Told HostTold (List ℕ))) (store : Option (Told StoreTold StoreFails))
@@ -80,6 +80,24 @@ pub one_read : (name : List ℕ) (reading : Reading) (seen : Seen) (new : Option
 one_read name reading seen new faults by = record {
   tells = record { link = adds_none _; host = adds_none _; store = by.adds; hooks = adds_none _; begins = refl };
   foretold = store_told reading _ (λ told. store_answered (ReadFile name reading) told.files told) seen.store.failing seen.store.told new (told_of seen.link) (told_of seen.host) by.foretold_is;
+}
+
+pub one_write : (name bytes : List ℕ) (done : Bool) (seen : Seen) (new : Option StoreTold) (faults : ℕ) → WrittenBy name bytes done seen.store.failing seen.store.told new → One (WriteAside name bytes) done seen (with_store seen new faults)
+one_write name bytes done seen new faults by = record {
+  tells = record { link = adds_none _; host = adds_none _; store = by.adds; hooks = adds_none _; begins = refl };
+  foretold = store_told done _ (store_written name bytes done) seen.store.failing seen.store.told new (told_of seen.link) (told_of seen.host) by.foretold_is;
+}
+
+pub one_sync : (name : List ℕ) (done : Bool) (seen : Seen) (new : Option StoreTold) (faults : ℕ) → SyncedBy name done seen.store.failing seen.store.told new → One (SyncAside name) done seen (with_store seen new faults)
+one_sync name done seen new faults by = record {
+  tells = record { link = adds_none _; host = adds_none _; store = by.adds; hooks = adds_none _; begins = refl };
+  foretold = store_told done _ (store_synced name done) seen.store.failing seen.store.told new (told_of seen.link) (told_of seen.host) by.foretold_is;
+}
+
+pub one_rename : (name : List ℕ) (done : Bool) (seen : Seen) (new : Option StoreTold) (faults : ℕ) → RenamedBy name done seen.store.failing seen.store.told new → One (RenameAside name) done seen (with_store seen new faults)
+one_rename name done seen new faults by = record {
+  tells = record { link = adds_none _; host = adds_none _; store = by.adds; hooks = adds_none _; begins = refl };
+  foretold = store_told done _ (store_renamed name done) seen.store.failing seen.store.told new (told_of seen.link) (told_of seen.host) by.foretold_is;
 }
 
 pub one_remove : (name : List ℕ) (done : Bool) (seen : Seen) (new : Option StoreTold) (faults : ℕ) → RemovedBy name done seen.store.failing seen.store.told new → One (RemoveFile name) done seen (with_store seen new faults)

@@ -1,21 +1,16 @@
 -- The parts of an opening, as the code asks them.
 use Rattle.std.proofs.Common.{ℕ, ◌≡◌, ◌+◌, ◌<◌, ◌≤◌, add-one, ◌==◌, Bool, true, false, List, [], ◌∷◌, ◌++◌, length, get_or, drop, drop-cons, Option, Some, None, refl, sym, ap, subst, ◌∙◌, arith}
 use Rattle.std.proofs.lemmas.Bool.Decides.{nat_tests}
-use Rattle.std.proofs.lemmas.List.{drop_all, map-append}
+use Rattle.std.proofs.lemmas.List.{drop_all}
 use Rattle.std.specs.Prelude.{map, String}
 use Rattle.std.specs.Global.{Global}
 use Rattle.std.specs.String.{string_bytes}
-use Rattle.world.specs.StoreCalls.{Reading}
-use Rattle.device_calls.specs.Calls.{ListAsides, Read, RemoveFile, Settle}
+use Rattle.device_calls.specs.Calls.{ListAsides, RemoveFile, Settle}
 use Rattle.device_calls.specs.Programs.{Done, Then}
 use Rattle.device_calls.specs.Worlds.{Seen}
 use Rattle.device_calls.specs.Does.{Does}
 use Rattle.device_calls.proofs.Doing.{does_done, does_then}
-use Rattle.turn_model.specs.Opening as model
-use Rattle.turn_model.specs.Opening.{removing, clearing_listed, clearing, reading}
-use Rattle.lease_file.specs.FileReads.{got_reading}
-use Rattle.daemon.specs.declared.openings.FileRead.{FileRead}
-use Rattle.daemon.specs.Lives.{file_of}
+use Rattle.turn_model.specs.Opening.{removing, clearing_listed, clearing}
 
 -- ---- asides
 
@@ -55,28 +50,6 @@ pub cleared : (listed : Option (List (List ℕ))) (names : List (List ℕ)) (x :
     → Does (Then ListAsides Done) listed old mid t u → Does (clearing_listed (Some names)) x mid new u v → Does clearing x old new t v
 cleared listed names x old mid new t u v is did rest =
     does_then ListAsides clearing_listed (Some names) x old mid new t u v (subst (λ (ns : Option (List (List ℕ))). Does (Then ListAsides Done) ns old mid t u) is did) rest
-
--- ---- files
-
--- the rest is read after one more
-pub reading_more : (files next : List FileRead) (read : FileRead) (names rest : List (String Global)) (found : Reading) (result : List model.FileRead) (old mid new : Seen) (t u v : List ℕ)
-    → names ≡ read.name ∷ rest → next ≡ files ++ read ∷ [] → found ≡ got_reading read.got
-    → Does (Then (Read (string_bytes read.name)) Done) found old mid t u
-    → Does (reading (map file_of next) (map string_bytes rest)) result mid new u v → Does (reading (map file_of files) (map string_bytes names)) result old new t v
-reading_more files next read names rest found result old mid new t u v names_are next_is found_is one more =
-    let files_are : map file_of next ≡ map file_of files ++ file_of read ∷ [] = ap (map file_of) next_is ∙ map-append file_of files (read ∷ []) in
-    subst (λ (ns : List (String Global)). Does (reading (map file_of files) (map string_bytes ns)) result old new t v) (sym names_are)
-    (does_then (Read (string_bytes read.name)) (λ found. reading (map file_of files ++ record { name = string_bytes read.name; reading = found } ∷ []) (map string_bytes rest)) (got_reading read.got) result old mid new t u v
-    (subst (λ (r : Reading). Does (Then (Read (string_bytes read.name)) Done) r old mid t u) found_is one)
-    (subst (λ (fs : List model.FileRead). Does (reading fs (map string_bytes rest)) result mid new u v) files_are more))
-
--- none is left
-pub reading_end : (files : List FileRead) (names : List (String Global)) (seen : Seen) (text : List ℕ) → names ≡ [] → Does (reading (map file_of files) (map string_bytes names)) (map file_of files) seen seen text text
-reading_end files names seen text none = subst (λ (ns : List (String Global)). Does (reading (map file_of files) (map string_bytes ns)) (map file_of files) seen seen text text) (sym none) (does_done (map file_of files) seen text)
-
-pub none_left : (names : List (String Global)) (count : ℕ) → count ≡ length names → count ≡ 0 → names ≡ []
-none_left [] count counted none = refl
-none_left (name ∷ names) count counted none = absurd (omega (arith, counted, none))
 
 pub none_there : (names : List (String Global)) (empty : Bool) → empty ≡ (length names == 0) → empty ≡ true → names ≡ []
 none_there [] empty is so = refl

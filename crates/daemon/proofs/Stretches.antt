@@ -1,6 +1,6 @@
 -- Stretches of turns, one after another.
 use Rattle.std.proofs.Common.{ℕ, ◌≡◌, ◌≤◌, true, List, [], ◌∷◌, ◌++◌, length, Option, Some, None, refl, sym, ap, subst, ◌∙◌, append_assoc, append-nil, arith}
-use Rattle.std.specs.Prelude.{flat_map, IfSome}
+use Rattle.std.specs.Prelude.{flat_map, IfSome, option_map}
 use Rattle.std.proofs.lemmas.List.{length-append}
 use Rattle.std.proofs.lemmas.List.Concat.{flat_map-append}
 use Rattle.world.specs.LinkCalls.{Given}
@@ -12,9 +12,9 @@ use Rattle.device_calls.specs.Telling.{Tells}
 use Rattle.device_calls.proofs.Doing.{tells_none, tells_then}
 use Rattle.turn_model.specs.Turns.{Life, is_over}
 use Rattle.turn_model.specs.Lives.{Met, turn_lines, AreTurns, life_after, turn_calls, turns_calls}
-use Rattle.turn_model.specs.Foretold.{told_turns, foretold_turns}
+use Rattle.turn_model.specs.Foretold.{told_turns, told_after, foretold_turns, left_in}
 use Rattle.daemon.specs.Streams.{WritesLines}
-use Rattle.daemon.specs.Serving.{AreFirst, AreWhole, Goes, Ends, AreManyTurns}
+use Rattle.daemon.specs.Serving.{told_last, AreFirst, AreWhole, Goes, Ends, AreManyTurns}
 
 pub turns-append : (managed : List Managed) (from : Life) (a b : List Met) → AreTurns managed from a → AreTurns managed (life_after from a) b → AreTurns managed from (a ++ b)
 turns-append managed from [] b p q = q
@@ -51,6 +51,7 @@ first_then managed from mid to (Some world) at_mid new a b p q =
       then_told = here.then_told;
       tells = here.tells;
       turns = p.turns ∙ ap (λ (ms : List Met). a ++ ms) here.turns ∙ sym (append_assoc a b (foretold_turns managed to here.then_told));
+      ends = p.ends ∙ here.ends;
       counted = omega (arith, p.counted, here.counted, length-append a b);
     }
 
@@ -64,9 +65,17 @@ pub whole_then : (managed : List Managed) (from mid : Life) (old at_mid : Seen) 
     → IfSome (world_of old) (λ world. AreFirst managed from world a mid at_mid) → AreWhole managed mid at_mid b → AreWhole managed from old (a ++ b)
 whole_then managed from mid old at_mid a b p q = whole_from managed from mid (world_of old) at_mid a b p q
 
+-- what is left after more turns
+left_from : (managed : List Managed) (from mid : Life) (old : Option World) (at_mid : Seen) (new : Option World) (a : List Met)
+    → IfSome old (λ world. AreFirst managed from world a mid at_mid) → IfSome (world_of at_mid) (λ world. option_map left_in new ≡ Some (left_in (told_last managed mid world)))
+    → IfSome old (λ world. option_map left_in new ≡ Some (left_in (told_last managed from world)))
+left_from managed from mid None at_mid new a p q = tt
+left_from managed from mid (Some world) at_mid new a p q =
+    subst (λ (w : Option World). IfSome w (λ world. option_map left_in new ≡ Some (left_in (told_last managed mid world)))) p.tells q ∙ ap (λ (w : World). Some (left_in w)) (sym p.ends)
+
 first_none : (managed : List Managed) (life : Life) (seen : Seen) (told : Option World) → world_of seen ≡ told → IfSome told (λ world. AreFirst managed life world [] life seen)
 first_none managed life seen None same = tt
-first_none managed life seen (Some world) same = record { then_told = world; tells = same; turns = refl; counted = omega arith }
+first_none managed life seen (Some world) same = record { then_told = world; tells = same; turns = refl; ends = refl; counted = omega arith }
 
 -- ---- all of it
 
@@ -103,6 +112,7 @@ ends_then managed from mid to old at_mid new out out_mid out_to a p q = record {
       (sym (append_assoc (turns_calls from a) (turns_calls (life_after from a) q.mets) q.last) ∙ ap (λ (cs : List Call). cs ++ q.last) (sym (turns_calls-append from a q.mets)))
       (tells_then old at_mid new (turns_calls from a) (turns_calls (life_after from a) q.mets ++ q.last) p.tells (subst (λ (life : Life). Tells at_mid new (turns_calls life q.mets ++ q.last)) p.after q.tells));
   whole = whole_then managed from mid old at_mid a q.mets p.foretold q.whole;
+  left = left_from managed from mid (world_of old) at_mid (world_of new) a p.foretold q.left;
 }
 
 -- nothing is foretold of a life that is over
@@ -115,6 +125,17 @@ over_whole : (managed : List Managed) (from to : Life) (old : Option World) (new
 over_whole managed from to None new mets over p = tt
 over_whole managed from to (Some world) new mets over p = p.turns ∙ ap (λ (ms : List Met). mets ++ ms) (over_is_empty managed to p.then_told p.then_told.link.told.coming over) ∙ append-nil mets
 
+-- nor does anything change then
+over_stays : (managed : List Managed) (life : Life) (world : World) (coming : List Given) → is_over life ≡ true → told_after managed life world coming ≡ world
+over_stays managed life world [] over = refl
+over_stays managed life world (given ∷ coming) over = rw over refl
+
+over_left : (managed : List Managed) (from to : Life) (old : Option World) (new : Seen) (mets : List Met) → is_over to ≡ true
+    → IfSome old (λ world. AreFirst managed from world mets to new) → IfSome old (λ world. option_map left_in (world_of new) ≡ Some (left_in (told_last managed from world)))
+over_left managed from to None new mets over p = tt
+over_left managed from to (Some world) new mets over p =
+    ap (option_map left_in) p.tells ∙ ap (λ (w : World). Some (left_in w)) (sym (p.ends ∙ over_stays managed to p.then_told p.then_told.link.told.coming over))
+
 pub goes_ends : (managed : List Managed) (from to : Life) (old new : Seen) (out out_to : Option (List ℕ)) (mets : List Met)
     → is_over to ≡ true → Goes managed from old out to new out_to mets → Ends managed from old out to new out_to
 goes_ends managed from to old new out out_to mets over goes = record {
@@ -126,6 +147,7 @@ goes_ends managed from to old new out out_to mets over goes = record {
   last_is = over;
   tells = subst (λ (cs : List Call). Tells old new cs) (sym (append-nil (turns_calls from mets))) goes.tells;
   whole = over_whole managed from to (world_of old) new mets over goes.foretold;
+  left = over_left managed from to (world_of old) new mets over goes.foretold;
 }
 
 many : (managed : List Managed) (from to : Life) (old : Option World) (new : Seen) (mets : List Met) (count : ℕ) → length mets ≡ count

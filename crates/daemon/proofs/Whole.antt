@@ -1,6 +1,6 @@
 -- A whole life.
 use Rattle.std.proofs.Common.{ℕ, ◌≡◌, ◌≤◌, List, [], ◌++◌, length, inl, inr, Option, Some, None, refl, sym, ap, subst, ◌∙◌, arith}
-use Rattle.std.specs.Prelude.{IfSome, flat_map}
+use Rattle.std.specs.Prelude.{IfSome, flat_map, option_map}
 use Rattle.net_types.specs.declared.interface.IfSpec.{IfSpec}
 use Rattle.world.specs.declared.wakes.Begin.{Begin}
 use Rattle.world.specs.LinkCalls.{Given}
@@ -15,13 +15,13 @@ use Rattle.device_calls.proofs.Running.{run_coming}
 use Rattle.turn_model.specs.Turns.{Life}
 use Rattle.turn_model.specs.Opening.{opening_asks}
 use Rattle.turn_model.specs.Lives.{OpeningMet, Met, IsLast, life_after, turns_calls, opening_lines, turn_lines, closing_lines}
-use Rattle.turn_model.specs.Foretold.{ForetoldLife, foretold_turns, foretold_life}
+use Rattle.turn_model.specs.Foretold.{foretold_turns, foretold_life, left_in}
 use Rattle.daemon.specs.declared.serving.ServeEnd.{ServeEnd}
 use Rattle.daemon.specs.declared.serving.ServeEnd.TheVariants as ends
 use Rattle.daemon.specs.Waits.{BeginsThere}
 use Rattle.daemon.specs.Streams.{WritesBytes, WritesSome, WritesLines, WritesFront}
-use Rattle.daemon.specs.Serving.{opening_with, MakesOpening, Ends, AreManyTurns, HasServeCause}
-use Rattle.daemon.specs.Served.{Served}
+use Rattle.daemon.specs.Serving.{opening_with, told_last, MakesOpening, Ends, AreManyTurns, HasServeCause}
+use Rattle.daemon.specs.Served.{IsLifeOf, Served}
 use Rattle.daemon.specs.Cuts.{cut_lines, turns_left, TellsUnlessMemory, BreaksOff, CutOpening, CutLife, BeginFails, Leaves}
 use Rattle.daemon.proofs.Waitings.{began, begun_world}
 use Rattle.daemon.proofs.Stretches.{lines_then}
@@ -29,21 +29,33 @@ use Rattle.daemon.proofs.CutOffs.{front_some, front_after, told_left, left_whole
 
 -- ---- what was foretold
 
-abbrev lived : OpeningMet → List Met → ForetoldLife
-lived opening mets = record { opening = opening; mets = mets }
-
 opens_foretold : (managed : List Managed) (specs : List IfSpec) (begin : Begin) (calls : List Call) (life : Life) (mets : List Met) (old mid opened : Option World)
     → IfSome old (λ world. (begin ≡ world.link.told.begin) × (mid ≡ Some world))
     → IfSome mid (λ world. IsRun (run (opening_asks managed specs begin) world) calls life opened)
     → IfSome opened (λ world. foretold_turns managed life world ≡ mets)
-    → IfSome old (λ world. foretold_life managed specs world ≡ lived (opening_with begin calls life) mets)
+    → IfSome old (λ world. IsLifeOf (opening_with begin calls life) mets (foretold_life managed specs world))
 opens_foretold managed specs begin calls life mets None mid opened p q r = tt
 opens_foretold managed specs begin calls life mets (Some world) mid opened p q r =
     let ran : IsRun (run (opening_asks managed specs begin) world) calls life opened = subst (λ (m : Option World). IfSome m (λ world. IsRun (run (opening_asks managed specs begin) world) calls life opened)) p.1 q in
     let rest : foretold_turns managed life (run (opening_asks managed specs begin) world).world ≡ mets = subst (λ (m : Option World). IfSome m (λ world. foretold_turns managed life world ≡ mets)) ran.world_is r in
-    (λ i. lived (opening_with (sym p.0 i) (run (opening_asks managed specs (sym p.0 i)) world).calls (run (opening_asks managed specs (sym p.0 i)) world).result) (foretold_turns managed (run (opening_asks managed specs (sym p.0 i)) world).result (run (opening_asks managed specs (sym p.0 i)) world).world))
-    ∙ (λ i. lived (opening_with begin (sym ran.calls_are i) (sym ran.result_is i)) (foretold_turns managed (sym ran.result_is i) (run (opening_asks managed specs begin) world).world))
-    ∙ ap (lived (opening_with begin calls life)) rest
+    let started : Begin → Ran Life = λ b. run (opening_asks managed specs b) world in
+    record {
+      opening_is = (λ i. opening_with (sym p.0 i) (started (sym p.0 i)).calls (started (sym p.0 i)).result) ∙ (λ i. opening_with begin (sym ran.calls_are i) (sym ran.result_is i));
+      mets_are = (λ i. foretold_turns managed (started (sym p.0 i)).result (started (sym p.0 i)).world) ∙ (λ i. foretold_turns managed (sym ran.result_is i) (started begin).world) ∙ rest;
+    }
+
+-- what is left is what was foretold at the beginning
+leaves_foretold : (managed : List Managed) (specs : List IfSpec) (begin : Begin) (calls : List Call) (life : Life) (old mid opened new : Option World)
+    → IfSome old (λ world. (begin ≡ world.link.told.begin) × (mid ≡ Some world))
+    → IfSome mid (λ world. IsRun (run (opening_asks managed specs begin) world) calls life opened)
+    → IfSome opened (λ world. option_map left_in new ≡ Some (left_in (told_last managed life world)))
+    → IfSome old (λ world. option_map left_in new ≡ Some (foretold_life managed specs world).left)
+leaves_foretold managed specs begin calls life None mid opened new p q r = tt
+leaves_foretold managed specs begin calls life (Some world) mid opened new p q r =
+    let ran : IsRun (run (opening_asks managed specs begin) world) calls life opened = subst (λ (m : Option World). IfSome m (λ world. IsRun (run (opening_asks managed specs begin) world) calls life opened)) p.1 q in
+    let rest : option_map left_in new ≡ Some (left_in (told_last managed life (run (opening_asks managed specs begin) world).world)) = subst (λ (m : Option World). IfSome m (λ world. option_map left_in new ≡ Some (left_in (told_last managed life world)))) ran.world_is r in
+    let started : Begin → Ran Life = λ b. run (opening_asks managed specs b) world in
+    rest ∙ (λ i. Some (left_in (told_last managed (ran.result_is i) (started begin).world))) ∙ (λ i. Some (left_in (told_last managed (started (p.0 i)).result (started (p.0 i)).world)))
 
 many_from : (managed : List Managed) (specs : List IfSpec) (begin : Begin) (calls : List Call) (life : Life) (turns : ℕ) (old mid opened : Option World)
     → IfSome old (λ world. (begin ≡ world.link.told.begin) × (mid ≡ Some world))
@@ -89,6 +101,7 @@ module _ (managed : List Managed) (specs : List IfSpec) (begin : Begin) (life : 
         (lines_then out_one out_two out_three (flat_map turn_lines ends.mets) (closing_lines (life_after life ends.mets)) ends.written
         (subst (λ (l : Life). WritesLines out_two out_three (closing_lines l)) ends.after closes));
     foretold = opens_foretold managed specs begin made.calls life ends.mets (world_of old) (world_of mid) (world_of opened) (begun_world begin old mid begins) made.did.foretold ends.whole;
+    left = leaves_foretold managed specs begin made.calls life (world_of old) (world_of mid) (world_of opened) (world_of new) (begun_world begin old mid begins) made.did.foretold ends.left;
   }
 
   -- the lines of the opening were not all written

@@ -8,13 +8,13 @@ use Rattle.world.specs.declared.rows.HostRow.{HostRow}
 use Rattle.world.specs.RowOrder.{in_row_order}
 use Rattle.world.specs.LinkCalls.{LinkTold, Offered, offered}
 use Rattle.world.specs.HostCalls.{HostTold, Listed, host_answered}
-use Rattle.world.specs.StoreCalls.{StoreTold, Reading, Unread, ListedAsides, ReadFile, RemovedFile, SettledFiles, reading_of, store_answered}
+use Rattle.world.specs.StoreCalls.{StoreTold, Reading, Unread, ListedAsides, ReadFile, WroteAside, SyncedAside, RenamedAside, RemovedFile, SettledFiles, reading_of, store_answered}
 use Rattle.world.specs.StoreFails.{StoreFails}
 use Rattle.world.specs.FileLists.{asides, file_at}
 use Rattle.host_model.specs.declared.changes.HostChange.{HostChange}
 use Rattle.host_model.specs.declared.changes.HostChange.TheVariants.{Remove, Add}
 use Rattle.host_model.specs.HostTurn.{change_call}
-use Rattle.device_calls.specs.Worlds.{Told, told_from, fails_send, fails_host, fails_store, host_with, store_without}
+use Rattle.device_calls.specs.Worlds.{Told, told_from, fails_send, fails_host, fails_store, fails_renaming, host_with, store_written, store_synced, store_renamed, store_without}
 use Rattle.device_calls.specs.Telling.{Adds}
 
 abbrev pub keys_of : Option (BTreeSet HostRow) → Option (List HostRow)
@@ -52,6 +52,15 @@ AsidesBy names = By (λ told. told.calls) (ListedAsides names) names (λ store. 
 
 abbrev pub ReadBy : List ℕ → Reading → Option StoreFails → Option StoreTold → Option StoreTold → Type 0
 ReadBy name reading = By (λ told. told.calls) (ReadFile name reading) reading (λ store. if fails_store store then Unread else reading_of (file_at name store.told.files)) (λ told. store_answered (ReadFile name reading) told.files told)
+
+abbrev pub WrittenBy : (name bytes : List ℕ) → Bool → Option StoreFails → Option StoreTold → Option StoreTold → Type 0
+WrittenBy name bytes done = By (λ told. told.calls) (WroteAside name bytes done) done (λ store. not (fails_store store)) (store_written name bytes done)
+
+abbrev pub SyncedBy : List ℕ → Bool → Option StoreFails → Option StoreTold → Option StoreTold → Type 0
+SyncedBy name done = By (λ told. told.calls) (SyncedAside name done) done (λ store. not (fails_store store)) (store_synced name done)
+
+abbrev pub RenamedBy : List ℕ → Bool → Option StoreFails → Option StoreTold → Option StoreTold → Type 0
+RenamedBy name done = By (λ told. told.calls) (RenamedAside name done) done (λ store. not (fails_renaming name store)) (store_renamed name done)
 
 abbrev pub RemovedBy : List ℕ → Bool → Option StoreFails → Option StoreTold → Option StoreTold → Type 0
 RemovedBy name done = By (λ told. told.calls) (RemovedFile name done) done (λ store. not (fails_store store)) (store_without name done)

@@ -1,5 +1,8 @@
 pub mod Answered
 pub mod Waits
+pub mod Files
+pub mod Keeping
+pub mod Loading
 pub mod Lives
 pub mod Streams
 pub mod Serving

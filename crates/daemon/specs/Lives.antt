@@ -4,17 +4,14 @@ use Rattle.std.specs.BTreeSet.{BTreeSet}
 use Rattle.std.specs.Prelude.{List, option_map}
 use Rattle.world.specs.declared.rows.HostRow.{HostRow}
 use Rattle.turn_model.specs.Turns as model
-use Rattle.turn_model.specs.Opening as model_opening
-use Rattle.std.specs.String.{string_bytes}
-use Rattle.lease_file.specs.FileReads.{got_reading}
 use Rattle.daemon.specs.declared.lives.Life.{Life}
-use Rattle.daemon.specs.declared.openings.FileRead.{FileRead}
+use Rattle.daemon.specs.Keeping.{AreKept}
 
 abbrev pub keys_of : Option (BTreeSet HostRow) → Option (List HostRow)
 keys_of rows = option_map (λ set. set.keys) rows
 
 abbrev pub life_of : Life → model.Life
-life_of life = record { client = life.core; known = keys_of life.known; now = life.moment; stop = life.stop; unsent = life.unsent }
+life_of life = record { client = life.core; known = keys_of life.known; files = life.files.items; now = life.moment; stop = life.stop; unsent = life.unsent }
 
 abbrev pub IsBelowEnd : Option ℕ → Type 0
 IsBelowEnd None = Unit {0}
@@ -25,10 +22,11 @@ pub record IsTimely (life : Life) : Type 0 where
   pub moment : life.moment < 10 ^ 15
   pub stop : IsBelowEnd life.stop
 
+-- and its files hold what they are to hold, where that is known
+pub record IsOrderly (life : Life) : Type 0 where
+  pub timely : IsTimely life
+  pub kept : AreKept life.core.ifaces life.files.items
+
 abbrev pub retry_unless : Bool → ℕ → Option ℕ
 retry_unless true now = None
 retry_unless false now = Some (now + 1000)
-
--- a file as the code has it
-abbrev pub file_of : FileRead → model_opening.FileRead
-file_of file = record { name = string_bytes file.name; reading = got_reading file.got }

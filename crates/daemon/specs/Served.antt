@@ -1,5 +1,5 @@
 -- A whole life, from its opening to its end.
-use Rattle.std.specs.Prelude.{ℕ, ◌≡◌, List, ◌++◌, Option, Some, IfSome, Ok}
+use Rattle.std.specs.Prelude.{ℕ, ◌≡◌, List, ◌++◌, Option, Some, IfSome, option_map, Ok}
 use Rattle.net_types.specs.declared.interface.IfSpec.{IfSpec}
 use Rattle.world.specs.declared.wakes.Begin.{Begin}
 use Rattle.settings.specs.declared.interfaces.Managed.{Managed}
@@ -7,7 +7,7 @@ use Rattle.device_calls.specs.Calls.{Call}
 use Rattle.device_calls.specs.Worlds.{Seen, world_of}
 use Rattle.device_calls.specs.Telling.{Tells}
 use Rattle.turn_model.specs.Lives.{OpeningMet, IsOpening, Met, AreTurns, IsLast, life_after, turns_calls, life_lines}
-use Rattle.turn_model.specs.Foretold.{foretold_life}
+use Rattle.turn_model.specs.Foretold.{ForetoldLife, foretold_life, left_in}
 use Rattle.daemon.specs.Waits.{BeginsThere}
 use Rattle.daemon.specs.Streams.{WritesLines}
 
@@ -17,10 +17,18 @@ pub record Begun (old : Seen) : Type 0 where
   pub seen : Seen
   pub begins : BeginsThere old seen (Ok begin)
 
+-- a life's opening and turns are these
+pub record IsLifeOf (opening : OpeningMet) (mets : List Met) (life : ForetoldLife) : Type 0 where
+  pub opening_is : life.opening ≡ opening
+  pub mets_are : life.mets ≡ mets
+
 -- where all devices tell, the opening and the turns are those that they foretold
 abbrev pub IsForetold : List Managed → List IfSpec → Seen → OpeningMet → List Met → Type 0
-IsForetold managed specs old opening mets =
-    IfSome (world_of old) (λ world. foretold_life managed specs world ≡ record { opening = opening; mets = mets })
+IsForetold managed specs old opening mets = IfSome (world_of old) (λ world. IsLifeOf opening mets (foretold_life managed specs world))
+
+-- and what they tell then of the frames offered, the host and the store is what they foretold
+abbrev pub LeavesForetold : List Managed → List IfSpec → Seen → Seen → Type 0
+LeavesForetold managed specs old new = IfSome (world_of old) (λ world. option_map left_in (world_of new) ≡ Some (foretold_life managed specs world).left)
 
 -- A life was lived to its end: it was begun once, its opening and turns asked what they are to ask, the devices that tell their
 -- calls tell these and no other, and its lines were written.
@@ -36,3 +44,4 @@ pub record Served (managed : List Managed) (specs : List IfSpec) (old new : Seen
   pub tells : Tells begun.seen new (opening.calls ++ (turns_calls opening.life mets ++ last))
   pub written : WritesLines out_from out_to (life_lines opening mets)
   pub foretold : IsForetold managed specs old opening mets
+  pub left : LeavesForetold managed specs old new

@@ -1,5 +1,5 @@
 -- A stretch of turns, as the loop meets them.
-use Rattle.std.specs.Prelude.{ℕ, ◌≡◌, ◌<◌, ◌≤◌, ◌+◌, List, [], ◌∷◌, ◌++◌, length, flat_map, Option, Some, IfSome}
+use Rattle.std.specs.Prelude.{ℕ, ◌≡◌, ◌<◌, ◌≤◌, ◌+◌, List, [], ◌∷◌, ◌++◌, length, flat_map, Option, Some, IfSome, option_map}
 use Rattle.net_types.specs.declared.interface.IfSpec.{IfSpec}
 use Rattle.world.specs.declared.wakes.Begin.{Begin}
 use Rattle.world.specs.declared.wakes.Wake.{Wake}
@@ -12,7 +12,7 @@ use Rattle.device_calls.specs.Printing.{Prints}
 use Rattle.turn_model.specs.Turns.{Life, turn_asks}
 use Rattle.turn_model.specs.Opening.{opening_asks}
 use Rattle.turn_model.specs.Lives.{OpeningMet, Met, met_with, AreTurns, IsLast, life_after, turns_calls, opening_lines, turn_lines}
-use Rattle.turn_model.specs.Foretold.{foretold_turns}
+use Rattle.turn_model.specs.Foretold.{foretold_turns, told_after, left_in}
 use Rattle.daemon.specs.declared.serving.ServeEnd.{ServeEnd}
 use Rattle.daemon.specs.declared.serving.ServeEnd.TheVariants as ends
 use Rattle.daemon.specs.Streams.{WritesLines}
@@ -32,16 +32,25 @@ pub record MakesTurn (managed : List Managed) (from : Life) (wake : Wake) (bytes
   pub did : Did (turn_asks managed from wake bytes) calls to old new
   pub lines : Prints text_old text_new (turn_lines (met_with wake bytes calls to))
 
+-- what the devices tell after all turns that they foretell
+abbrev pub told_last : List Managed → Life → World → World
+told_last managed life world = told_after managed life world world.link.told.coming
+
 -- the turns met are the first of those that were foretold, and the rest is still to come
 pub record AreFirst (managed : List Managed) (from : Life) (before : World) (mets : List Met) (to : Life) (new : Seen) : Type 0 where
   pub then_told : World
   pub tells : world_of new ≡ Some then_told
   pub turns : foretold_turns managed from before ≡ mets ++ foretold_turns managed to then_told
+  pub ends : told_last managed from before ≡ told_last managed to then_told
   pub counted : length before.link.told.coming ≡ length mets + length then_told.link.told.coming
 
 -- the turns met are all that were foretold
 abbrev pub AreWhole : List Managed → Life → Seen → List Met → Type 0
 AreWhole managed from old mets = IfSome (world_of old) (λ world. foretold_turns managed from world ≡ mets)
+
+-- what the devices leave is what they foretold
+abbrev pub LeavesTold : List Managed → Life → Seen → Seen → Type 0
+LeavesTold managed from old new = IfSome (world_of old) (λ world. option_map left_in (world_of new) ≡ Some (left_in (told_last managed from world)))
 
 -- a life goes on after these turns
 pub record Goes (managed : List Managed) (from : Life) (old : Seen) (out_from : Option (List ℕ)) (to : Life) (new : Seen) (out_to : Option (List ℕ)) (mets : List Met) : Type 0 where
@@ -61,6 +70,7 @@ pub record Ends (managed : List Managed) (from : Life) (old : Seen) (out_from : 
   pub last_is : IsLast to last
   pub tells : Tells old new (turns_calls from mets ++ last)
   pub whole : AreWhole managed from old mets
+  pub left : LeavesTold managed from old new
 
 -- as many turns were handled as were allowed, since no fewer come
 abbrev pub AreManyTurns : Seen → ℕ → Type 0

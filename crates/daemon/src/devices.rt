@@ -3,7 +3,7 @@ ghost use Rattle.std.specs.List.{AllByRecursion};
 ghost use Rattle.std.specs.String.{string_bytes};
 ghost use Rattle.world.specs.FileNames.{IsFileName};
 ghost use Rattle.lease_file.specs.FileReads.{got_reading};
-ghost use Rattle.daemon.specs.Answered.{rows_listed, names_of, FitsChange, OfferedBy, ListedBy, ChangedBy, AsidesBy, ReadBy, RemovedBy, SettledBy};
+ghost use Rattle.daemon.specs.Answered.{rows_listed, names_of, FitsChange, OfferedBy, ListedBy, ChangedBy, AsidesBy, ReadBy, WrittenBy, SyncedBy, RenamedBy, RemovedBy, SettledBy};
 
 use crate::outside::Outside;
 use host_model::HostChange;
@@ -99,6 +99,48 @@ fn read_from<S: Store>(alloc: Global, store: &mut S, name: &str) -> Result<Got, 
     }
 }
 
+#[tactic(auto, using(crate::proofs::Answers::written_by, crate::proofs::Answers::not_written_by, crate::proofs::Answers::unwritten))]
+fn write_to<S: Store>(store: &mut S, name: &str, bytes: &[u8]) -> Result<bool, NoMemory>
+    requires { IsFileName name.now }
+    ensures written { IfOk result (λ done. WrittenBy name.now bytes.now done (S.failing store.old) (S.told store.old) (S.told store.new)) }
+    ensures failing { S.failing store.new ≡ S.failing store.old }
+    ensures memory { IfErr result (λ _. (S.told store.new ≡ S.told store.old) × (S.faults store.new ≡ S.faults store.old)) }
+{
+    match store.write_aside(name, bytes) {
+        Ok(()) => Ok(true),
+        Err(DeviceAnswer::Failed) => Ok(false),
+        Err(DeviceAnswer::NoMemory) => Err(NoMemory),
+    }
+}
+
+#[tactic(auto, using(crate::proofs::Answers::synced_by, crate::proofs::Answers::not_synced_by, crate::proofs::Answers::unwritten))]
+fn sync_in<S: Store>(store: &mut S, name: &str) -> Result<bool, NoMemory>
+    requires { IsFileName name.now }
+    ensures synced { IfOk result (λ done. SyncedBy name.now done (S.failing store.old) (S.told store.old) (S.told store.new)) }
+    ensures failing { S.failing store.new ≡ S.failing store.old }
+    ensures memory { IfErr result (λ _. (S.told store.new ≡ S.told store.old) × (S.faults store.new ≡ S.faults store.old)) }
+{
+    match store.sync_aside(name) {
+        Ok(()) => Ok(true),
+        Err(DeviceAnswer::Failed) => Ok(false),
+        Err(DeviceAnswer::NoMemory) => Err(NoMemory),
+    }
+}
+
+#[tactic(auto, using(crate::proofs::Answers::renamed_by, crate::proofs::Answers::not_renamed_by, crate::proofs::Answers::unwritten))]
+fn rename_in<S: Store>(store: &mut S, name: &str) -> Result<bool, NoMemory>
+    requires { IsFileName name.now }
+    ensures renamed { IfOk result (λ done. RenamedBy name.now done (S.failing store.old) (S.told store.old) (S.told store.new)) }
+    ensures failing { S.failing store.new ≡ S.failing store.old }
+    ensures memory { IfErr result (λ _. (S.told store.new ≡ S.told store.old) × (S.faults store.new ≡ S.faults store.old)) }
+{
+    match store.rename_aside(name) {
+        Ok(()) => Ok(true),
+        Err(DeviceAnswer::Failed) => Ok(false),
+        Err(DeviceAnswer::NoMemory) => Err(NoMemory),
+    }
+}
+
 #[tactic(auto, using(crate::proofs::Answers::removed_by, crate::proofs::Answers::unremoved_by, crate::proofs::Answers::unwritten))]
 fn remove_from<S: Store>(store: &mut S, name: &str) -> Result<bool, NoMemory>
     requires { IsFileName name.now }
@@ -126,7 +168,7 @@ fn settle_in<S: Store>(store: &mut S) -> Result<bool, NoMemory>
     }
 }
 
-#[tactic(auto, using(crate::proofs::Ones::one_offer, crate::proofs::Ones::one_list, crate::proofs::Ones::one_change, crate::proofs::Ones::one_asides, crate::proofs::Ones::one_read, crate::proofs::Ones::one_remove, crate::proofs::Ones::one_settle, crate::proofs::Ones::link_stays, crate::proofs::Ones::host_stays, crate::proofs::Ones::store_stays))]
+#[tactic(auto, using(crate::proofs::Ones::one_offer, crate::proofs::Ones::one_list, crate::proofs::Ones::one_change, crate::proofs::Ones::one_asides, crate::proofs::Ones::one_read, crate::proofs::Ones::one_write, crate::proofs::Ones::one_sync, crate::proofs::Ones::one_rename, crate::proofs::Ones::one_remove, crate::proofs::Ones::one_settle, crate::proofs::Ones::link_stays, crate::proofs::Ones::host_stays, crate::proofs::Ones::store_stays))]
 impl<L: Link, S: Store, H: Host, K: Hooks> Outside for Devices<L, S, H, K> {
     ghost seen = { λ d. record {
       link = record { told = L.told d.link; failing = L.failing_sends d.link; faults = L.send_faults d.link };
@@ -162,6 +204,18 @@ impl<L: Link, S: Store, H: Host, K: Hooks> Outside for Devices<L, S, H, K> {
 
     fn read(&mut self, alloc: Global, name: &str) -> Result<Got, NoMemory> {
         read_from(alloc, &mut self.store, name)
+    }
+
+    fn write_aside(&mut self, name: &str, bytes: &[u8]) -> Result<bool, NoMemory> {
+        write_to(&mut self.store, name, bytes)
+    }
+
+    fn sync_aside(&mut self, name: &str) -> Result<bool, NoMemory> {
+        sync_in(&mut self.store, name)
+    }
+
+    fn rename_aside(&mut self, name: &str) -> Result<bool, NoMemory> {
+        rename_in(&mut self.store, name)
     }
 
     fn remove(&mut self, name: &str) -> Result<bool, NoMemory> {

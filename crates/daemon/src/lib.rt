@@ -6,12 +6,14 @@ mod closing;
 mod devices;
 mod files;
 mod hosts;
+mod keeping;
 mod lives;
 mod openings;
 mod outside;
 mod saying;
 mod sends;
 mod serving;
+mod stores;
 mod turns;
 mod waking;
 

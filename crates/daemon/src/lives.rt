@@ -4,6 +4,7 @@ ghost use Rattle.machine.specs.Moment.{moment_of};
 ghost use Rattle.turn_model.specs.Turns.{stop_after, retry_at, end_at, is_past, until, is_over};
 ghost use Rattle.daemon.specs.Lives.{life_of, IsBelowEnd, IsTimely, retry_unless};
 
+use crate::keeping::{LeaseFile, any_unknown};
 use client_core::{Core, core_due, earlier_of};
 use std::collections::BTreeSet;
 use world::{Event, HostRow};
@@ -11,7 +12,7 @@ use world::{Event, HostRow};
 /// Moments are below this, in milliseconds since 1970.
 const END_OF_TIME: u64 = 1_000_000_000_000_000;
 
-/// After this time an unknown table is looked at again.
+/// After this time an unknown table is looked at again, and an unknown file is tried again.
 const RETRY: u64 = 1000;
 
 /// A life goes on for this time after the stop.
@@ -23,6 +24,8 @@ pub struct Life {
     pub core: Core,
     /// The host's rows on managed interfaces, where they are known.
     pub known: Option<BTreeSet<HostRow>>,
+    /// The files of leases.
+    pub files: Vec<LeaseFile>,
     /// The moment of the last turn, in milliseconds since 1970.
     pub moment: u64,
     /// The moment of the stop, once it came.
@@ -88,11 +91,10 @@ impl Life {
         requires { IsTimely self.now }
         ensures { result ≡ until (life_of self.now) }
     {
-        let loop_due = earlier_of(
-            retry(self.known.is_some(), self.moment),
-            last_moment(self.stop),
-        );
-        earlier_of(core_due(&self.core), loop_due)
+        let files = retry(!any_unknown(&self.files), self.moment);
+        let files_or_end = earlier_of(files, last_moment(self.stop));
+        let table = retry(self.known.is_some(), self.moment);
+        earlier_of(core_due(&self.core), earlier_of(table, files_or_end))
     }
 
     /// Whether the life is over.

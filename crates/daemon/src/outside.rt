@@ -5,7 +5,7 @@ ghost use Rattle.world.specs.Causes.{HasCause, HasDeviceCause, Foretold};
 ghost use Rattle.world.specs.FileNames.{IsFileName};
 ghost use Rattle.world.specs.LinkCalls.{frame_len, wait_number};
 ghost use Rattle.lease_file.specs.FileReads.{got_reading};
-ghost use Rattle.device_calls.specs.Calls.{Offer, ListRows, Change, ListAsides, Read, RemoveFile, Settle};
+ghost use Rattle.device_calls.specs.Calls.{Offer, ListRows, Change, ListAsides, Read, WriteAside, SyncAside, RenameAside, RemoveFile, Settle};
 ghost use Rattle.device_calls.specs.Worlds.{Seen};
 ghost use Rattle.device_calls.specs.Does.{One};
 ghost use Rattle.daemon.specs.Answered.{rows_listed, names_of, FitsChange};
@@ -69,6 +69,27 @@ pub trait Outside {
         ensures waiting { (seen self.new).waiting ≡ (seen self.old).waiting }
         ensures memory { IfErr result (λ _. seen self.new ≡ seen self.old) };
 
+    /// Writes the aside of a file, with all these bytes, and says whether that was done.
+    fn write_aside(&mut self, name: &str, bytes: &[u8]) -> Result<bool, NoMemory>
+        requires { IsFileName name.now }
+        ensures one { IfOk result (λ done. One (WriteAside name.now bytes.now) done (seen self.old) (seen self.new)) }
+        ensures waiting { (seen self.new).waiting ≡ (seen self.old).waiting }
+        ensures memory { IfErr result (λ _. seen self.new ≡ seen self.old) };
+
+    /// Makes what was written to the aside of a file outlive a crash, and says whether that was done.
+    fn sync_aside(&mut self, name: &str) -> Result<bool, NoMemory>
+        requires { IsFileName name.now }
+        ensures one { IfOk result (λ done. One (SyncAside name.now) done (seen self.old) (seen self.new)) }
+        ensures waiting { (seen self.new).waiting ≡ (seen self.old).waiting }
+        ensures memory { IfErr result (λ _. seen self.new ≡ seen self.old) };
+
+    /// Puts the aside of a file in its place, and says whether that was done.
+    fn rename_aside(&mut self, name: &str) -> Result<bool, NoMemory>
+        requires { IsFileName name.now }
+        ensures one { IfOk result (λ done. One (RenameAside name.now) done (seen self.old) (seen self.new)) }
+        ensures waiting { (seen self.new).waiting ≡ (seen self.old).waiting }
+        ensures memory { IfErr result (λ _. seen self.new ≡ seen self.old) };
+
     /// Removes a file, and says whether that was done.
     fn remove(&mut self, name: &str) -> Result<bool, NoMemory>
         requires { IsFileName name.now }
@@ -76,7 +97,7 @@ pub trait Outside {
         ensures waiting { (seen self.new).waiting ≡ (seen self.old).waiting }
         ensures memory { IfErr result (λ _. seen self.new ≡ seen self.old) };
 
-    /// Makes removals outlive a crash, and says whether that was done.
+    /// Makes what was put in place or removed outlive a crash, and says whether that was done.
     fn settle(&mut self) -> Result<bool, NoMemory>
         ensures one { IfOk result (λ done. One Settle done (seen self.old) (seen self.new)) }
         ensures waiting { (seen self.new).waiting ≡ (seen self.old).waiting }

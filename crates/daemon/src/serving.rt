@@ -2,7 +2,7 @@ ghost use Rattle.std.specs.Prelude.{◌≡◌, ◌≢◌, ◌≤◌, [], Some, t
 ghost use Rattle.settings.specs.Fitting.{AreManaged};
 ghost use Rattle.turn_model.specs.Turns.{is_over};
 ghost use Rattle.daemon.specs.declared.serving.ServeEnd.TheVariants.{NoMemory as no_memory};
-ghost use Rattle.daemon.specs.Lives.{life_of, IsTimely};
+ghost use Rattle.daemon.specs.Lives.{life_of, IsOrderly};
 ghost use Rattle.daemon.specs.Waits.{BeginsThere};
 ghost use Rattle.daemon.specs.Serving.{HasServeCause, HasLifeCause, HasEndCause, AreManyTurns, Ends};
 ghost use Rattle.daemon.specs.Served.{Served};
@@ -58,7 +58,7 @@ fn take_turns<O: Sink, W: Outside>(
     turns: u64,
     text: &mut Vec<u8>,
 ) -> Result<Life, ServeEnd>
-    requires timely { IsTimely life }
+    requires orderly { IsOrderly life }
     requires going { is_over (life_of life) ≡ false }
     ensures ok { IfOk result (λ last. Ends managed.now (life_of life) (W.seen outside.old) (O.written out.old) (life_of last) (W.seen outside.new) (O.written out.new)) }
     ensures cut { IfErr result (λ end. BreaksOff end managed.now (life_of life) (W.seen outside.old) (W.seen outside.new) (O.written out.old) (O.written out.new)) }

@@ -2,10 +2,11 @@ ghost use Rattle.std.specs.Prelude.{◌≡◌, false, IfOk, length};
 ghost use Rattle.world.specs.LinkCalls.{frame_len};
 ghost use Rattle.iface_core.specs.Inputs.{event_of, bytes_of};
 ghost use Rattle.turn_model.specs.Turns.{is_end};
-ghost use Rattle.daemon.specs.Lives.{life_of, IsTimely};
+ghost use Rattle.daemon.specs.Lives.{life_of, IsOrderly};
 ghost use Rattle.daemon.specs.Serving.{MakesTurn};
 
 use crate::hosts::host_turn;
+use crate::keeping::{Touched, keep_all};
 use crate::lives::{Life, raised, stop_moment};
 use crate::outside::Outside;
 use crate::saying::say;
@@ -35,7 +36,7 @@ fn input(event: Event, bytes: &[u8]) -> TurnInput<'_>
     }
 }
 
-/// Handles a wake: the client's step, its frames, then the host calls. Appends the turn's lines to `text`.
+/// Handles a wake: the client's step, its frames, the host calls, then the files of leases. Appends the turn's lines to `text`.
 pub fn turn<W: Outside>(
     alloc: Global,
     managed: &[Managed],
@@ -45,16 +46,17 @@ pub fn turn<W: Outside>(
     outside: &mut W,
     text: &mut Vec<u8>,
 ) -> Result<Life, NoMemory>
-    requires timely { IsTimely life }
+    requires orderly { IsOrderly life }
     requires more { is_end wake.event ≡ false }
     requires whole { frame_len wake.event ≡ length bytes.now }
     ensures waiting { (W.seen outside.new).waiting ≡ (W.seen outside.old).waiting }
-    ensures timely { IfOk result IsTimely }
+    ensures orderly { IfOk result IsOrderly }
     ensures made { IfOk result (λ next. MakesTurn managed.now (life_of life) wake bytes.now (life_of next) (W.seen outside.old) (W.seen outside.new) text.old.items text.new.items) }
 {
     let Life {
         core,
         known,
+        files,
         moment,
         stop,
         unsent,
@@ -73,12 +75,15 @@ pub fn turn<W: Outside>(
         bytes,
     };
     say(&line, text)?;
-    let (core, outs) = step(core, turn)?;
-    let unsent = offer_all(outside, &outs.sends, 0, text)?;
-    let known = host_turn(alloc, outside, managed, known, rows(&core), text)?;
+    let stepped = step(core, turn)?;
+    let unsent = offer_all(outside, &stepped.outs.sends, 0, text)?;
+    let known = host_turn(alloc, outside, managed, known, rows(&stepped.core), text)?;
+    let touched = Touched::These(&stepped.touched);
+    let files = keep_all(alloc, &stepped.core, touched, files, outside, text)?;
     let life = Life {
-        core,
+        core: stepped.core,
         known,
+        files,
         moment,
         stop: stop_moment(stop, wake.event, moment),
         unsent,

@@ -1,7 +1,7 @@
 ghost use Rattle.std.specs.Prelude.{◌≡◌, ◌≢◌, ◌≤◌, [], ◌∷◌, true, false, Some, Ok, Err, IfOk, IfErr, length, take};
 ghost use Rattle.world.specs.LinkCalls.{frame_len};
 ghost use Rattle.turn_model.specs.Turns.{is_over, is_end};
-ghost use Rattle.daemon.specs.Lives.{life_of, IsTimely};
+ghost use Rattle.daemon.specs.Lives.{life_of, IsOrderly};
 ghost use Rattle.daemon.specs.Serving.{HasServeCause};
 ghost use Rattle.daemon.specs.Streams.{WritesBytes, WritesSome};
 ghost use Rattle.daemon.specs.Waking.{IsOneTurn};
@@ -108,7 +108,7 @@ pub fn one_turn<O: Sink, W: Outside>(
     buf: &mut [u8],
     text: &mut Vec<u8>,
 ) -> Result<Woken, ServeEnd>
-    requires timely { IsTimely life }
+    requires orderly { IsOrderly life }
     requires going { is_over (life_of life) ≡ false }
     requires room { length buf.old ≡ 2048 }
     ensures ok { IfOk result (λ woken. IsOneTurn managed.now (life_of life) (W.seen outside.old) (O.written out.old) woken (W.seen outside.new) (O.written out.new)) }

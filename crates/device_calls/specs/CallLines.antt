@@ -2,7 +2,7 @@
 use Rattle.std.specs.Prelude.{ℕ, List, [], ◌∷◌, map, length, Option, Some, None}
 use Rattle.world.specs.LinkCalls.{LinkCall, Waited, Offered}
 use Rattle.world.specs.HostCalls.{HostCall, Listed, Added, Removed}
-use Rattle.world.specs.StoreCalls.{StoreCall, ListedAsides, ReadFile, RemovedFile, SettledFiles}
+use Rattle.world.specs.StoreCalls.{StoreCall, ListedAsides, ReadFile, WroteAside, SyncedAside, RenamedAside, RemovedFile, SettledFiles}
 use Rattle.script_model.specs.Lines as lines
 use Rattle.script_model.specs.Lines.{Line}
 use Rattle.device_calls.specs.Calls.{Call, Link, Host, Store, Hook}
@@ -18,14 +18,15 @@ host_lines (Listed (Some rows)) = lines.HostListed (length rows) ∷ map lines.R
 host_lines (Added row done) = lines.HostAdd row done ∷ []
 host_lines (Removed row done) = lines.HostDel row done ∷ []
 
--- (the calls that save a file have no lines yet: no life makes them)
 abbrev pub store_lines : StoreCall → List Line
 store_lines (ListedAsides None) = lines.AsidesFailed ∷ []
 store_lines (ListedAsides (Some names)) = lines.Asides names ∷ []
 store_lines (ReadFile name reading) = lines.Read name reading ∷ []
+store_lines (WroteAside name bytes done) = lines.Wrote name bytes done ∷ []
+store_lines (SyncedAside name done) = lines.Synced name done ∷ []
+store_lines (RenamedAside name done) = lines.Renamed name done ∷ []
 store_lines (RemovedFile name done) = lines.Removed name done ∷ []
 store_lines (SettledFiles done) = lines.Settled done ∷ []
-store_lines other = []
 
 abbrev pub lines_of : Call → List Line
 lines_of (Link call) = link_lines call

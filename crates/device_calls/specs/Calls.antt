@@ -3,7 +3,7 @@ use Rattle.std.specs.Prelude.{ℕ, Bool, List, [], ◌∷◌, Option}
 use Rattle.world.specs.declared.rows.HostRow.{HostRow}
 use Rattle.world.specs.LinkCalls.{LinkCall, Offered}
 use Rattle.world.specs.HostCalls.{HostCall, Listed}
-use Rattle.world.specs.StoreCalls.{StoreCall, Reading, ListedAsides, ReadFile, RemovedFile, SettledFiles}
+use Rattle.world.specs.StoreCalls.{StoreCall, Reading, ListedAsides, ReadFile, WroteAside, SyncedAside, RenamedAside, RemovedFile, SettledFiles}
 use Rattle.world.specs.HookCalls.{HookCall}
 use Rattle.host_model.specs.declared.changes.HostChange.{HostChange}
 use Rattle.host_model.specs.HostTurn.{change_call}
@@ -15,13 +15,17 @@ pub data Call : Type 0 where
   Store : (call : StoreCall) → Call
   Hook : (call : HookCall) → Call
 
--- a question: to offer a frame; to list the host's rows or change one; to list asides, read or remove a file, settle removals
+-- a question: to offer a frame; to list the host's rows or change one; to list asides and read a file; to write a file's aside,
+-- sync it and put it in the file's place; to remove a file; to settle what was put in place or removed
 pub data Ask : Type 0 where
   Offer : (iface : ℕ) → (frame : List ℕ) → Ask
   ListRows : Ask
   Change : (change : HostChange) → Ask
   ListAsides : Ask
   Read : (name : List ℕ) → Ask
+  WriteAside : (name bytes : List ℕ) → Ask
+  SyncAside : (name : List ℕ) → Ask
+  RenameAside : (name : List ℕ) → Ask
   RemoveFile : (name : List ℕ) → Ask
   Settle : Ask
 
@@ -32,6 +36,9 @@ AnswerTo ListRows = Option (List HostRow)
 AnswerTo (Change change) = Bool
 AnswerTo ListAsides = Option (List (List ℕ))
 AnswerTo (Read name) = Reading
+AnswerTo (WriteAside name bytes) = Bool
+AnswerTo (SyncAside name) = Bool
+AnswerTo (RenameAside name) = Bool
 AnswerTo (RemoveFile name) = Bool
 AnswerTo Settle = Bool
 
@@ -42,6 +49,9 @@ made ListRows rows = Host (Listed rows)
 made (Change change) done = Host (change_call change done)
 made ListAsides names = Store (ListedAsides names)
 made (Read name) reading = Store (ReadFile name reading)
+made (WriteAside name bytes) done = Store (WroteAside name bytes done)
+made (SyncAside name) done = Store (SyncedAside name done)
+made (RenameAside name) done = Store (RenamedAside name done)
 made (RemoveFile name) done = Store (RemovedFile name done)
 made Settle done = Store (SettledFiles done)
 

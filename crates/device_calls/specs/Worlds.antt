@@ -3,14 +3,15 @@ use Rattle.std.specs.Prelude.{ℕ, ◌+◌, Bool, not, if◌then◌else◌, List
 use Rattle.world.specs.Causes.{has_number}
 use Rattle.world.specs.LinkCalls.{LinkTold, offered}
 use Rattle.world.specs.HostCalls.{HostTold, Listed, host_answered}
-use Rattle.world.specs.StoreCalls.{StoreTold, Reading, Unread, ListedAsides, ReadFile, RemovedFile, SettledFiles, reading_of, store_answered}
+use Rattle.world.specs.StoreCalls.{StoreTold, StoreCall, Reading, Unread, ListedAsides, ReadFile, WroteAside, SyncedAside, RenamedAside, RemovedFile, SettledFiles, fails_rename, reading_of, store_answered}
 use Rattle.world.specs.StoreFails.{StoreFails, fails_at}
-use Rattle.world.specs.FileLists.{asides, file_at, drop_file}
+use Rattle.world.specs.FileLists.{StoreFile, asides, file_at, put_file, drop_file, rename_file}
+use Rattle.world.specs.FileNames.{aside_of}
 use Rattle.world.specs.HookCalls.{HooksTold}
 use Rattle.world.specs.declared.rows.HostRow.{HostRow}
 use Rattle.host_model.specs.declared.changes.HostChange.{HostChange}
 use Rattle.host_model.specs.HostTurn.{change_call, applied}
-use Rattle.device_calls.specs.Calls.{Call, Ask, Offer, ListRows, Change, ListAsides, Read, RemoveFile, Settle, AnswerTo, made}
+use Rattle.device_calls.specs.Calls.{Call, Ask, Offer, ListRows, Change, ListAsides, Read, WriteAside, SyncAside, RenameAside, RemoveFile, Settle, AnswerTo, made}
 use Rattle.device_calls.specs.Programs.{Asks, Done, Then}
 
 -- what a device tells, where it does, which of its calls fail, where that is told, and how many failed so far
@@ -71,12 +72,19 @@ fails_host host = has_number host.failing (length host.told.calls + 1)
 abbrev pub fails_store : Told StoreTold StoreFails → Bool
 fails_store store = fails_at store.failing (length store.told.calls + 1)
 
+-- where there is no aside, putting it in place fails
+abbrev pub fails_renaming : List ℕ → Told StoreTold StoreFails → Bool
+fails_renaming name store = fails_rename name store.told store.failing
+
 abbrev pub answer_to : (ask : Ask) → World → AnswerTo ask
 answer_to (Offer iface frame) world = not (fails_send world.link)
 answer_to ListRows world = if fails_host world.host then None else Some world.host.told.rows
 answer_to (Change change) world = not (fails_host world.host)
 answer_to ListAsides world = if fails_store world.store then None else Some (asides world.store.told.files)
 answer_to (Read name) world = if fails_store world.store then Unread else reading_of (file_at name world.store.told.files)
+answer_to (WriteAside name bytes) world = not (fails_store world.store)
+answer_to (SyncAside name) world = not (fails_store world.store)
+answer_to (RenameAside name) world = not (fails_renaming name world.store)
 answer_to (RemoveFile name) world = not (fails_store world.store)
 answer_to Settle world = not (fails_store world.store)
 
@@ -84,8 +92,21 @@ answer_to Settle world = not (fails_store world.store)
 abbrev pub host_with : HostChange → Bool → HostTold → HostTold
 host_with change done told = host_answered (change_call change done) (if done then applied change told.rows else told.rows) told
 
-abbrev pub store_without : List ℕ → Bool → StoreTold → StoreTold
-store_without name done told = store_answered (RemovedFile name done) (if done then drop_file name told.files else told.files) told
+-- a call that changes the files where it was done
+abbrev pub store_changed : (List StoreFile → List StoreFile) → (Bool → StoreCall) → (done : Bool) → StoreTold → StoreTold
+store_changed change call done told = store_answered (call done) (if done then change told.files else told.files) told
+
+abbrev pub store_written : (name bytes : List ℕ) → Bool → StoreTold → StoreTold
+store_written name bytes = store_changed (put_file (record { name = aside_of name; bytes = bytes })) (WroteAside name bytes)
+
+abbrev pub store_synced : (name : List ℕ) → Bool → StoreTold → StoreTold
+store_synced name = store_changed (λ files. files) (SyncedAside name)
+
+abbrev pub store_renamed : (name : List ℕ) → Bool → StoreTold → StoreTold
+store_renamed name = store_changed (λ files. rename_file name (file_at (aside_of name) files) files) (RenamedAside name)
+
+abbrev pub store_without : (name : List ℕ) → Bool → StoreTold → StoreTold
+store_without name = store_changed (drop_file name) (RemovedFile name)
 
 abbrev pub with_link : LinkTold → World → World
 with_link told world = record world { link = record world.link { told = told } }
@@ -102,6 +123,9 @@ world_with ListRows rows world = with_host (host_answered (Listed rows) world.ho
 world_with (Change change) done world = with_host (host_with change done world.host.told) world
 world_with ListAsides names world = with_store (store_answered (ListedAsides names) world.store.told.files world.store.told) world
 world_with (Read name) reading world = with_store (store_answered (ReadFile name reading) world.store.told.files world.store.told) world
+world_with (WriteAside name bytes) done world = with_store (store_written name bytes done world.store.told) world
+world_with (SyncAside name) done world = with_store (store_synced name done world.store.told) world
+world_with (RenameAside name) done world = with_store (store_renamed name done world.store.told) world
 world_with (RemoveFile name) done world = with_store (store_without name done world.store.told) world
 world_with Settle done world = with_store (store_answered (SettledFiles done) world.store.told.files world.store.told) world
 

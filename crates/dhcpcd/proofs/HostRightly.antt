@@ -1,8 +1,8 @@
 -- The host holds what it shall in the lives of a script.
 use Rattle.std.proofs.Common.{ℕ, suc, ◌≡◌, ◌+◌, ◌<◌, List, [], ◌∷◌, ◌++◌, length, take, refl, sym, ap, subst, ◌∙◌, arith}
-use Rattle.std.specs.Prelude.{map, All}
+use Rattle.std.specs.Prelude.{map}
 use Rattle.std.specs.List.{AllByRecursion}
-use Rattle.std.proofs.lemmas.List.Elements.{All-head, recursion_from_All}
+use Rattle.std.proofs.lemmas.List.Elements.{recursion_from_All}
 use Rattle.net_types.proofs.AllLaws.{all_map}
 use Rattle.net_types.specs.Marks.{AreBytes}
 use Rattle.world.specs.declared.wakes.Event.{Event}
@@ -12,7 +12,6 @@ use Rattle.std.proofs.Math.Seq.{take-append_seam}
 use Rattle.std.proofs.lemmas.List.{length-append}
 use Rattle.world.specs.LinkCalls.{Given}
 use Rattle.settings.specs.declared.interfaces.Managed.{Managed}
-use Rattle.world.specs.declared.rows.HostRow.{HostRow}
 use Rattle.script_model.specs.ScriptTexts.{ScriptLines, LifeScript}
 use Rattle.script_model.specs.Scripts.{CountsFrom, FitsBytes, FitsGiven, FitsLife}
 use Rattle.turn_model.specs.Lives.{Met}
@@ -21,6 +20,7 @@ use Rattle.device_calls.proofs.Running.{run_coming}
 use Rattle.turn_model.specs.Opening.{opening_asks}
 use Rattle.turn_model.specs.Foretold.{told_turns}
 use Rattle.turn_model.specs.HostInLife.{Running, running_turned, running_after}
+use Rattle.host_model.specs.HostTable.{InRowOrder}
 use Rattle.host_model.proofs.HostTableRows.{in_order_sorted}
 use Rattle.turn_model.proofs.HostInLifeTurns.{opening_holds, turn_in_life}
 use Rattle.conf_text.proofs.ManagedFit.{managed_specs}
@@ -31,7 +31,8 @@ use Rattle.evidence.proofs.Leasing.{leases_based}
 use Rattle.evidence.proofs.HostRests.{opening_rests, turns_rest}
 use Rattle.evidence.proofs.Numbered.{counted}
 use Rattle.evidence.proofs.Foretold.{foretold}
-use Rattle.dhcpcd.specs.Replays.{IsScript, failing_in, at_first, opening_in, opened_in, mets_in, Failing, world_in}
+use Rattle.dhcpcd.specs.Replays.{IsScript, failing_in, at_first, opening_in, opened_in, mets_in, Failing, Between, world_in, after_life}
+use Rattle.dhcpcd.proofs.LifeLeft.{left_in_order}
 use Rattle.dhcpcd.proofs.Refusals.{settled_fit}
 use Rattle.dhcpcd.specs.HostHeld.{lived_on, IsTurn, HoldsRightly, AllHoldRightly}
 
@@ -79,15 +80,15 @@ module _ (bytes : List ℕ) (script : ScriptLines) (managed : List Managed) (is 
   fit : AreManaged managed
   fit = settled_fit bytes script managed is
 
-  module _ (failing : Failing) (rows : List HostRow) (life : LifeScript) (life_fits : FitsLife (length script.ifaces) life) where
+  module _ (failing : Failing) (between : Between) (sorted : InRowOrder between.host.rows) (life : LifeScript) (life_fits : FitsLife (length script.ifaces) life) where
     abbrev world : World
-    world = world_in failing (at_first rows) life
+    world = world_in failing between life
 
     abbrev begun : Running
-    begun = opened_in managed script.ifaces failing (at_first rows) life
+    begun = opened_in managed script.ifaces failing between life
 
     abbrev all_mets : List Met
-    all_mets = mets_in managed script.ifaces failing (at_first rows) life
+    all_mets = mets_in managed script.ifaces failing between life
 
     -- ---- the turns that the evidence speaks of are those of the transcript
 
@@ -95,35 +96,40 @@ module _ (bytes : List ℕ) (script : ScriptLines) (managed : List Managed) (is 
     mets_length running [] = refl
     mets_length running (given ∷ turns) = ap (λ (n : ℕ). suc n) (mets_length (running_turned managed running given) turns)
 
-    handled_mets : (earlier : List Given) (given : Given) (coming : List Given) → IsTurn managed script.ifaces failing (at_first rows) life earlier given coming
+    handled_mets : (earlier : List Given) (given : Given) (coming : List Given) → IsTurn managed script.ifaces failing between life earlier given coming
         → mets_of managed begun (earlier ++ given ∷ []) ≡ take (length earlier + 1) all_mets
     handled_mets earlier given coming turn =
         let met : List Met = mets_of managed begun (earlier ++ given ∷ []) in
         let after : Running = running_after managed (earlier ++ given ∷ []) begun in
         let later : List Met = told_turns managed after.life after.world coming in
-        let comes : begun.world.link.told.coming ≡ life.turns = run_coming (opening_asks managed script.ifaces life.begin) (world_in failing (at_first rows) life) in
+        let comes : begun.world.link.told.coming ≡ life.turns = run_coming (opening_asks managed script.ifaces life.begin) (world_in failing between life) in
         let all : all_mets ≡ told_turns managed begun.life begun.world (earlier ++ given ∷ coming) = ap (told_turns managed begun.life begun.world) (comes ∙ turn.stands) in
         let parts : all_mets ≡ met ++ later =
         all ∙ foretold managed begun earlier given coming (subst (λ (ms : List Met). length earlier < length ms) all turn.handled) in
         let count : length met ≡ length earlier + 1 = mets_length begun (earlier ++ given ∷ []) ∙ length-append earlier (given ∷ []) in
         sym (take-append_seam met later) ∙ ap (λ (n : ℕ). take n (met ++ later)) count ∙ ap (take (length earlier + 1)) (sym parts)
 
-    first_holds : HoldsRightly managed script.ifaces failing (at_first rows) life
-    first_holds = record {
-      opening_holds = opening_holds managed script.ifaces (world_in failing (at_first rows) life) (in_order_sorted rows);
-      turns_hold = λ earlier given. turn_in_life managed script.ifaces (world_in failing (at_first rows) life) (in_order_sorted rows) earlier given;
-      opening_rests = λ well. opening_rests LeaseRelation leases_based managed script.ifaces (world_in failing (at_first rows) life) fit numbered (in_order_sorted rows) well;
+    life_holds : HoldsRightly managed script.ifaces failing between life
+    life_holds = record {
+      opening_holds = opening_holds managed script.ifaces (world_in failing between life) sorted;
+      turns_hold = λ earlier given. turn_in_life managed script.ifaces (world_in failing between life) sorted earlier given;
+      opening_rests = λ well. opening_rests LeaseRelation leases_based managed script.ifaces (world_in failing between life) fit numbered sorted well;
       turns_rest = λ earlier given coming turn well.
-          subst (λ (ms : List Met). RestOnEvidence managed script.ifaces (opening_in managed script.ifaces failing (at_first rows) life) ms (lived_on managed script.ifaces failing (at_first rows) life earlier given).world.host.told.rows) (handled_mets earlier given coming turn)
-          (turns_rest LeaseRelation leases_based managed script.ifaces (world_in failing (at_first rows) life) earlier given fit numbered
-          (up_to earlier given coming (subst (AllByRecursion IsOctets) turn.stands (life_octets (length script.ifaces) life life_fits))) (in_order_sorted rows) well);
+          subst (λ (ms : List Met). RestOnEvidence managed script.ifaces (opening_in managed script.ifaces failing between life) ms (lived_on managed script.ifaces failing between life earlier given).world.host.told.rows) (handled_mets earlier given coming turn)
+          (turns_rest LeaseRelation leases_based managed script.ifaces (world_in failing between life) earlier given fit numbered
+          (up_to earlier given coming (subst (AllByRecursion IsOctets) turn.stands (life_octets (length script.ifaces) life life_fits))) sorted well);
     }
 
-  only_first : (failing : Failing) (rows : List HostRow) (lives : List LifeScript) → length lives ≡ 1 → All (FitsLife (length script.ifaces)) lives
-      → AllHoldRightly managed script.ifaces failing (at_first rows) lives
-  only_first failing rows [] one fits = absurd (omega (arith, one))
-  only_first failing rows (life ∷ []) one fits = (first_holds failing rows life (All-head (FitsLife (length script.ifaces)) life [] fits), tt)
-  only_first failing rows (life ∷ next ∷ lives) one fits = absurd (omega (arith, one))
+  -- in each life, whatever those before it left
+  holds_on : (failing : Failing) (between : Between) → InRowOrder between.host.rows → (lives : List LifeScript) → AllByRecursion (FitsLife (length script.ifaces)) lives
+      → AllHoldRightly managed script.ifaces failing between lives
+  holds_on failing between sorted [] fits = tt
+  holds_on failing between sorted (life ∷ lives) fits = (
+    life_holds failing between sorted life fits.0,
+    holds_on failing (after_life managed script.ifaces failing between life) (left_in_order managed script.ifaces (world_in failing between life) sorted) lives fits.1,
+  )
 
-  pub holds_rightly : AllHoldRightly managed script.ifaces (failing_in script.fails) (at_first script.rows) script.lives
-  holds_rightly = only_first (failing_in script.fails) script.rows script.lives (let fits = is.fits in fits.one) (let fits = is.fits in fits.lives)
+  pub holds_rightly : AllHoldRightly managed script.ifaces (failing_in script.fails) (at_first script.rows script.files) script.lives
+  holds_rightly =
+      let fits = is.fits in
+      holds_on (failing_in script.fails) (at_first script.rows script.files) (in_order_sorted script.rows) script.lives (recursion_from_All (FitsLife (length script.ifaces)) script.lives fits.lives)

@@ -4,5 +4,8 @@ pub mod Inputs
 pub mod OneWord
 pub mod Refusals
 pub mod WholeLife
-pub mod OneLife
+pub mod LifeLeft
+pub mod Joined
+pub mod FirstNames
 pub mod HostRightly
+pub mod FilesRightly

@@ -92,7 +92,7 @@ enough_lines : (bytes : List ℕ) (script : Script) → IsRead bytes script → 
 enough_lines bytes script read =
     let counts = script_feeds (script_of script) in
     let fits = read.1 in
-    omega (arith, counts, fits.one, ap line_feeds read.0, ap line_feeds (text_of script.conf.items read.2))
+    omega (arith, counts, fits.some, ap line_feeds read.0, ap line_feeds (text_of script.conf.items read.2))
 
 pub refused_for_configuration : (answer : Status) (bytes : List ℕ) (script : Script) → IsRead bytes script → IsRefused (line_feeds script.conf.items + 2) answer (IsNoConfiguration script.conf.items)
     → IsRefused (line_feeds bytes + 1) answer (IsNoScript bytes)

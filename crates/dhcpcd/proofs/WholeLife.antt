@@ -1,77 +1,106 @@
 -- A life over the devices of a script.
 use Rattle.std.specs.Prelude.{IfSome, flat_map}
-use Rattle.std.proofs.Common.{ℕ, ◌≡◌, ◌+◌, ◌≤◌, List, [], ◌++◌, length, Option, Some, None, ◌⊎◌, ⊎_elim, sym, ap, subst, ◌∙◌, arith}
+use Rattle.std.proofs.Common.{ℕ, ◌≡◌, ◌+◌, ◌≤◌, List, [], ◌∷◌, ◌++◌, length, Option, Some, None, ◌⊎◌, ⊎_elim, sym, ap, subst, ◌∙◌, append-nil, arith}
 use Rattle.settings.specs.declared.interfaces.Managed.{Managed}
-use Rattle.script_model.specs.declared.failing.FailLine.{FailLine}
 use Rattle.script_model.specs.ScriptTexts.{LifeScript}
 use Rattle.device_calls.specs.Worlds.{Seen, World, told_from, world_from, world_of}
 use Rattle.turn_model.specs.Lives.{OpeningMet, Met, life_after, opening_lines, turn_lines, closing_lines, life_lines}
 use Rattle.turn_model.specs.Foretold.{ForetoldLife, foretold_life}
 use Rattle.script_model.specs.Lines.{Line, lines_text}
+use Rattle.script_model.specs.Lines as lines
 use Rattle.daemon.specs.Streams.{WritesBytes, WritesSome, WritesLines, WritesFront}
-use Rattle.world.specs.declared.rows.HostRow.{HostRow}
 use Rattle.net_types.specs.declared.interface.IfSpec.{IfSpec}
-use Rattle.daemon.specs.Served.{IsForetold, Served}
+use Rattle.daemon.specs.Served.{IsLifeOf, IsForetold, Served}
 use Rattle.device_calls.specs.Printing.{Prints}
 use Rattle.daemon.specs.declared.serving.ServeEnd.{ServeEnd}
 use Rattle.daemon.specs.declared.serving.ServeEnd.TheVariants as ends
 use Rattle.daemon.specs.Cuts.{turns_left, CutOpening, CutLife, Leaves}
 use Rattle.daemon.proofs.CutOffs.{front_none, front_some}
-use Rattle.daemon.proofs.Fronts.{front_wider, front_of_life}
+use Rattle.daemon.proofs.Stretches.{lines_then}
+use Rattle.daemon.proofs.Fronts.{front_wider, front_then, front_of_life}
 use Rattle.world_mem.specs.LinkRecord.{LinkState}
 use Rattle.world_mem.specs.StoreRecord.{StoreState}
 use Rattle.world_mem.specs.HostRecord.{HostState}
-use Rattle.dhcpcd.specs.Memory.{link_of, store_of, host_of}
-use Rattle.dhcpcd.specs.Replays.{failing_in, at_first, world_in, lines_in}
+use Rattle.dhcpcd.specs.Memory.{link_of}
+use Rattle.dhcpcd.specs.Replays.{Failing, Between, store_fails, world_in, lines_in, life_in}
 
-module _ (managed : List Managed) (specs : List IfSpec) (rows : List HostRow) (fails : List FailLine) (life : LifeScript) where
-  abbrev lines : List Line
-  lines = lines_in managed specs (failing_in fails) (at_first rows) life
+-- what devices in memory tell
+abbrev pub world_after : LinkState → StoreState → HostState → Option World
+world_after link store host = world_from (told_from (Some link.told) (Some link.failing_sends)) (told_from (Some host.told) (Some host.failing)) (told_from (Some store.told) (Some store.failing))
 
-  -- the devices of a script's first life, as the loop sees them
+-- the devices of a life before their first call
+pub is_first : (failing : Failing) (between : Between) (life : LifeScript) (link : LinkState) (store : StoreState) (host : HostState) → link ≡ link_of life between.sent failing.sends
+    → store.told ≡ between.store → store.failing ≡ store_fails failing.store (length between.store.calls) life.crash → host.told ≡ between.host → host.failing ≡ failing.host
+    → world_after link store host ≡ Some (world_in failing between life)
+is_first failing between life link store host l s sf h hf =
+    λ i. world_from (told_from (Some (l i).told) (Some (l i).failing_sends)) (told_from (Some (h i)) (Some (hf i))) (told_from (Some (s i)) (Some (sf i)))
+
+module _ (managed : List Managed) (specs : List IfSpec) (failing : Failing) (between : Between) (life : LifeScript) where
+  abbrev its_lines : List Line
+  its_lines = lines_in managed specs failing between life
+
+  -- the same, as the loop sees them
   abbrev pub IsFirst : Seen → Type 0
-  IsFirst seen = world_of seen ≡ Some (world_in (failing_in fails) (at_first rows) life)
+  IsFirst seen = world_of seen ≡ Some (world_in failing between life)
 
-  pub is_first : (link : LinkState) (store : StoreState) (host : HostState) → link ≡ link_of life 0 fails → store ≡ store_of fails → host ≡ host_of rows fails
-      → world_from (told_from (Some link.told) (Some link.failing_sends)) (told_from (Some host.told) (Some host.failing)) (told_from (Some store.told) (Some store.failing)) ≡ Some (world_in (failing_in fails) (at_first rows) life)
-  is_first link store host l s h =
-      λ i. world_from (told_from (Some (l i).told) (Some (l i).failing_sends)) (told_from (Some (h i).told) (Some (h i).failing)) (told_from (Some (s i).told) (Some (s i).failing))
+  abbrev here : ForetoldLife
+  here = foretold_life managed specs (world_in failing between life)
 
-  told_lines : (seen : Seen) (opening : OpeningMet) (mets : List Met) → IsFirst seen → IsForetold managed specs seen opening mets → life_lines opening mets ≡ lines
+  told_lines : (seen : Seen) (opening : OpeningMet) (mets : List Met) → IsFirst seen → IsForetold managed specs seen opening mets → life_lines opening mets ≡ its_lines
   unfolding lines_in
   told_lines seen opening mets first told =
-      let here : foretold_life managed specs (world_in (failing_in fails) (at_first rows) life) ≡ record { opening = opening; mets = mets } =
-      subst (λ (w : Option World). IfSome w (λ world. foretold_life managed specs world ≡ record { opening = opening; mets = mets })) first told in
-      ap (λ (f : ForetoldLife). life_lines f.opening f.mets) (sym here)
+      let are : IsLifeOf opening mets here = subst (λ (w : Option World). IfSome w (λ world. IsLifeOf opening mets (foretold_life managed specs world))) first told in
+      sym (λ i. life_lines (are.opening_is i) (are.mets_are i))
 
-  pub lived : (seen new_seen : Seen) (old new : Option (List ℕ)) → IsFirst seen → Served managed specs seen new_seen old new → WritesLines old new lines
+  pub lived : (seen new_seen : Seen) (old new : Option (List ℕ)) → IsFirst seen → Served managed specs seen new_seen old new → WritesLines old new its_lines
   lived seen new_seen old new first served = subst (λ (l : List Line). WritesLines old new l) (told_lines seen served.opening served.mets first served.foretold) served.written
 
   module _ (seen new_seen : Seen) (first : IsFirst seen) (old new : Option (List ℕ)) where
-    cut_in_opening : (end : ServeEnd) → CutOpening end managed specs seen new_seen old new → WritesFront old new [] lines
+    cut_in_opening : (end : ServeEnd) → CutOpening end managed specs seen new_seen old new → WritesFront old new [] its_lines
     cut_in_opening end cut =
         subst (λ (l : List Line). WritesFront old new [] l) (told_lines seen cut.opening cut.rest first cut.foretold)
         (front_wider old new [] (opening_lines cut.opening) (flat_map turn_lines cut.rest ++ closing_lines (life_after cut.opening.life cut.rest)) cut.written)
 
-    cut_later : (end : ServeEnd) → CutLife end managed specs seen new_seen old new → WritesFront old new [] lines
+    cut_later : (end : ServeEnd) → CutLife end managed specs seen new_seen old new → WritesFront old new [] its_lines
     cut_later end cut =
         subst (λ (l : List Line). WritesFront old new [] l) (told_lines seen cut.opening (cut.mets ++ turns_left cut.at) first cut.foretold)
         (front_of_life cut.opening cut.mets cut.at old new cut.written)
 
-    untouched : new ≡ old → WritesFront old new [] lines
-    untouched same = subst (λ (o : Option (List ℕ)). WritesFront old o [] lines) (sym same) (front_none old lines)
+    untouched : new ≡ old → WritesFront old new [] its_lines
+    untouched same = subst (λ (o : Option (List ℕ)). WritesFront old o [] its_lines) (sym same) (front_none old its_lines)
 
     -- a write failed in the life, or memory was wanted
-    pub stops_life : (end : ServeEnd) → (end ≡ ends.WriteFault) ⊎ (end ≡ ends.NoMemory) → Leaves end managed specs seen new_seen old new → WritesFront old new [] lines
+    pub stops_life : (end : ServeEnd) → (end ≡ ends.WriteFault) ⊎ (end ≡ ends.NoMemory) → Leaves end managed specs seen new_seen old new → WritesFront old new [] its_lines
     stops_life ends.End is leaves = ⊎_elim (λ e. absurd cc) (λ e. absurd cc) is
     stops_life ends.TurnsOver is cut = cut_later ends.TurnsOver cut
     stops_life ends.LinkFault is leaves = ⊎_elim (λ unbegun. untouched unbegun.0) (cut_later ends.LinkFault) leaves
     stops_life ends.WriteFault is leaves = ⊎_elim (cut_in_opening ends.WriteFault) (cut_later ends.WriteFault) leaves
     stops_life ends.NoMemory is leaves = ⊎_elim untouched (λ later. ⊎_elim (cut_in_opening ends.NoMemory) (cut_later ends.NoMemory) later) leaves
 
+-- a front may be the whole
+pub front_whole : (old new : Option (List ℕ)) (all : List Line) → WritesLines old new all → WritesFront old new [] all
+front_whole old new all written = subst (WritesFront old new []) (append-nil all) (front_then old new new all [] written (front_none new []))
+
+-- the line that begins a life, and then its lines
+module _ (managed : List Managed) (specs : List IfSpec) (failing : Failing) (between : Between) (life : LifeScript) (number : ℕ) (is : number ≡ between.lives + 1) where
+  abbrev after_number : List Line
+  after_number = lines_in managed specs failing between life
+
+  same_life : lines.Life number ∷ after_number ≡ life_in managed specs failing between life
+  same_life = ap (λ (n : ℕ). lines.Life n ∷ after_number) is
+
+  pub front_of_number : (old new : Option (List ℕ)) → WritesFront old new [] (lines.Life number ∷ []) → WritesFront old new [] (life_in managed specs failing between life)
+  front_of_number old new front = subst (WritesFront old new []) same_life (front_wider old new [] (lines.Life number ∷ []) after_number front)
+
+  pub front_of_lines : (old mid new : Option (List ℕ)) → WritesLines old mid (lines.Life number ∷ []) → WritesFront mid new [] after_number → WritesFront old new [] (life_in managed specs failing between life)
+  front_of_lines old mid new begun front = subst (WritesFront old new []) same_life (front_then old mid new (lines.Life number ∷ []) after_number begun front)
+
+  pub lived_whole : (old mid new : Option (List ℕ)) → WritesLines old mid (lines.Life number ∷ []) → WritesLines mid new after_number → WritesLines old new (life_in managed specs failing between life)
+  lived_whole old mid new begun written = subst (WritesLines old new) same_life (lines_then old mid new (lines.Life number ∷ []) after_number begun written)
+
 -- fewer wakes come than are allowed
-pub all_come : (life : LifeScript) (fails : List FailLine) (link : LinkState) → link ≡ link_of life 0 fails → length life.turns + 1 ≤ length link.told.coming → ⊥
-all_come life fails link begins many =
+pub all_come : (life : LifeScript) (sent : ℕ) (sends : List ℕ) (link : LinkState) → link ≡ link_of life sent sends → length life.turns + 1 ≤ length link.told.coming → ⊥
+all_come life sent sends link begins many =
     let count : length link.told.coming ≡ length life.turns = ap (λ (l : LinkState). length l.told.coming) begins in
     omega (arith, count, many)
 

@@ -6,9 +6,10 @@ use Rattle.world.specs.HostCalls.{HostTold}
 use Rattle.world.specs.LinkCalls.{LinkTold}
 use Rattle.world.specs.StoreCalls.{StoreTold, store_holding}
 use Rattle.world_mem.specs.LinkRecord.{LinkState}
-use Rattle.world_mem.specs.StoreRecord.{StoreState}
+use Rattle.world_mem.specs.StoreRecord.{StoreState, in_name_order}
+use Rattle.world.specs.FileLists.{StoreFile}
 use Rattle.world_mem.specs.HostRecord.{HostState}
-use Rattle.script_model.specs.declared.failing.FailDevice.TheVariants.{Link, Store, Host}
+use Rattle.script_model.specs.declared.failing.FailDevice.TheVariants.{Store, Host}
 use Rattle.script_model.specs.declared.failing.FailLine.{FailLine}
 use Rattle.script_model.specs.FailingCalls.{failing_calls}
 use Rattle.script_model.specs.ScriptTexts.{LifeScript}
@@ -17,14 +18,16 @@ use Rattle.script_model.specs.ScriptTexts.{LifeScript}
 abbrev pub link_told : LifeScript → ℕ → LinkTold
 link_told life sent = record { begin = life.begin; coming = life.turns; waits = 0; sends = sent; calls = [] }
 
-abbrev pub link_of : LifeScript → ℕ → List FailLine → LinkState
-link_of life sent fails = record { told = link_told life sent; begins = 0; failing_waits = []; failing_sends = failing_calls Link fails }
+-- and which of its sends fail
+abbrev pub link_of : LifeScript → ℕ → List ℕ → LinkState
+link_of life sent sends = record { told = link_told life sent; begins = 0; failing_waits = []; failing_sends = sends }
 
-abbrev pub first_store : StoreTold
-first_store = store_holding []
+-- the store's files in byte order of their names
+abbrev pub first_store : List StoreFile → StoreTold
+first_store files = store_holding (in_name_order files)
 
-abbrev pub store_of : List FailLine → StoreState
-store_of fails = record { told = first_store; failing = record { numbers = failing_calls Store fails; from = None } }
+abbrev pub store_of : List StoreFile → List FailLine → StoreState
+store_of files fails = record { told = first_store files; failing = record { numbers = failing_calls Store fails; from = None } }
 
 abbrev pub first_host : List HostRow → HostTold
 first_host rows = record { rows = in_row_order rows; calls = [] }

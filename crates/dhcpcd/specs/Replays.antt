@@ -1,14 +1,22 @@
 -- The transcript of a script: its head, and its lives one after another.
-use Rattle.std.specs.Prelude.{ℕ, ◌≡◌, ◌+◌, List, [], ◌∷◌, ◌++◌, map, flat_map, take, length, Some, None}
+use Rattle.std.specs.Prelude.{ℕ, ◌≡◌, ◌+◌, List, [], ◌∷◌, ◌++◌, map, flat_map, length, Option, Some, None}
 use Rattle.net_types.specs.declared.interface.IfSpec.{IfSpec}
 use Rattle.settings.specs.declared.interfaces.Managed.{Managed}
 use Rattle.world.specs.HostCalls.{HostTold}
 use Rattle.world.specs.StoreCalls.{StoreTold}
+use Rattle.world.specs.FileLists.{StoreFile}
 use Rattle.world.specs.StoreFails.{StoreFails}
 use Rattle.world.specs.declared.rows.HostRow.{HostRow}
 use Rattle.script_model.specs.declared.failing.FailDevice.TheVariants.{Link, Host, Store}
 use Rattle.script_model.specs.declared.failing.FailLine.{FailLine}
 use Rattle.script_model.specs.FailingCalls.{failing_calls}
+use Rattle.script_model.specs.declared.crashing.CrashKind.{CrashKind}
+use Rattle.script_model.specs.declared.crashing.CrashKind.TheVariants as kind
+use Rattle.script_model.specs.Crashes.{CrashScript}
+use Rattle.world_mem.specs.declared.crashes.Pick.{Pick}
+use Rattle.world_mem.specs.declared.crashes.Pick.TheVariants as pick
+use Rattle.world_mem.specs.CrashRecord.{after_crash}
+use Rattle.world_mem.specs.Fuse.{first_stopped}
 use Rattle.script_model.specs.ScriptTexts.{ScriptLines, LifeScript, script_text, ended}
 use Rattle.script_model.specs.Scripts.{FitsScript}
 use Rattle.script_model.specs.Lines.{Line}
@@ -16,7 +24,7 @@ use Rattle.script_model.specs.Lines as lines
 use Rattle.device_calls.specs.Worlds.{World}
 use Rattle.turn_model.specs.Lives.{OpeningMet, Met, life_lines}
 use Rattle.turn_model.specs.Foretold.{opening_of, foretold_life}
-use Rattle.turn_model.specs.HostInLife.{Running, running_opened, running_after}
+use Rattle.turn_model.specs.HostInLife.{Running, running_opened}
 use Rattle.dhcpcd.specs.Memory.{link_told, first_host, first_store}
 use Rattle.conf_text.specs.Settings.{Configuration, managed_of}
 use Rattle.conf_text.specs.Reading.{IsConfigurationOf}
@@ -25,14 +33,32 @@ use Rattle.conf_text.specs.Reading.{IsConfigurationOf}
 pub record Failing : Type 0 where
   pub sends : List ℕ
   pub host : List ℕ
-  pub store : StoreFails
+  pub store : List ℕ
 
 abbrev pub failing_in : List FailLine → Failing
-failing_in fails = record {
-  sends = failing_calls Link fails;
-  host = failing_calls Host fails;
-  store = record { numbers = failing_calls Store fails; from = None };
-}
+failing_in fails = record { sends = failing_calls Link fails; host = failing_calls Host fails; store = failing_calls Store fails }
+
+-- ---- crashes
+
+-- after how many calls of its store a life crashes, where its calls are cut off
+abbrev pub fuse_of : Option CrashScript → Option ℕ
+fuse_of None = None
+fuse_of (Some crash) = crash.calls
+
+-- the calls of the store that fail in a life, when so many were answered before it
+abbrev pub store_fails : List ℕ → (answered : ℕ) → Option CrashScript → StoreFails
+store_fails numbers answered crash = record { numbers = numbers; from = first_stopped answered (fuse_of crash) }
+
+abbrev pub pick_of : CrashKind → Pick
+pick_of kind.Old = pick.Old
+pick_of kind.New = pick.New
+
+-- what the next life finds of the store: without a crash the store as it is
+abbrev pub store_left : Option CrashScript → StoreTold → StoreTold
+store_left None told = told
+store_left (Some crash) told = after_crash (pick_of crash.kind) told
+
+-- ---- lives
 
 -- what goes on from one life to the next: how many lives there were, how many frames were offered, the host and the store
 pub record Between : Type 0 where
@@ -41,15 +67,15 @@ pub record Between : Type 0 where
   pub host : HostTold
   pub store : StoreTold
 
-abbrev pub at_first : List HostRow → Between
-at_first rows = record { lives = 0; sent = 0; host = first_host rows; store = first_store }
+abbrev pub at_first : List HostRow → List StoreFile → Between
+at_first rows files = record { lives = 0; sent = 0; host = first_host rows; store = first_store files }
 
 -- the devices of a life, as the life before left them
 abbrev pub world_in : Failing → Between → LifeScript → World
 world_in failing between life = record {
   link = record { told = link_told life between.sent; failing = failing.sends };
   host = record { told = between.host; failing = failing.host };
-  store = record { told = between.store; failing = failing.store };
+  store = record { told = between.store; failing = store_fails failing.store (length between.store.calls) life.crash };
 }
 
 -- the opening that the devices foretell
@@ -64,28 +90,31 @@ opened_in managed specs failing between life = running_opened managed specs (wor
 abbrev pub mets_in : List Managed → List IfSpec → Failing → Between → LifeScript → List Met
 mets_in managed specs failing between life = (foretold_life managed specs (world_in failing between life)).mets
 
--- what a life leaves to the next one: its turns up to the one that ended it were handled
+-- what a life leaves to the next one
 abbrev pub after_life : List Managed → List IfSpec → Failing → Between → LifeScript → Between
 after_life managed specs failing between life =
-    let handled = take (length (mets_in managed specs failing between life)) life.turns in
-    let over = running_after managed handled (opened_in managed specs failing between life) in
-    record { lives = between.lives + 1; sent = over.world.link.told.sends; host = over.world.host.told; store = over.world.store.told }
+    let left = (foretold_life managed specs (world_in failing between life)).left in
+    record { lives = between.lives + 1; sent = left.sent; host = left.host.told; store = store_left life.crash left.store.told }
 
 -- the life of the abstract client over these devices
 unfoldable pub lines_in : List Managed → List IfSpec → Failing → Between → LifeScript → List Line
 lines_in managed specs failing between life = life_lines (opening_in managed specs failing between life) (mets_in managed specs failing between life)
 
--- lives one after another, each with its number
+-- with its number
+abbrev pub life_in : List Managed → List IfSpec → Failing → Between → LifeScript → List Line
+life_in managed specs failing between life = lines.Life (between.lives + 1) ∷ lines_in managed specs failing between life
+
+-- lives one after another
 abbrev pub lives_lines : List Managed → List IfSpec → Failing → Between → List LifeScript → List Line
 lives_lines managed specs failing between [] = []
 lives_lines managed specs failing between (life ∷ lives) =
-    (lines.Life (between.lives + 1) ∷ lines_in managed specs failing between life) ++ lives_lines managed specs failing (after_life managed specs failing between life) lives
+    life_in managed specs failing between life ++ lives_lines managed specs failing (after_life managed specs failing between life) lives
 
 unfoldable pub head_lines : ScriptLines → List Line
 head_lines script = lines.Head ∷ (map lines.Conf script.conf ++ map lines.Interface script.ifaces)
 
 abbrev pub lives_of_script : List Managed → ScriptLines → List Line
-lives_of_script managed script = lives_lines managed script.ifaces (failing_in script.fails) (at_first script.rows) script.lives
+lives_of_script managed script = lives_lines managed script.ifaces (failing_in script.fails) (at_first script.rows script.files) script.lives
 
 abbrev pub transcript : List Managed → ScriptLines → List Line
 transcript managed script = head_lines script ++ lives_of_script managed script

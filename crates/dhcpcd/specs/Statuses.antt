@@ -13,6 +13,7 @@ use Rattle.dhcpcd.specs.declared.status.Status.TheVariants as status
 use Rattle.dhcpcd.specs.Input.{limit, IsInput, IsTooLong}
 use Rattle.dhcpcd.specs.Replays.{IsScript, failing_in, at_first, transcript}
 use Rattle.dhcpcd.specs.HostHeld.{AllHoldRightly}
+use Rattle.dhcpcd.specs.FilesHeld.{AllKeepRightly}
 
 -- the exit status
 abbrev pub status_number : Status → ℕ
@@ -24,7 +25,7 @@ status_number status.WriteFault = 6
 status_number status.TooLong = 9
 status_number status.NoMemory = 10
 
--- the input was a script, and its transcript was written; in its lives the host holds what it shall
+-- the input was a script, and its transcript was written; in its lives the host and the store hold what they shall
 pub record IsReplayed (input : Option (List ℕ)) (old new : Option (List ℕ)) : Type 0 where
   pub bytes : List ℕ
   pub script : ScriptLines
@@ -33,7 +34,8 @@ pub record IsReplayed (input : Option (List ℕ)) (old new : Option (List ℕ)) 
   pub in_limit : length bytes ≤ limit
   pub is_script : IsScript bytes script managed
   pub written : WritesLines old new (transcript managed script)
-  pub host : AllHoldRightly managed script.ifaces (failing_in script.fails) (at_first script.rows) script.lives
+  pub host : AllHoldRightly managed script.ifaces (failing_in script.fails) (at_first script.rows script.files) script.lives
+  pub files : AllKeepRightly managed script.ifaces (failing_in script.fails) (at_first script.rows script.files) script.lives
 
 -- the input was a script, and a front of the bytes of its transcript was written
 pub record IsStopped (input : Option (List ℕ)) (old new : Option (List ℕ)) : Type 0 where

@@ -1,50 +1,52 @@
-//! The lives of a script.
-ghost use Rattle.std.specs.Prelude.{◌≡◌, ◌≤◌, [], true, IfOk, IfErr, All};
-ghost use Rattle.world.specs.Rows.{IsRow};
+//! The lives of a script, one after another over the same host and store.
+ghost use Rattle.std.specs.Prelude.{◌≡◌, ◌≤◌, ◌<◌, ◌+◌, ◌^◌, [], ◌∷◌, true, IfOk, IfErr, All};
 ghost use Rattle.settings.specs.Fitting.{AreManaged};
-ghost use Rattle.script_model.specs.FailingCalls.{FitsFail};
 ghost use Rattle.script_model.specs.Scripts.{FitsScript};
 ghost use Rattle.replay_text.specs.ScriptContent as content;
 ghost use Rattle.daemon.specs.Streams.{WritesFront, WritesLines};
-ghost use Rattle.dhcpcd.specs.Replays.{failing_in, at_first, lines_in, lives_of_script};
+ghost use Rattle.dhcpcd.specs.Carried.{between_in, failing_with};
+ghost use Rattle.dhcpcd.specs.Replays.{after_life, life_in, lines_in, lives_of_script};
 ghost use Rattle.dhcpcd.specs.Statuses.{HasStatusCause, StopsWriting};
 
-use crate::memory::devices;
+use crate::memory::{Between, Memory, at_first, devices, left, numbers_of};
 use crate::status::Status;
 use crate::writing::begin_life;
 use daemon::{ServeEnd, serve};
 use net_types::IfSpec;
 use replay_text::{LifeLines, Script};
-use script_model::FailLine;
+use script_model::FailDevice;
 use settings::Managed;
 use std::alloc::Global;
-use world::{HostRow, Sink};
+use world::Sink;
 
-/// Lives a life over devices in memory, which begin with these rows, and writes its lines. `specs` are all interfaces of
-/// the host, managed or not.
-#[tactic(auto, using(daemon::proofs::CutOffs::front_none))]
+/// Lives a life over the devices that the life before left, writes its lines, and gives what it leaves to the next one.
+/// `specs` are all interfaces of the host, managed or not, and `sends` the sends that fail.
 fn replay_life<O: Sink>(
     alloc: Global,
     managed: &[Managed],
     specs: &[IfSpec],
-    rows: Vec<HostRow>,
-    fails: &[FailLine],
+    sends: &[u64],
+    between: Between,
     life: LifeLines,
     out: &mut O,
-) -> Result<(), Status>
+) -> Result<Between, Status>
     requires managed { AreManaged managed.now }
-    requires rows { All IsRow rows.items }
-    requires fails { All FitsFail fails.now }
-    ensures ok { IfOk result (λ _. (O.faults out.old ≤ O.faults out.new) × WritesLines (O.written out.old) (O.written out.new) (lines_in managed.now specs.now (failing_in fails.now) (at_first rows.items) (content.life_of life))) }
-    ensures front { IfErr result (λ _. WritesFront (O.written out.old) (O.written out.new) [] (lines_in managed.now specs.now (failing_in fails.now) (at_first rows.items) (content.life_of life))) }
+    requires few { between.lives + 1 < 2 ^ 64 }
+    ensures ok { IfOk result (λ _. (O.faults out.old ≤ O.faults out.new) × WritesLines (O.written out.old) (O.written out.new) (life_in managed.now specs.now (failing_with sends.now between) (between_in between) (content.life_of life))) }
+    ensures left { IfOk result (λ next. between_in next ≡ after_life managed.now specs.now (failing_with sends.now between) (between_in between) (content.life_of life)) }
+    ensures failing { IfOk result (λ next. failing_with sends.now next ≡ failing_with sends.now between) }
+    ensures front { IfErr result (λ _. WritesFront (O.written out.old) (O.written out.new) [] (life_in managed.now specs.now (failing_with sends.now between) (between_in between) (content.life_of life))) }
     ensures cause { IfErr result (λ status. HasStatusCause status 0 0 (O.faults out.old) (O.faults out.new) × StopsWriting status) }
     ensures steady { O.never_fails out.old ≡ true → O.faults out.new ≡ O.faults out.old }
     ensures stays { O.never_fails out.new ≡ O.never_fails out.old }
 {
+    let number = between.lives + 1;
+    begin_life(alloc, number, out)?;
     let turns = life.turns.len() as u64 + 1;
-    let mut live = devices(alloc, rows, fails, life)?;
+    let crash = life.crash;
+    let mut live = devices(alloc, between, sends, life)?;
     match serve(alloc, managed, specs, &mut live, out, turns) {
-        ServeEnd::End => Ok(()),
+        ServeEnd::End => Ok(left(number, live, crash)?),
         ServeEnd::WriteFault => Err(Status::WriteFault),
         ServeEnd::NoMemory => Err(Status::NoMemory),
         ServeEnd::LinkFault => unreachable!(),
@@ -52,8 +54,7 @@ fn replay_life<O: Sink>(
     }
 }
 
-/// Lives the lives of a script, and writes their lines. So far a script has one.
-#[tactic(auto, using(crate::proofs::OneLife::lived_one, crate::proofs::OneLife::front_of_number, crate::proofs::OneLife::front_of_one))]
+/// Lives the lives of a script, and writes their lines.
 pub fn replay_lives<O: Sink>(
     alloc: Global,
     managed: &[Managed],
@@ -72,15 +73,14 @@ pub fn replay_lives<O: Sink>(
         conf: _,
         ifaces,
         rows,
+        files,
         fails,
-        mut lives,
+        lives,
     } = script;
-    match lives.pop() {
-        Some(life) => {
-            begin_life(alloc, 1, out)?;
-            replay_life(alloc, managed, &ifaces, rows, &fails, life, out)?;
-            Ok(())
-        }
-        None => Ok(()),
+    let sends = numbers_of(alloc, FailDevice::Link, &fails)?;
+    let mut between = at_first(alloc, rows, files, &fails)?;
+    'lives: for life in lives {
+        between = replay_life(alloc, managed, &ifaces, &sends, between, life, out)?;
     }
+    Ok(())
 }

@@ -33,7 +33,7 @@ fn write_transcript<O: Sink>(alloc: Global, settled: Settled, out: &mut O) -> Re
 }
 
 /// Replays the script that the input spells, and writes its transcript.
-#[tactic(auto, using(crate::proofs::Refusals::settled_fit, crate::proofs::Refusals::refused_answer, crate::proofs::Endings::stopped_answer, crate::proofs::HostRightly::holds_rightly))]
+#[tactic(auto, using(crate::proofs::Refusals::settled_fit, crate::proofs::Refusals::refused_answer, crate::proofs::Endings::stopped_answer, crate::proofs::HostRightly::holds_rightly, crate::proofs::FilesRightly::keeps_rightly))]
 pub fn replay<I: Source, O: Sink>(alloc: Global, input: &mut I, out: &mut O) -> Result<(), Status>
     ensures ok { IfOk result (λ _. IsReplayed (I.left input.old) (O.written out.old) (O.written out.new) × (I.faults input.old ≤ I.faults input.new) × (O.faults out.old ≤ O.faults out.new)) }
     ensures err { IfErr result (λ status. IsAnswer status (I.left input.old) (O.written out.old) (O.written out.new)) }

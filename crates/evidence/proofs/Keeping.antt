@@ -1,8 +1,9 @@
 -- What an interface carries of the turns shown of it, and that each turn keeps it.
-use Rattle.std.proofs.Common.{◌≡◌, ℕ, ◌<◌, ◌^◌, Bool, true, false, not, ◌&&◌, ◌||◌, List, [], ◌∷◌, ◌++◌, Option, Some, None, refl, sym, ◌∙◌, ap, subst, append_assoc, append-nil, arith}
+use Rattle.std.proofs.Common.{◌≡◌, ℕ, ◌+◌, ◌*◌, nat_eq, ◌<◌, ◌^◌, Bool, true, false, not, ◌&&◌, ◌||◌, List, [], ◌∷◌, ◌++◌, Option, Some, None, refl, sym, ◌∙◌, ap, subst, append_assoc, append-nil, arith}
 use Rattle.std.proofs.lemmas.Bool.Decides.{nat_tests}
-use Rattle.std.specs.Prelude.{◌≢◌, ◌==◌, if◌then◌else◌}
-use Rattle.net_types.proofs.CaseLaws.{split}
+use Rattle.std.specs.Prelude.{◌≢◌, ◌==◌, if◌then◌else◌, option_map, IfSome}
+use Rattle.machine.specs.Moment.{is_due}
+use Rattle.net_types.proofs.CaseLaws.{gated, split}
 use Rattle.net_types.specs.declared.address.Mac.{Mac}
 use Rattle.net_types.specs.declared.interface.IfIndex.{IfIndex}
 use Rattle.frame_link.specs.declared.arp.ArpView.{ArpView}
@@ -10,12 +11,25 @@ use Rattle.ipv4ll.specs.declared.link_local.State.{State}
 use Rattle.ipv4ll.specs.declared.link_local.State.TheVariants.{Off}
 use Rattle.ipv4ll.specs.Table.{ll_tick, ll_hears}
 use Rattle.v4_frames.specs.Heard.{HeardMessage, heard4_in}
+use Rattle.lease_text.specs.Bounds.{FitsLease}
+use Rattle.lease_text.specs.Leases.{LeaseContent, terms_of}
 use Rattle.v4_client.specs.declared.states.Carrier.TheVariants.{Up}
+use Rattle.lease_text.specs.declared.lease.Terms4.{Terms4}
+use Rattle.v4_client.specs.declared.moments.Backoff.TheVariants.{Four}
+use Rattle.v4_client.specs.declared.moments.TheConstants.{SECOND}
+use Rattle.v4_client.specs.declared.states.News4.{News4}
+use Rattle.v4_client.specs.declared.states.News4.TheVariants as news
 use Rattle.v4_client.specs.declared.states.Step4.{Step4}
 use Rattle.v4_client.specs.declared.states.Tell.TheVariants.{Server}
+use Rattle.v4_client.specs.declared.states.Turn4.{Turn4}
 use Rattle.v4_client.specs.Calls.{arp_step, carrier_step, heard_step, rebind_step}
+use Rattle.v4_client.specs.Clients.{kept_terms, turn_of}
+use Rattle.v4_client.specs.Inputs.{begins}
+use Rattle.v4_client.specs.Moments.{expiry}
+use Rattle.v4_client.specs.Steps.{to_init, new_exchange, rebooting}
 use Rattle.v4_client.specs.History.{tick_step}
 use Rattle.v4_client.specs.Messages.{Arrival}
+use Rattle.v4_client.specs.Sound.{FitsBegin}
 use Rattle.world.specs.declared.wakes.Event.{Event}
 use Rattle.world.specs.declared.wakes.Event.TheVariants.{Frame, Carrier, Duplicate, Release, Rebind, Stop, Quiet, End}
 use Rattle.settings.specs.declared.interfaces.Managed.{Managed}
@@ -25,6 +39,7 @@ use Rattle.client_model.specs.declared.steps.Said.{Said}
 use Rattle.client_model.specs.ClientSettings.{ask_of, runs_dhcp4}
 use Rattle.client_model.specs.Dhcp4Steps.{arms, arrival_at, dhcp4_packet, dhcp4_step, dhcp4_takes, followed, holds_lease, said_in}
 use Rattle.client_model.specs.IfaceSteps.{IfaceStep, index_of, silent, then_step}
+use Rattle.client_model.specs.KeptLeases.{Beginning}
 use Rattle.client_model.specs.LocalSteps.{armed, local_hears}
 use Rattle.client_model.specs.Interfaces.{carried, carrier_comes, carrier_goes, machines_rebind, halted, released, resting, restarted, ticked, told_at_stop, unsent_in}
 use Rattle.client_model.specs.IfaceTurns.{arp_heard, hears_either, hears_message, hears_packet, input_step, taken}
@@ -435,22 +450,37 @@ module _ (site : Site) (clean : Type 0) (salt : ℕ) (e : Entry) (early : e.mome
 
 -- ---- the opening
 
-rests_sane : (m : Managed) (up : Bool) → Sane m (record (resting m) { up = up })
-rests_sane m up = record {
+-- the lease that was kept has an address that a host may have
+kept_begins : (kept : Option LeaseContent) → IfSome kept FitsLease → FitsBegin (option_map terms_of kept)
+kept_begins None within = tt
+kept_begins (Some lease) within = within.terms
+
+rests_sane : (b : Beginning) → IfSome b.kept FitsLease → (up : Bool) → Sane b.managed (record (resting b) { up = up })
+rests_sane b within up = record {
   same = refl;
   settings = refl;
-  hosts = record { state = tt; kept = tt; held = tt };
+  hosts = record { state = tt; kept = kept_begins b.kept within; held = tt };
   off = λ out. record { link_local = refl; dhcp4 = refl };
   without = λ none. refl;
   aside = λ held. refl;
 }
 
+-- a client that begins has no news, whatever was kept
+begins_quiet : (turn : Turn4) (kept : Option Terms4) → (begins turn kept).news ≡ news.Nothing
+begins_quiet turn None = refl
+begins_quiet turn (Some terms) =
+    gated (λ (step : Step4). step.news ≡ news.Nothing) (is_due (expiry terms) turn.at || nat_eq turn.site.reboot 0) (to_init turn)
+    (rebooting turn (new_exchange turn terms.net.ip) Four (turn.at + SECOND * turn.site.reboot)) refl refl
+
 -- after what an opening shows, which is a turn without input
-pub opens_keeps : (own : List Mac) (clean : Type 0) (at salt : ℕ) → at < 10 ^ 15 → (offers : List Offer) (m : Managed) (up : Bool)
-    → Keeps (at_site own up m) clean (if up then carrier_comes at salt (resting m) else silent (resting m)).iface (entry at Quiet [] offers ∷ [])
-opens_keeps own clean at salt early offers m true =
+pub opens_keeps : (own : List Mac) (clean : Type 0) (at salt : ℕ) → at < 10 ^ 15 → (offers : List Offer) (b : Beginning) → IfSome b.kept FitsLease → (up : Bool)
+    → Keeps (at_site own up b.managed) clean (if up then carrier_comes at salt (resting b) else silent (resting b)).iface (entry at Quiet [] offers ∷ [])
+opens_keeps own clean at salt early offers b within true =
     arms_keeps (at_site own true m) clean at salt early [] offers [] turns first.iface (on_first (runs_dhcp4 m.conf)) (begun (runs_dhcp4 m.conf) refl)
   where
+    m : Managed
+    m = b.managed
+
     site : Site
     site = at_site own true m
 
@@ -458,7 +488,7 @@ opens_keeps own clean at salt early offers m true =
     turns = entry at Quiet [] offers ∷ []
 
     lit : Iface
-    lit = record (resting m) { up = true }
+    lit = record (resting b) { up = true }
 
     step : Step4
     step = carrier_step Up at salt lit.dhcp4
@@ -475,11 +505,12 @@ opens_keeps own clean at salt early offers m true =
 
     begun : (runs : Bool) → runs_dhcp4 m.conf ≡ runs → Keeps site clean (first_when runs).iface turns
     begun true runs = record {
-      sane = step_sane site at lit step (begin_goes m lit (rests_sane m true) at salt early refl runs) (rests_sane m true);
+      sane = step_sane site at lit step (begin_goes m lit (rests_sane b within true) at salt early refl runs) (rests_sane b within true);
       stopped = refl;
       carrier = λ _. refl;
-      bears = tt;
+      bears = off_bears site clean (followed m.conf at (holds_lease lit) step.news lit.local).state turns
+          (ap (λ (n : News4). (followed m.conf at (holds_lease lit) n lit.local).state) (begins_quiet (turn_of at salt lit.dhcp4) (kept_terms lit.dhcp4)));
     }
-    begun false runs = record { sane = rests_sane m true; stopped = refl; carrier = λ _. refl; bears = tt }
-opens_keeps own clean at salt early offers m false =
-    record { sane = rests_sane m false; stopped = refl; carrier = λ _. refl; bears = tt }
+    begun false runs = record { sane = rests_sane b within true; stopped = refl; carrier = λ _. refl; bears = tt }
+opens_keeps own clean at salt early offers b within false =
+    record { sane = rests_sane b within false; stopped = refl; carrier = λ _. refl; bears = tt }

@@ -16,14 +16,18 @@ use Rattle.client_model.specs.IfaceSteps.{IfaceStep, index_of}
 use Rattle.client_model.specs.Interfaces.{opened, resting}
 use Rattle.client_model.specs.IfaceTurns.{iface_turned}
 use Rattle.client_model.specs.Clients.{Client, ClientStep}
-use Rattle.client_model.proofs.SameInterfaces.{managed_in, IsSame, opened_is_same, turned_is_same, all_turned, all_opened}
+use Rattle.client_model.specs.KeptLeases.{Beginning}
+use Rattle.client_model.proofs.SameInterfaces.{managed_in, IsSame, opened_is_same, turned_is_same, all_turned}
+use Rattle.turn_model.specs.LeaseFiles.{beginning_of}
 use Rattle.turn_model.specs.Turns.{Life, turn_moment, input_of, step_of}
 use Rattle.turn_model.specs.Opening.{opening_step}
 use Rattle.turn_model.specs.Lives.{OpeningMet, IsOpening, Met, life_after}
+use Rattle.turn_model.proofs.HostInLifeTurns.{opening_managed}
+use Rattle.turn_model.proofs.Loading.{KeepsFitting, beginnings_fit}
 use Rattle.evidence_words.specs.Entries.{Offer, Entry, offers_on, entry_of, opening_entry, shown_after}
 use Rattle.evidence.specs.Laws.{AreNumbered, AreMade}
 use Rattle.evidence_words.proofs.Carrying.{Relation, IsCarried, at_site, entry}
-use Rattle.evidence_words.proofs.Made.{all_offers, marked_all, Shown, turn_shows, opening_shows}
+use Rattle.evidence_words.proofs.Made.{all_offers, marked_all, Shown, turn_shows, OpeningShown, opening_shows}
 use Rattle.evidence_words.proofs.Offers.{Offered, number_of, offered}
 use Rattle.evidence.proofs.Keeping.{Keeps, opens_keeps, turn_keeps}
 
@@ -137,24 +141,25 @@ module _ (Carries : Relation) (carried : IsCarried Carries) (own : List Mac) (up
   abbrev OpenedBy : IfaceStep → Type 0
   OpenedBy step = OpenedFor step step.iface.managed step.iface.dhcp4.settings.ask
 
-  one_opened : (m : Managed) → OpenedBy (opened up at salt m) → KeptOne Carries carried started own unsent (opening_shown ∷ []) (opened up at salt m).iface
-  one_opened m shows =
-      let step : IfaceStep = opened up at salt m in
-      let same : IsSame (resting m) step.iface = opened_is_same up at salt m in
+  one_opened : (b : Beginning) → KeepsFitting b → OpenedBy (opened up at salt b) → KeptOne Carries carried started own unsent (opening_shown ∷ []) (opened up at salt b).iface
+  one_opened b within shows =
+      let m : Managed = b.managed in
+      let step : IfaceStep = opened up at salt b in
+      let same : IsSame (resting b) step.iface = opened_is_same up at salt b in
       let settings : step.iface.dhcp4.settings ≡ settings_of step.iface.managed = same.settings ∙ ap settings_of (sym same.managed) in
       record {
         settings = settings;
         carries = subst (λ n. OpenedFor step n (ask_of n)
             → Carries (at_site own (started (number_of n)) n) (is_in unsent (number_of n) ≡ false) step.iface (opening_shown ∷ []))
             (sym same.managed)
-            (carried.opens own (is_in unsent (number_of m) ≡ false) at salt early offers m (started (number_of m)))
+            (carried.opens own (is_in unsent (number_of m) ≡ false) at salt early offers b within (started (number_of m)))
             (subst (λ (a : AskContent). OpenedFor step step.iface.managed a) (ap (λ (set : SettingsContent). set.ask) settings) shows);
       }
 
-  each_opened : (managed : List Managed) → AllByRecursion OpenedBy (map (opened up at salt) managed)
-      → AllByRecursion (KeptOne Carries carried started own unsent (opening_shown ∷ [])) (map (λ (step : IfaceStep). step.iface) (map (opened up at salt) managed))
-  each_opened [] shows = tt
-  each_opened (m ∷ managed) shows = (one_opened m shows.0, each_opened managed shows.1)
+  each_opened : (beginnings : List Beginning) → AllByRecursion KeepsFitting beginnings → AllByRecursion OpenedBy (map (opened up at salt) beginnings)
+      → AllByRecursion (KeptOne Carries carried started own unsent (opening_shown ∷ [])) (map (λ (step : IfaceStep). step.iface) (map (opened up at salt) beginnings))
+  each_opened [] within shows = tt
+  each_opened (b ∷ beginnings) within shows = (one_opened b within.0 shows.0, each_opened beginnings within.1 shows.1)
 
 first_early : (at now : ℕ) → now ≡ moment_of at → now < 10 ^ 15
 first_early at now e = omega arith
@@ -163,11 +168,13 @@ pub opening_kept : (Carries : Relation) (carried : IsCarried Carries) (managed :
     → IsOpening managed specs opening
     → KeptAfter Carries carried (λ index. is_up opening.begin.up index) managed opening.life (opening_entry opening ∷ [])
 opening_kept Carries carried managed numbered specs opening is =
-    let made = opening_shows managed specs opening.begin opening.calls opening.life is in
-    let step : ClientStep = opening_step managed specs opening.begin in
+    let read : OpeningShown managed specs opening.begin opening.calls opening.life = opening_shows managed specs opening.begin opening.calls opening.life is in
+    let step : ClientStep = opening_step read.files specs opening.begin in
+    let made : Shown step (moment_of opening.begin.at) opening.calls opening.life = read.shown in
+    let beginnings : List Beginning = map beginning_of read.files in
     let at : ℕ = moment_of opening.begin.at in
     let unsent : ℕ = marked_all step.sends made.taken 0 in
-    let same : managed_in step.client.ifaces ≡ managed = all_opened opening.begin.up at opening.begin.salt managed in
+    let same : managed_in step.client.ifaces ≡ managed = opening_managed managed specs opening.begin read.reads read.files read.makes in
     record {
       of_managed = ap (λ (client : Client). managed_in client.ifaces) made.client ∙ same;
       early = first_early opening.begin.at opening.life.now made.now;
@@ -175,14 +182,14 @@ opening_kept Carries carried managed numbered specs opening is =
           (opening_entry opening) (entry at Quiet [] (all_offers step.sends made.taken)) [] made.client made.unsent
           (λ i. entry (made.now i) Quiet [] (made.offers i))
           (each_opened Carries carried step.client.own opening.begin.up at opening.begin.salt unsent (first_early opening.begin.at at refl)
-          (all_offers step.sends made.taken) managed
-          (offered (map (opened opening.begin.up at opening.begin.salt) managed) made.taken 0 made.answered
+          (all_offers step.sends made.taken) beginnings (beginnings_fit read.files)
+          (offered (map (opened opening.begin.up at opening.begin.salt) beginnings) made.taken 0 made.answered
           (subst (λ ms. IsDistinct nat_eq (map number_of ms)) (sym same) numbered)));
     }
 
 pub opened_own : (managed : List Managed) (specs : List IfSpec) (opening : OpeningMet) → IsOpening managed specs opening
     → opening.life.client.own ≡ map (λ spec. spec.mac) specs
-opened_own managed specs opening is = ap (λ (client : Client). client.own) (opening_shows managed specs opening.begin opening.calls opening.life is).client
+opened_own managed specs opening is = ap (λ (client : Client). client.own) (opening_shows managed specs opening.begin opening.calls opening.life is).shown.client
 
 -- ---- what an interface carries of static lines and of link-local addresses
 
@@ -191,6 +198,6 @@ KeepsRelation site clean f past = Keeps site clean f past
 
 pub keeps_carried : IsCarried KeepsRelation
 keeps_carried = record {
-  opens = λ own clean at salt early offers m up shows. opens_keeps own clean at salt early offers m up;
+  opens = λ own clean at salt early offers b within up shows. opens_keeps own clean at salt early offers b within up;
   turns = λ site clean salt e early past unsent f same k shows. turn_keeps site clean salt e early past unsent f k shows;
 }

@@ -1,7 +1,8 @@
 -- What it is that something is carried of an interface over the turns of its life.
 use Rattle.std.proofs.Common.{◌≡◌, ℕ, ◌<◌, ◌^◌, Bool, false, List, [], ◌∷◌}
-use Rattle.std.specs.Prelude.{if◌then◌else◌}
+use Rattle.std.specs.Prelude.{IfSome, if◌then◌else◌}
 use Rattle.net_types.specs.declared.address.Mac.{Mac}
+use Rattle.lease_text.specs.Bounds.{FitsLease}
 use Rattle.world.specs.declared.wakes.Event.{Event}
 use Rattle.world.specs.declared.wakes.Event.TheVariants.{Quiet}
 use Rattle.settings.specs.declared.interfaces.Managed.{Managed}
@@ -11,6 +12,7 @@ use Rattle.client_model.specs.declared.steps.Said.{Said}
 use Rattle.client_model.specs.ClientSettings.{ask_of}
 use Rattle.client_model.specs.IfaceSteps.{IfaceStep, index_of, silent}
 use Rattle.client_model.specs.Interfaces.{carrier_comes, resting}
+use Rattle.client_model.specs.KeptLeases.{Beginning}
 use Rattle.client_model.specs.IfaceTurns.{iface_turned}
 use Rattle.evidence_words.specs.Entries.{Offer, Entry, offers_on}
 use Rattle.evidence_words.specs.Inputs.{Site, index_at}
@@ -26,8 +28,8 @@ entry at event bytes offers = record { moment = at; event = event; bytes = bytes
 abbrev pub Relation : Type 1
 Relation = Site → (clean : Type 0) → Iface → List Entry → Type 0
 
-abbrev pub opened_when : (up : Bool) → (at salt : ℕ) → Managed → IfaceStep
-opened_when up at salt m = if up then carrier_comes at salt (resting m) else silent (resting m)
+abbrev pub opened_when : (up : Bool) → (at salt : ℕ) → Beginning → IfaceStep
+opened_when up at salt b = if up then carrier_comes at salt (resting b) else silent (resting b)
 
 abbrev pub turned_by : Site → (salt unsent : ℕ) → Entry → Iface → IfaceStep
 turned_by site salt unsent e f =
@@ -37,11 +39,11 @@ turned_by site salt unsent e f =
 abbrev pub Shows : Site → (clean : Type 0) → Entry → List Said → Type 0
 Shows site clean e said = Offered site.managed.spec (ask_of site.managed) clean said (offers_on (index_at site) e.offers)
 
--- an opening begins it, and each turn keeps it
+-- an opening begins it, whatever lease was kept, and each turn keeps it
 pub record IsCarried (Carries : Relation) : Type 1 where
-  pub opens : (own : List Mac) (clean : Type 0) (at salt : ℕ) → at < 10 ^ 15 → (offers : List Offer) (m : Managed) (up : Bool)
-      → Shows (at_site own up m) clean (entry at Quiet [] offers) (opened_when up at salt m).said
-      → Carries (at_site own up m) clean (opened_when up at salt m).iface (entry at Quiet [] offers ∷ [])
+  pub opens : (own : List Mac) (clean : Type 0) (at salt : ℕ) → at < 10 ^ 15 → (offers : List Offer) (b : Beginning) → IfSome b.kept FitsLease → (up : Bool)
+      → Shows (at_site own up b.managed) clean (entry at Quiet [] offers) (opened_when up at salt b).said
+      → Carries (at_site own up b.managed) clean (opened_when up at salt b).iface (entry at Quiet [] offers ∷ [])
   pub turns : (site : Site) (clean : Type 0) (salt : ℕ) (e : Entry) → e.moment < 10 ^ 15 → (past : List Entry) (unsent : ℕ) (f : Iface)
       → f.managed ≡ site.managed → Carries site (is_in unsent (index_of f) ≡ false) f past
       → Shows site clean e (turned_by site salt unsent e f).said → Carries site clean (turned_by site salt unsent e f).iface (e ∷ past)

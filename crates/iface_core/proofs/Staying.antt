@@ -24,7 +24,6 @@ use Rattle.ipv4ll.proofs.Chosen.{step_in, InState}
 use Rattle.net_types.proofs.CaseLaws.{gated}
 use Rattle.world.specs.declared.wakes.Event.{Event}
 use Rattle.world.specs.declared.wakes.Event.TheVariants.{Frame, Carrier, Duplicate, Release, Rebind, Stop, Quiet, End}
-use Rattle.settings.specs.declared.interfaces.Managed.{Managed}
 use Rattle.settings.specs.Fitting.{FitsManaged}
 use Rattle.script_model.specs.IfaceSets.{is_up, is_in}
 use Rattle.client_model.specs.declared.interfaces.Iface.{Iface}
@@ -34,7 +33,8 @@ use Rattle.client_model.specs.LocalSteps.{armed, armed_for_lease, chooses_local,
 use Rattle.client_model.specs.Dhcp4Steps.{arms, arrival_at, begin_dhcp4, dhcp4_packet, dhcp4_step, followed, holds_lease, rebind_dhcp4, tick_dhcp4}
 use Rattle.client_model.specs.Interfaces.{resting, begins, machines_rebind, carrier_comes, carrier_goes, opened, restarted, unsent_in, ticked, carried, released, rebound, halted}
 use Rattle.client_model.specs.IfaceTurns.{Turn, hears, hears_either, hears_message, hears_packet, arp_heard, taken, input_step, iface_turned}
-use Rattle.client_model.specs.Fitting.{FitsIface}
+use Rattle.client_model.specs.Fitting.{FitsBeginning, FitsIface}
+use Rattle.client_model.specs.KeptLeases.{Beginning}
 
 pub record Stays (old new : Iface) : Type 0 where
   pub managed : new.managed ≡ old.managed
@@ -185,9 +185,9 @@ turn_stays own turn iface =
 pub stays_fit : (old new : Iface) → Stays old new → FitsIface old → FitsIface new
 stays_fit old new stays fits = record { managed = subst FitsManaged (sym stays.managed) fits.managed; local = stays.local fits.local }
 
-pub opened_fits : (up at salt : ℕ) (managed : Managed) → FitsManaged managed → FitsIface (opened up at salt managed).iface
-opened_fits up at salt managed fits =
-    stays_fit (resting managed) (opened up at salt managed).iface
-    (gated (StepStays (resting managed)) (is_up up managed.spec.index.number) (carrier_comes at salt (resting managed)) (silent (resting managed))
-    (comes_stays at salt (resting managed)) (itself (resting managed)))
-    (record { managed = fits; local = tt })
+pub opened_fits : (up at salt : ℕ) (beginning : Beginning) → FitsBeginning beginning → FitsIface (opened up at salt beginning).iface
+opened_fits up at salt beginning fits =
+    stays_fit (resting beginning) (opened up at salt beginning).iface
+    (gated (StepStays (resting beginning)) (is_up up beginning.managed.spec.index.number) (carrier_comes at salt (resting beginning)) (silent (resting beginning))
+    (comes_stays at salt (resting beginning)) (itself (resting beginning)))
+    (record { managed = fits.managed; local = tt })

@@ -1,6 +1,8 @@
 //! The DHCPv4 client of an interface, and what link-local makes of its news.
-ghost use Rattle.std.specs.Prelude.{◌≡◌, ◌<◌, ◌^◌, None, true, is_some, IfOk, OnOk};
+ghost use Rattle.std.specs.Prelude.{◌≡◌, ◌<◌, ◌^◌, true, is_some, option_map, IfOk, IfSome, OnOk};
 ghost use Rattle.net_types.specs.NameText.{FitsName};
+ghost use Rattle.lease_text.specs.Bounds.{FitsLease};
+ghost use Rattle.lease_text.specs.Leases.{lease_content};
 ghost use Rattle.machine.specs.Moment.{is_due};
 ghost use Rattle.v4_frames.specs.Heard.{heard_shown};
 ghost use Rattle.v4_message.specs.Requests.{AskFits, ask_content};
@@ -15,6 +17,7 @@ use crate::local::{arm, drop_local};
 use crate::outs::Outs;
 use client_model::{ETHERNET, Iface, WANTED_CODES};
 use frame_link::ArpView;
+use lease_text::Lease4;
 use machine::Machine;
 use net_types::{Mac, NoMemory};
 use settings::{IfConf, Managed};
@@ -66,13 +69,18 @@ fn settings_of(alloc: Global, managed: &Managed) -> Result<Set4, AllocError>
     })
 }
 
-/// The client of an interface, off, with no lease kept.
-pub fn client_of(alloc: Global, managed: &Managed) -> Result<Client4, AllocError>
-    requires { FitsName managed.now.spec.name }
-    ensures { IfOk result (λ client. client ≡ client_made (settings_of managed.now) None) }
+/// The client of an interface, off, with the lease that was kept before.
+pub fn client_of(
+    alloc: Global,
+    managed: &Managed,
+    kept: Option<Lease4>,
+) -> Result<Client4, AllocError>
+    requires name { FitsName managed.now.spec.name }
+    requires kept { IfSome (option_map lease_content kept) FitsLease }
+    ensures { IfOk result (λ client. client ≡ client_made (settings_of managed.now) (option_map lease_content kept)) }
 {
     let set = settings_of(alloc, managed)?;
-    Ok(client4_new(alloc, set, None))
+    Ok(client4_new(alloc, set, kept))
 }
 
 /// Whether a client holds a lease.

@@ -1,6 +1,5 @@
 //! A managed interface: how it opens, its carrier, and what it is told.
 ghost use Rattle.std.specs.Prelude.{◌≡◌, ◌<◌, ◌^◌, IfOk, IfSome, OnOk, option_map};
-ghost use Rattle.net_types.specs.NameText.{FitsName};
 ghost use Rattle.lease_text.specs.Bounds.{FitsLease};
 ghost use Rattle.lease_text.specs.Leases.{lease_content};
 ghost use Rattle.world.specs.Rows.{IsInterface};
@@ -8,9 +7,12 @@ ghost use Rattle.ipv4ll.specs.Table.{held_in};
 ghost use Rattle.v4_client.specs.Clients.{held_of};
 ghost use Rattle.v4_client.specs.Moments.{earlier};
 ghost use Rattle.script_model.specs.IfaceSets.{is_in};
+ghost use Rattle.client_model.specs.Fitting.{FitsBeginning};
 ghost use Rattle.client_model.specs.Interfaces as run;
+ghost use Rattle.iface_core.specs.Beginnings.{beginning_of};
 ghost use Rattle.iface_core.specs.Outcomes.{Goes, asked_in};
 
+use crate::beginnings::Beginning;
 use crate::dhcp4::{begin_dhcp4, client_of, drop_dhcp4, rebind_dhcp4, stop_dhcp4};
 use crate::local::{arm_unless_held, drop_local};
 use crate::outs::Outs;
@@ -19,9 +21,9 @@ use ipv4ll::{ll_held, ll_off};
 use lease_text::Lease4;
 use machine::Machine;
 use net_types::{IfIndex, Ip4, NoMemory};
-use settings::{IfConf, Managed};
+use settings::IfConf;
 use std::alloc::{AllocError, Global};
-use v4_client::{Tell, held4};
+use v4_client::{Tell, held4, kept4};
 use world::Begin;
 
 /// Whether a set of interfaces has this one: bit `i - 1` is interface `i`.
@@ -32,35 +34,36 @@ pub fn contains(set: u64, index: IfIndex) -> bool
     (set >> (index.number - 1)) % 2 == 1
 }
 
-/// Opens a managed interface, as a life begins.
+/// Opens an interface, as a life begins.
 pub fn iface_open(
     alloc: Global,
-    managed: &Managed,
+    beginning: Beginning,
     begin: Begin,
     outs: &mut Outs,
 ) -> Result<Iface, NoMemory>
-    requires index { IsInterface managed.now.spec.index.number }
-    requires name { FitsName managed.now.spec.name }
+    requires fits { FitsBeginning (beginning_of beginning) }
     requires at { begin.at < 10 ^ 15 }
-    ensures { IfOk result (λ iface. Goes (run.opened begin.up begin.at begin.salt managed.now) iface (asked_in outs.old) (asked_in outs.new)) }
+    ensures { IfOk result (λ iface. Goes (run.opened begin.up begin.at begin.salt (beginning_of beginning)) iface (asked_in outs.old) (asked_in outs.new)) }
 {
-    let mut iface = rest(alloc, managed)?;
-    if contains(begin.up, managed.spec.index) {
+    let index = beginning.managed.spec.index;
+    let mut iface = rest(alloc, beginning)?;
+    if contains(begin.up, index) {
         gain_carrier(&mut iface, begin.at, begin.salt, outs)?;
     }
     Ok(iface)
 }
 
 /// An interface before its opening.
-fn rest(alloc: Global, managed: &Managed) -> Result<Iface, AllocError>
-    requires { FitsName managed.now.spec.name }
-    ensures { IfOk result (λ iface. iface ≡ run.resting managed.now) }
+fn rest(alloc: Global, beginning: Beginning) -> Result<Iface, AllocError>
+    requires { FitsBeginning (beginning_of beginning) }
+    ensures { IfOk result (λ iface. iface ≡ run.resting (beginning_of beginning)) }
 {
+    let Beginning { managed, kept } = beginning;
     Ok(Iface {
-        managed: *managed,
+        managed,
         up: false,
         stopped: false,
-        dhcp4: client_of(alloc, managed)?,
+        dhcp4: client_of(alloc, &managed, kept)?,
         local: ll_off(managed.spec.index),
     })
 }
@@ -234,4 +237,12 @@ pub fn iface_lease(iface: &Iface) -> Option<&Lease4>
     ensures fits { IfSome (option_map (λ lease. lease_content lease.now) result) FitsLease }
 {
     held4(&iface.dhcp4)
+}
+
+/// The DHCPv4 lease that the interface keeps for its next start, held or not.
+pub fn iface_kept(iface: &Iface) -> Option<&Lease4>
+    ensures value { option_map (λ lease. lease_content lease.now) result ≡ iface.now.dhcp4.kept }
+    ensures fits { IfSome (option_map (λ lease. lease_content lease.now) result) FitsLease }
+{
+    kept4(&iface.dhcp4)
 }

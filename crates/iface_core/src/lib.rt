@@ -3,6 +3,7 @@
 //! `iface_open` at the start of a life, then `iface_turn` in each turn. Moments are in milliseconds since 1970.
 #![tactic(auto)]
 
+mod beginnings;
 mod dhcp4;
 mod inputs;
 mod interfaces;
@@ -10,10 +11,11 @@ mod local;
 mod outs;
 mod turns;
 
+pub use beginnings::Beginning;
 pub use dhcp4::runs_dhcp4;
 pub use inputs::{Turn, TurnInput};
 pub use interfaces::{
-    contains, earlier_of, iface_due, iface_held, iface_lease, iface_open, machine_due,
+    contains, earlier_of, iface_due, iface_held, iface_kept, iface_lease, iface_open, machine_due,
 };
 pub use outs::{Outs, Sending};
 pub use turns::{iface_input, iface_tick, iface_turn, iface_unsent};

@@ -3,15 +3,16 @@ use Rattle.std.proofs.Common.{◌≡◌, ℕ, Bool, true, false, not, ◌||◌, 
 use Rattle.std.specs.List.{list_any}
 use Rattle.net_types.specs.declared.address.Mac.{Mac}
 use Rattle.net_types.specs.declared.interface.IfSpec.{IfSpec}
-use Rattle.settings.specs.Fitting.{FitsManaged}
 use Rattle.settings.specs.declared.interfaces.Managed.{Managed}
 use Rattle.script_model.specs.IfaceSets.{is_in, is_up}
 use Rattle.client_model.specs.declared.interfaces.Iface.{Iface}
 use Rattle.client_model.specs.declared.steps.Said.{Said}
 use Rattle.client_model.specs.ClientSettings.{ask_of}
 use Rattle.client_model.specs.Clients.{frame_of}
+use Rattle.client_model.specs.Fitting.{FitsBeginning}
 use Rattle.client_model.specs.IfaceSteps.{index_of}
 use Rattle.client_model.specs.IfaceTurns.{iface_turned}
+use Rattle.client_model.specs.KeptLeases.{Beginning}
 use Rattle.client_model.proofs.SameInterfaces.{opened_same, turned_same}
 use Rattle.v4_message.specs.Requests.{AskContent}
 use Rattle.evidence_words.specs.Entries.{Offer}
@@ -51,33 +52,36 @@ module _ (spec : IfSpec) (ask : AskContent) (clean : Type 0) where
       others true more h = h
       others false more h = absurd cc
 
-module _ (own : List Mac) (managed : Managed) (fits : FitsManaged managed) (opening : Opening) where
+module _ (own : List Mac) (beginning : Beginning) (fits : FitsBeginning beginning) (opening : Opening) where
+  abbrev managed : Managed
+  managed = beginning.managed
+
   abbrev site : Site
   site = site_of own managed opening
 
   abbrev iface : List Met → Iface
-  iface mets = iface_after own managed opening mets
+  iface mets = iface_after own beginning opening mets
 
   same_managed : (mets : List Met) → (iface mets).managed ≡ managed
-  same_managed [] = opened_same opening.up opening.at opening.salt managed
+  same_managed [] = opened_same opening.up opening.at opening.salt beginning
   same_managed (met ∷ mets) = turned_same own met.turn (iface mets) ∙ same_managed mets
 
   -- where no send of the newest turn failed
   abbrev Clean : List Met → Type 0
   Clean mets = failed_last site (shown opening mets) ≡ false
 
-  leased : (mets : List Met) → IsLived own managed opening mets → Leased site (Clean mets) (iface mets) (shown opening mets)
+  leased : (mets : List Met) → IsLived own beginning opening mets → Leased site (Clean mets) (iface mets) (shown opening mets)
   leased [] lived =
-      opens_leased own (Clean []) opening.at opening.salt lived.0 opening.offers managed fits (is_up opening.up managed.spec.index.number)
-      (offered managed.spec (ask_of managed) (Clean []) (opens managed opening).said (offers_at site (opening_entry opening)) lived.1 (λ k. k))
+      opens_leased own (Clean []) opening.at opening.salt lived.0 opening.offers beginning fits.managed fits.kept (is_up opening.up managed.spec.index.number)
+      (offered managed.spec (ask_of managed) (Clean []) (opens beginning opening).said (offers_at site (opening_entry opening)) lived.1 (λ k. k))
   leased (met ∷ mets) lived =
       let before : Leased site (is_in met.turn.unsent (index_of (iface mets)) ≡ false) (iface mets) (shown opening mets) =
       subst (λ (n : ℕ). Leased site (is_in met.turn.unsent n ≡ false) (iface mets) (shown opening mets)) (ap (λ (m : Managed). m.spec.index.number) (sym (same_managed mets)))
       (subst (λ (b : Bool). Leased site (b ≡ false) (iface mets) (shown opening mets)) (sym lived.2) (leased mets lived.4)) in
-      turn_leased site fits (Clean (met ∷ mets)) met.turn.salt (entry_of met) lived.0 lived.1 (shown opening mets) met.turn.unsent (iface mets) (same_managed mets) before
+      turn_leased site fits.managed (Clean (met ∷ mets)) met.turn.salt (entry_of met) lived.0 lived.1 (shown opening mets) met.turn.unsent (iface mets) (same_managed mets) before
       (offered managed.spec (ask_of managed) (Clean (met ∷ mets)) (iface_turned own met.turn (iface mets)).said (offers_at site (entry_of met)) lived.3 (λ k. k))
 
 pub held_leases_have_basis : HeldLeasesHaveBasis
-held_leases_have_basis own managed opening mets lease fits lived held =
-    lease_has_basis (site_of own managed opening) (failed_last (site_of own managed opening) (shown opening mets) ≡ false) (iface_after own managed opening mets)
-    (shown opening mets) lease (leased own managed fits opening mets lived) held
+held_leases_have_basis own beginning opening mets lease fits lived held =
+    lease_has_basis (site_of own beginning.managed opening) (failed_last (site_of own beginning.managed opening) (shown opening mets) ≡ false) (iface_after own beginning opening mets)
+    (shown opening mets) lease (leased own beginning fits opening mets lived) held

@@ -24,7 +24,7 @@ LeaseRelation site clean f past = FitsManaged site.managed → HearBytes past �
 
 pub lease_carried : IsCarried LeaseRelation
 lease_carried = record {
-  opens = λ own clean at salt early offers m up shows fits octets. opens_leased own clean at salt early offers m fits up shows;
+  opens = λ own clean at salt early offers b within up shows fits octets. opens_leased own clean at salt early offers b fits within up shows;
   turns = λ site clean salt e early past unsent f same before shows fits octets.
       turn_leased site fits clean salt e early octets.0 past unsent f same (before fits octets.1) shows;
 }

@@ -1,11 +1,13 @@
 -- Each turn of an interface, and its opening, keep what it carries for its lease.
-use Rattle.std.proofs.Common.{◌≡◌, ℕ, ◌<◌, ◌^◌, Bool, true, false, List, [], ◌∷◌, map, length, None, refl, sym, ap, subst, ◌∙◌, arith, lit<, if◌then◌else◌}
-use Rattle.std.specs.Prelude.{option_to_list}
+use Rattle.std.proofs.Common.{◌≡◌, ℕ, ◌<◌, ◌^◌, Bool, true, false, List, [], ◌∷◌, map, length, Option, refl, sym, ap, subst, ◌∙◌, arith, lit<, if◌then◌else◌}
+use Rattle.std.specs.Prelude.{IfSome, option_to_list}
 use Rattle.machine.specs.Moment.{is_due}
 use Rattle.net_types.specs.Marks.{AreBytes}
 use Rattle.net_types.specs.declared.address.Mac.{Mac}
 use Rattle.ipv4ll.specs.declared.link_local.LinkLocal.{LinkLocal}
 use Rattle.ipv4ll.specs.Table.{ll_tick, ll_restarts, off}
+use Rattle.lease_text.specs.Bounds.{FitsLease}
+use Rattle.lease_text.specs.Leases.{LeaseContent}
 use Rattle.v4_client.specs.declared.states.State4.{State4}
 use Rattle.v4_client.specs.declared.states.State4.TheVariants.{Off}
 use Rattle.v4_client.specs.declared.states.Step4.{Step4}
@@ -29,6 +31,7 @@ use Rattle.client_model.specs.ClientSettings.{ask_of, settings_of}
 use Rattle.client_model.specs.Dhcp4Steps.{dhcp4_step}
 use Rattle.client_model.specs.IfaceSteps.{IfaceStep, index_of, silent, then_step}
 use Rattle.client_model.specs.IfaceTurns.{input_step, iface_turned}
+use Rattle.client_model.specs.KeptLeases.{Beginning}
 use Rattle.client_model.specs.Interfaces.{resting, begins, carrier_comes, restarted, unsent_in, ticked}
 use Rattle.evidence_words.specs.Entries.{Entry, Offer, offers_on}
 use Rattle.evidence_words.specs.Inputs.{Site, index_at, offers_at, has_carrier, is_stopped}
@@ -111,12 +114,12 @@ module _ (site : Site) (fits : FitsManaged site.managed) (clean : Type 0) (salt 
 
 -- ---- the opening
 
-made_sound : (m : Managed) → FitsManaged m → IsSound (client_made (settings_of m) None)
-made_sound m fits = record {
+made_sound : (m : Managed) (kept : Option LeaseContent) → FitsManaged m → IfSome kept FitsLease → IsSound (client_made (settings_of m) kept)
+made_sound m kept fits within = record {
   name = fits.name;
   ask = record { client_id = client_id; vendor = lit< tt; host = lit< tt; list = lit< tt };
   state = tt;
-  kept = tt;
+  kept = within;
   held = tt;
   fresh = record { each = tt; rising = tt };
 }
@@ -124,7 +127,10 @@ made_sound m fits = record {
     client_id : length (1 ∷ m.spec.mac.bytes) < 256
     client_id = let six : length m.spec.mac.bytes ≡ 6 = fits.mac.six in omega arith
 
-module _ (own : List Mac) (clean : Type 0) (at salt : ℕ) (early : at < 10 ^ 15) (offers : List Offer) (m : Managed) (fits : FitsManaged m) where
+module _ (own : List Mac) (clean : Type 0) (at salt : ℕ) (early : at < 10 ^ 15) (offers : List Offer) (b : Beginning) (fits : FitsManaged b.managed) (within : IfSome b.kept FitsLease) where
+  abbrev m : Managed
+  m = b.managed
+
   abbrev site_at : Bool → Site
   site_at up = record { managed = m; own = own; up = up }
 
@@ -132,7 +138,7 @@ module _ (own : List Mac) (clean : Type 0) (at salt : ℕ) (early : at < 10 ^ 15
   opening = record { moment = at; event = Quiet; bytes = []; offers = offers }
 
   abbrev made : ClientContent
-  made = client_made (settings_of m) None
+  made = client_made (settings_of m) b.kept
 
   abbrev first : Step4
   first = rests (turn_of at salt made) Off
@@ -143,7 +149,7 @@ module _ (own : List Mac) (clean : Type 0) (at salt : ℕ) (early : at < 10 ^ 15
   made_amid : (up : Bool) → Amid (site_at up) clean opening [] first made
   made_amid up = record {
     settings = refl;
-    sound = made_sound m fits;
+    sound = made_sound m b.kept fits within;
     fields = tt;
     say = tt;
     watched = record { xid = tt; on = tt };
@@ -151,7 +157,7 @@ module _ (own : List Mac) (clean : Type 0) (at salt : ℕ) (early : at < 10 ^ 15
   }
 
   abbrev opened_when : Bool → IfaceStep
-  opened_when up = if up then carrier_comes at salt (resting m) else silent (resting m)
+  opened_when up = if up then carrier_comes at salt (resting b) else silent (resting b)
 
   pub opens_leased : (up : Bool) → Offered m.spec (ask_of m) clean (opened_when up).said (offers_on m.spec.index.number offers)
       → Leased (site_at up) clean (opened_when up).iface (opening ∷ [])

@@ -17,3 +17,4 @@ pub mod Leases
 mod HeldRuns
 pub mod SevenTurnsHeard
 pub mod Joining
+mod Beginnings

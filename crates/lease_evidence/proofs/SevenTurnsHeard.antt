@@ -31,7 +31,8 @@ use Rattle.client_model.specs.Interfaces.{ticked}
 use Rattle.evidence_words.specs.Entries.{Offer}
 use Rattle.evidence_words.specs.Inputs.{Site}
 use Rattle.lease_evidence.specs.HeldLeases.{site_of, iface_after, IsLived}
-use Rattle.lease_evidence.specs.SevenTurns.{client_mac, server_mac, server, granted, interface, reply_text, options_text, reply_frame, requests, discovers, opening, met, probes, announces, seven_turns, lease}
+use Rattle.client_model.specs.Fitting.{FitsBeginning}
+use Rattle.lease_evidence.specs.SevenTurns.{client_mac, server_mac, server, granted, interface, reply_text, options_text, reply_frame, requests, discovers, beginning, opening, met, probes, announces, seven_turns, lease}
 
 -- ---- the server's messages
 
@@ -109,7 +110,7 @@ site = site_of own interface opening
 
 -- the interface after the turn of its DISCOVER
 abbrev seeking : Iface
-seeking = iface_after own interface opening (met 1001 Quiet [] discovers ∷ [])
+seeking = iface_after own beginning opening (met 1001 Quiet [] discovers ∷ [])
 
 -- the turn of a frame
 abbrev hearing : ℕ → Iface → Option ArpView → Option HeardMessage → IfaceStep
@@ -148,7 +149,7 @@ third step = quiet_turn 4503 (second step).iface
 abbrev fourth : IfaceStep → IfaceStep
 fourth step = quiet_turn 6503 (third step).iface
 
-pub seven_hold : held_of (iface_after own interface opening seven_turns).dhcp4 ≡ Some lease
+pub seven_hold : held_of (iface_after own beginning opening seven_turns).dhcp4 ≡ Some lease
 unfolding count_leading_zeros
 seven_hold = ap (λ (step : IfaceStep). held_of (fourth step).iface.dhcp4) acked
 
@@ -173,7 +174,7 @@ said_after : (offers : List Offer) (next : IfaceStep → IfaceStep) → SaidBy o
     → SaidBy offers (next (iface_turned own (met 2500 (Frame 1 304) (reply_frame 5) []).turn (iface_turned own (met 2000 (Frame 1 304) (reply_frame 2) requests).turn seeking).iface))
 said_after offers next said = subst (λ (step : IfaceStep). SaidBy offers (next step)) (sym acked) said
 
-pub seven_lived : IsLived own interface opening seven_turns
+pub seven_lived : IsLived own beginning opening seven_turns
 unfolding count_leading_zeros
 seven_lived = (
   lit< tt,
@@ -221,3 +222,6 @@ interface_fits = record {
   mac = record { six = refl; range = all_bytes client_mac.bytes (all_small client_mac.bytes refl) };
   line = tt;
 }
+
+pub beginning_fits : FitsBeginning beginning
+beginning_fits = record { managed = interface_fits; kept = tt }

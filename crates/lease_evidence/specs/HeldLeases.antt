@@ -1,5 +1,5 @@
 -- That each lease which an interface holds has its basis, in the life of that interface alone.
-use Rattle.std.specs.Prelude.{◌≡◌, ℕ, ◌<◌, ◌^◌, Bool, false, not, List, [], ◌∷◌, map, Some}
+use Rattle.std.specs.Prelude.{◌≡◌, ℕ, ◌<◌, ◌^◌, Bool, false, not, List, [], ◌∷◌, map, Some, None}
 use Rattle.std.specs.List.{list_any}
 use Rattle.net_types.specs.Marks.{AreBytes}
 use Rattle.net_types.specs.declared.address.Mac.{Mac}
@@ -7,15 +7,17 @@ use Rattle.net_types.specs.declared.address.Net.TheVariants.{V4}
 use Rattle.lease_text.specs.Leases.{LeaseContent}
 use Rattle.v4_client.specs.Clients.{held_of}
 use Rattle.world.specs.declared.wakes.Event.TheVariants.{Quiet}
-use Rattle.settings.specs.Fitting.{FitsManaged}
 use Rattle.settings.specs.declared.interfaces.Managed.{Managed}
 use Rattle.script_model.specs.IfaceSets.{is_in, is_up}
 use Rattle.client_model.specs.declared.interfaces.Iface.{Iface}
 use Rattle.client_model.specs.ClientSettings.{ask_of}
 use Rattle.client_model.specs.Clients.{frame_of}
 use Rattle.client_model.specs.IfaceSteps.{IfaceStep}
+use Rattle.client_model.specs.Fitting.{FitsBeginning}
 use Rattle.client_model.specs.Interfaces.{opened}
+use Rattle.client_model.specs.KeptLeases.{Beginning}
 use Rattle.client_model.specs.IfaceTurns.{Turn, iface_turned}
+use Rattle.client_model.specs.WantedRows.{static_rows, iface_rows}
 use Rattle.evidence_words.specs.Entries.{Entry, Offer}
 use Rattle.evidence_words.specs.Inputs.{Site, offers_at}
 use Rattle.lease_evidence.specs.LeaseBasis.{LeaseBasis, now_in}
@@ -46,13 +48,14 @@ abbrev pub shown : Opening → List Met → List Entry
 shown opening [] = opening_entry opening ∷ []
 shown opening (met ∷ mets) = entry_of met ∷ shown opening mets
 
-abbrev pub opens : Managed → Opening → IfaceStep
-opens managed opening = opened opening.up opening.at opening.salt managed
+-- the step of the opening, whatever lease was kept
+abbrev pub opens : Beginning → Opening → IfaceStep
+opens beginning opening = opened opening.up opening.at opening.salt beginning
 
 -- the interface after the turns
-abbrev pub iface_after : List Mac → Managed → Opening → List Met → Iface
-iface_after own managed opening [] = (opens managed opening).iface
-iface_after own managed opening (met ∷ mets) = (iface_turned own met.turn (iface_after own managed opening mets)).iface
+abbrev pub iface_after : List Mac → Beginning → Opening → List Met → Iface
+iface_after own beginning opening [] = (opens beginning opening).iface
+iface_after own beginning opening (met ∷ mets) = (iface_turned own met.turn (iface_after own beginning opening mets)).iface
 
 -- the frames that are offered on the interface are those of what it says, in order
 abbrev pub IsSaid : Site → Entry → IfaceStep → Type 0
@@ -69,17 +72,24 @@ failed_last site (e ∷ past) = has_failed site e
 
 -- The opening and each turn offer what the interface says. A turn is told whether a send of the turn before failed, its moment
 -- is before 10^15, and what comes in are bytes.
-abbrev pub IsLived : List Mac → Managed → Opening → List Met → Type 0
-IsLived own managed opening [] =
-    (opening.at < 10 ^ 15) × IsSaid (site_of own managed opening) (opening_entry opening) (opens managed opening)
-IsLived own managed opening (met ∷ mets) =
+abbrev pub IsLived : List Mac → Beginning → Opening → List Met → Type 0
+IsLived own beginning opening [] =
+    (opening.at < 10 ^ 15) × IsSaid (site_of own beginning.managed opening) (opening_entry opening) (opens beginning opening)
+IsLived own beginning opening (met ∷ mets) =
+    let site = site_of own beginning.managed opening in
     (met.turn.at < 10 ^ 15) × AreBytes met.turn.bytes
-    × (is_in met.turn.unsent managed.spec.index.number ≡ failed_last (site_of own managed opening) (shown opening mets))
-    × IsSaid (site_of own managed opening) (entry_of met) (iface_turned own met.turn (iface_after own managed opening mets))
-    × IsLived own managed opening mets
+    × (is_in met.turn.unsent beginning.managed.spec.index.number ≡ failed_last site (shown opening mets))
+    × IsSaid site (entry_of met) (iface_turned own met.turn (iface_after own beginning opening mets))
+    × IsLived own beginning opening mets
 
--- Each lease that an interface holds after an opening and some turns has its basis in them.
+-- Each lease that an interface holds after an opening and some turns has its basis in them, whatever lease was kept before.
 abbrev pub HeldLeasesHaveBasis : Type 0
-HeldLeasesHaveBasis = (own : List Mac) (managed : Managed) (opening : Opening) (mets : List Met) (lease : LeaseContent)
-    → FitsManaged managed → IsLived own managed opening mets → held_of (iface_after own managed opening mets).dhcp4 ≡ Some lease
-    → LeaseBasis (site_of own managed opening) (V4 lease.net) (now_in (shown opening mets)) (shown opening mets)
+HeldLeasesHaveBasis = (own : List Mac) (beginning : Beginning) (opening : Opening) (mets : List Met) (lease : LeaseContent)
+    → FitsBeginning beginning → IsLived own beginning opening mets → held_of (iface_after own beginning opening mets).dhcp4 ≡ Some lease
+    → LeaseBasis (site_of own beginning.managed opening) (V4 lease.net) (now_in (shown opening mets)) (shown opening mets)
+
+-- After the opening an interface holds no lease, whatever was kept: its rows are those of a static line alone.
+pub record BeginsWithoutLease (beginning : Beginning) (opening : Opening) : Type 0 where
+  pub none_held : held_of (opens beginning opening).iface.dhcp4 ≡ None
+  pub static_rows_alone : iface_rows (opens beginning opening).iface
+      ≡ static_rows beginning.managed.spec.index (is_up opening.up beginning.managed.spec.index.number) beginning.managed.conf.line

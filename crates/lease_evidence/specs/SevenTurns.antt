@@ -14,6 +14,7 @@ use Rattle.client_model.specs.declared.steps.Said.TheVariants.{Dhcp4, Arp}
 use Rattle.arp_acd.specs.declared.detection.ArpSay.TheVariants.{Probe, Announce}
 use Rattle.client_model.specs.ClientSettings.{ask_of, site_of}
 use Rattle.client_model.specs.Clients.{frame_of}
+use Rattle.client_model.specs.KeptLeases.{Beginning}
 use Rattle.evidence_words.specs.Entries.{Offer}
 use Rattle.lease_evidence.specs.HeldLeases.{Opening, Met}
 
@@ -86,6 +87,10 @@ abbrev pub announces : List Offer
 announces = says (Arp (Announce granted))
 
 -- ---- its life
+
+-- no lease was kept
+abbrev pub beginning : Beginning
+beginning = record { managed = interface; kept = None }
 
 abbrev pub opening : Opening
 opening = record { up = 1; at = 1000; salt = 0; offers = [] }

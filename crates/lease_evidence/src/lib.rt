@@ -4,6 +4,6 @@
 mod laws;
 
 pub use laws::{
-    foreign_replies_give_nothing, held_leases_have_a_basis, leases_are_granted, leases_end,
-    seven_turns_grant_a_lease,
+    a_kept_lease_is_not_held_at_first, foreign_replies_give_nothing, held_leases_have_a_basis,
+    leases_are_granted, leases_end, seven_turns_grant_a_lease,
 };

@@ -1,6 +1,7 @@
 -- Lines, and the steps of a loop over lines of one kind.
 use Rattle.std.proofs.Common.{◌≡◌, ℕ, ◌<◌, Bool, true, false, not, cond, List, [], ◌∷◌, ◌++◌, map, length, Option, Some, None, option_map, option_and_then, refl, sym, ap, ◌∙◌, subst, arith, eqb, flat_map, codes}
 use Rattle.std.specs.List.{All, AllByRecursion, onto_first, join_with_byte}
+use Rattle.std.specs.Prelude.{IfSome}
 use Rattle.std.proofs.lemmas.Bool.{and_from, not_from_false, not-true, ne_eqb}
 use Rattle.std.proofs.lemmas.List.{append_assoc, append-nil}
 use Rattle.std.proofs.lemmas.List.Elements.{All-weaker}
@@ -8,12 +9,12 @@ use Rattle.std.proofs.lemmas.List.Sums.{AllPass-from_list_all}
 use Rattle.std.proofs.lemmas.List.Splits.{slice_split_at, length-slice_split, join_with_byte-slice_split}
 use Rattle.net_types.specs.Marks.{Lacks}
 use Rattle.net_types.specs.Cutting.{strip_word, split_at_byte, differ}
-use Rattle.net_types.proofs.ReadsLaws.{passed, some_same, split_whole, split_sound, strip_whole, strip_sound}
+use Rattle.net_types.proofs.ReadsLaws.{passed, mapped, some_same, split_whole, split_sound, strip_whole, strip_sound}
 use Rattle.net_types.proofs.ListLaws.{split_smaller}
 use Rattle.net_types.proofs.ChoiceLaws.{words_apart}
 use Rattle.net_types.specs.Reads.{Reads}
 use Rattle.script_model.specs.ScriptTexts.{ended}
-use Rattle.replay_text.specs.Blocks.{parts_of, line_after, words_at, Block, block_with, block_at, line_at, are_done}
+use Rattle.replay_text.specs.Blocks.{parts_of, line_after, words_at, Block, block_with, block_at, line_at, optional_with, optional_at, are_done}
 use Rattle.replay_text.specs.ScriptReading.{conf_at}
 
 -- ---- parts
@@ -104,6 +105,20 @@ line_none read word text e = go (parts_of text) refl
 pub line_some : {X : Type 0} (read : List ℕ → Option X) (word text words rest : List ℕ) → line_after word text ≡ Some (words, rest) → line_at word read (parts_of text) ≡ option_and_then (λ x. Some (x, parts_of rest)) (read words)
 line_some read word text words rest e =
     ap (line_at word read) (line_is word text words rest e).parts
+    ∙ rw (words_of_line word (word ++ words) rest, strip_whole word words) refl
+
+-- ---- a line that may stand there
+
+pub optional_none : {X : Type 0} (read : List ℕ → Option X) (word text : List ℕ) → line_after word text ≡ None → optional_at word read (parts_of text) ≡ Some (None, parts_of text)
+optional_none {X} read word text e = go (parts_of text) refl
+  where
+    go : (parts : List (List ℕ)) → parts_of text ≡ parts → optional_at word read parts ≡ Some (None, parts)
+    go [] is = refl
+    go (line ∷ parts) is = rw (no_line word text e line parts is) refl
+
+pub optional_some : {X : Type 0} (read : List ℕ → Option X) (word text words rest : List ℕ) → line_after word text ≡ Some (words, rest) → optional_at word read (parts_of text) ≡ option_map (λ x. (Some x, parts_of rest)) (read words)
+optional_some read word text words rest e =
+    ap (optional_at word read) (line_is word text words rest e).parts
     ∙ rw (words_of_line word (word ++ words) rest, strip_whole word words) refl
 
 -- ---- lines of one kind
@@ -215,7 +230,7 @@ words_before : (word line : List ℕ) (parts : List (List ℕ)) → (parts ≡ [
 words_before word line [] some = absurd (some refl)
 words_before word line (part ∷ parts) some = strip_whole word line
 
-stops_some : (word : List ℕ) (front rest : List (List ℕ)) → Stops word rest → front ++ rest ≡ [] → ⊥
+pub stops_some : (word : List ℕ) (front rest : List (List ℕ)) → Stops word rest → front ++ rest ≡ [] → ⊥
 stops_some word [] [] stops e = stops
 stops_some word [] (part ∷ parts) stops e = cc
 stops_some word (line ∷ front) rest stops e = cc
@@ -251,6 +266,39 @@ line_sound {text_of = text_of} {Fits = Fits} {read = read} word (line ∷ parts)
 
 pub line_whole : {X : Type 0} {text_of : X → List ℕ} {Fits : X → Type 0} {read : List ℕ → Option X} (word : List ℕ) (x : X) (rest : List (List ℕ)) → Reads text_of Fits read → Fits x → (rest ≡ [] → ⊥) → line_at word read ((word ++ text_of x) ∷ rest) ≡ Some (x, rest)
 line_whole {text_of = text_of} word x rest law fits some = rw (words_before word (text_of x) rest some, law.whole x fits) refl
+
+-- a line that may stand there, and what follows
+abbrev pub optional_parts : {X : Type 0} → (X → List ℕ) → List ℕ → Option X → List (List ℕ) → List (List ℕ)
+optional_parts text_of word None rest = rest
+optional_parts text_of word (Some x) rest = (word ++ text_of x) ∷ rest
+
+abbrev pub MayStand : {X : Type 0} → (X → List ℕ) → (X → Type 0) → List ℕ → List (List ℕ) → Option X × List (List ℕ) → Type 0
+MayStand text_of Fits word parts p = (parts ≡ optional_parts text_of word p.0 p.1) × IfSome p.0 Fits
+
+optional_step : {X : Type 0} {text_of : X → List ℕ} {Fits : X → Type 0} {read : List ℕ → Option X} (word line : List ℕ) (parts : List (List ℕ)) (p : Option X × List (List ℕ)) → Reads text_of Fits read → (o : Option (List ℕ)) → words_at word line parts ≡ o → optional_with read o line parts ≡ Some p → MayStand text_of Fits word (line ∷ parts) p
+optional_step {X} {text_of} {Fits} word line parts p law None was e =
+    let none : (None, line ∷ parts) ≡ p = some_same e in
+    subst (MayStand text_of Fits word (line ∷ parts)) none (refl, tt)
+optional_step {X} {text_of} {Fits} {read} word line parts p law (Some words) was e =
+    let m = mapped (λ (x : X). (Some x, parts)) (read words) p e in
+    let s = law.sound words m.value m.was in
+    let spelled : line ≡ word ++ text_of m.value = line_words word line parts words was ∙ ap (λ w. word ++ w) s.0 in
+    subst (MayStand text_of Fits word (line ∷ parts)) m.gives (ap (λ l. l ∷ parts) spelled, s.1)
+
+pub optional_sound : {X : Type 0} {text_of : X → List ℕ} {Fits : X → Type 0} {read : List ℕ → Option X} (word : List ℕ) (parts : List (List ℕ)) (p : Option X × List (List ℕ)) → Reads text_of Fits read → optional_at word read parts ≡ Some p → MayStand text_of Fits word parts p
+optional_sound {X} {text_of} {Fits} word [] p law e =
+    let none : (None, []) ≡ p = some_same e in
+    subst (MayStand text_of Fits word []) none (refl, tt)
+optional_sound word (line ∷ parts) p law e = optional_step word line parts p law (words_at word line parts) refl e
+
+pub optional_whole : {X : Type 0} {text_of : X → List ℕ} {Fits : X → Type 0} {read : List ℕ → Option X} (word : List ℕ) (o : Option X) (rest : List (List ℕ)) → Reads text_of Fits read → IfSome o Fits → Stops word rest → optional_at word read (optional_parts text_of word o rest) ≡ Some (o, rest)
+optional_whole word None [] law fits stops = absurd stops
+optional_whole word None (line ∷ parts) law fits stops = rw stops refl
+optional_whole {text_of = text_of} word (Some x) rest law fits stops = rw (words_before word (text_of x) rest (stops_some word [] rest stops), law.whole x fits) refl
+
+pub stops_optional : {X : Type 0} (word other : List ℕ) (text_of : X → List ℕ) (o : Option X) (rest : List (List ℕ)) → WordsApart word other → Stops word rest → Stops word (optional_parts text_of other o rest)
+stops_optional word other text_of None rest apart stops = stops
+stops_optional word other text_of (Some x) rest apart stops = stops_line word other (text_of x) rest apart
 
 -- the parts of lines that are written one after another
 pub parts_block : {X : Type 0} (text_of line_of : X → List ℕ) (xs : List X) (rest : List ℕ) → AllByRecursion (λ x. (text_of x ≡ line_of x) × Lacks 10 (line_of x)) xs → parts_of (flat_map (λ x. ended (text_of x)) xs ++ rest) ≡ map line_of xs ++ parts_of rest

@@ -4,4 +4,7 @@ pub mod ClockLaws
 pub mod TestLaws
 pub mod LineLaws
 pub mod CarrierLaws
+pub mod FileLaws
+pub mod CrashLaws
+pub mod LifeLaws
 pub mod ScriptLaws

@@ -84,8 +84,8 @@ fail_fits device n built fits = record { built = built; first = leb-true _ _ fit
 
 fail_chosen : (device : FailDevice) (n : ℕ) → FitsFail (failing device n) → Chosen devices fail_words (failing device n)
 fail_chosen Link n fits = part_chosen devices fail_words 0 (codes "link ") (failing Link) n call_reads refl refl (fits.bits, le-leb _ _ fits.first)
-fail_chosen Host n fits = part_chosen devices fail_words 1 (codes "host ") (failing Host) n call_reads refl refl (fits.bits, le-leb _ _ fits.first)
-fail_chosen Store n fits = absurd fits.built
+fail_chosen Store n fits = part_chosen devices fail_words 1 (codes "store ") (failing Store) n call_reads refl refl (fits.bits, le-leb _ _ fits.first)
+fail_chosen Host n fits = part_chosen devices fail_words 2 (codes "host ") (failing Host) n call_reads refl refl (fits.bits, le-leb _ _ fits.first)
 fail_chosen Hooks n fits = absurd fits.built
 
 pub fail_reads : Reads fail_words FitsFail fail_at
@@ -95,7 +95,10 @@ fail_reads = choose_reads devices refl sounds (λ fail fits. fail_chosen fail.de
     sounds : AllByRecursion (ChoiceSound fail_words FitsFail) devices
     sounds = (
       part_sound fail_words FitsFail (codes "link ") (failing Link) call_reads (λ n. refl) (λ n fits. fail_fits Link n tt fits),
-      (part_sound fail_words FitsFail (codes "host ") (failing Host) call_reads (λ n. refl) (λ n fits. fail_fits Host n tt fits), tt),
+      (
+        part_sound fail_words FitsFail (codes "store ") (failing Store) call_reads (λ n. refl) (λ n fits. fail_fits Store n tt fits),
+        (part_sound fail_words FitsFail (codes "host ") (failing Host) call_reads (λ n. refl) (λ n fits. fail_fits Host n tt fits), tt),
+      ),
     )
 
 pub fail_spelled : (fail : FailLine) → fail_text fail ≡ codes "fail " ++ fail_words fail

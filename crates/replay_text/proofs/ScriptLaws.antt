@@ -1,8 +1,8 @@
 -- Scripts: what is read is spelled so, and what is spelled so is read.
-use Rattle.std.proofs.Common.{◌≡◌, ℕ, ◌≤◌, true, ◌&&◌, List, [], ◌∷◌, ◌++◌, map, flat_map, length, Some, option_map, refl, sym, ap, ◌∙◌, subst, codes, arith}
+use Rattle.std.proofs.Common.{◌≡◌, ℕ, true, List, [], ◌∷◌, ◌++◌, map, flat_map, length, Some, refl, sym, ap, ◌∙◌, subst, codes}
 use Rattle.std.specs.List.{AllByRecursion, join_with_byte}
-use Rattle.std.proofs.lemmas.Bool.{and_parts, eqb-true, eq-eqb}
-use Rattle.std.proofs.lemmas.List.{append_assoc, append-nil}
+use Rattle.std.proofs.lemmas.Bool.{eqb-true, eq-eqb}
+use Rattle.std.proofs.lemmas.List.{append-nil}
 use Rattle.std.proofs.lemmas.List.Elements.{All-from_recursion}
 use Rattle.std.proofs.lemmas.Option.{cond_some}
 use Rattle.net_types.specs.declared.interface.IfSpec.{IfSpec}
@@ -12,25 +12,27 @@ use Rattle.net_types.specs.Cutting.{strip_word}
 use Rattle.net_types.proofs.ReadsLaws.{some_same, passed, mapped, strip_whole, strip_sound}
 use Rattle.net_types.proofs.MarkLaws.{lacks-append}
 use Rattle.world.specs.declared.rows.HostRow.{HostRow}
-use Rattle.world.specs.LinkCalls.{Given}
+use Rattle.world.specs.FileLists.{StoreFile}
 use Rattle.world.specs.RowText.{row_text, IsBuiltRow}
-use Rattle.script_model.specs.Lines.{interface_text, start_text}
+use Rattle.script_model.specs.Lines.{interface_text}
 use Rattle.script_model.specs.declared.failing.FailLine.{FailLine}
 use Rattle.script_model.specs.FailingCalls.{fail_text, FitsFail}
-use Rattle.script_model.specs.ScriptTexts.{ScriptLines, LifeScript, ended, given_text, life_text, script_text}
-use Rattle.script_model.specs.Scripts.{FitsGiven, FitsLife, FitsScript}
+use Rattle.script_model.specs.FirstFiles.{file_text, FitsFile}
+use Rattle.script_model.specs.ScriptTexts.{ScriptLines, ended, life_text, script_text}
+use Rattle.script_model.specs.Scripts.{FitsLife, FitsScript}
 use Rattle.replay_text.specs.RowReading.{row_at}
-use Rattle.replay_text.specs.LineReading.{spec_at, fail_at, turn_at}
-use Rattle.replay_text.specs.Carriers.{begin_at}
-use Rattle.replay_text.specs.Blocks.{parts_of, Block, block_at, line_at, are_done}
+use Rattle.replay_text.specs.LineReading.{spec_at, fail_at}
+use Rattle.replay_text.specs.FileReading.{file_at}
+use Rattle.replay_text.specs.Blocks.{parts_of, Block, block_at}
 use Rattle.replay_text.specs.ScriptContent.{unless_last, lines_within, conf_lines, HoldsLines}
-use Rattle.replay_text.specs.KindTests.{interfaces_fit, are_once, turns_fit}
-use Rattle.replay_text.specs.ScriptReading.{conf_at, ifaces_at, rows_at, life_at, lives_at, body_at, head, script_at}
+use Rattle.replay_text.specs.KindTests.{interfaces_fit, are_once, have_unlike_names}
+use Rattle.replay_text.specs.ScriptReading.{conf_at, ifaces_at, rows_at, files_at, all_lives_at, body_at, head, script_at}
 use Rattle.replay_text.proofs.RowLaws.{row_reads, row_line}
-use Rattle.replay_text.proofs.LineLaws.{spec_text, FitsSpec, spec_reads, spec_spelled, spec_line, fail_words, fail_reads, fail_spelled, fail_line, turn_words, turn_reads, turn_spelled, turn_line}
-use Rattle.replay_text.proofs.CarrierLaws.{begin_words, FitsBegin, begin_reads, begin_spelled, begin_line}
-use Rattle.replay_text.proofs.BlockLaws.{WordsApart, parts_line, parts_joined, parts_lack, block_sound, block_whole, Stops, stops_line, stops_block, line_sound, line_whole, parts_block}
-use Rattle.replay_text.proofs.TestLaws.{by_recursion, AreInterfaces, interfaces_few, interfaces_sound, interfaces_whole, AreTurns, turns_sound, turns_whole}
+use Rattle.replay_text.proofs.LineLaws.{spec_text, FitsSpec, spec_reads, spec_spelled, spec_line, fail_words, fail_reads, fail_spelled, fail_line}
+use Rattle.replay_text.proofs.FileLaws.{file_words, file_reads, file_spelled, file_line, unlike_sound, unlike_whole}
+use Rattle.replay_text.proofs.LifeLaws.{lives_parts, AreLives, lives_sound, stops_lives, lives_read, lives_cut, lives_to, lives_from}
+use Rattle.replay_text.proofs.BlockLaws.{WordsApart, parts_joined, parts_lack, block_sound, block_whole, Stops, stops_block, parts_block}
+use Rattle.replay_text.proofs.TestLaws.{by_recursion, AreInterfaces, interfaces_few, interfaces_sound, interfaces_whole}
 
 -- ---- the configuration
 
@@ -99,7 +101,7 @@ conf_whole : (texts rest : List (List ℕ)) → Stops (codes "c:") rest → conf
 unfolding conf_at
 conf_whole texts rest stops = rw (block_whole (codes "c:") texts rest conf_reads (all_units texts) stops) refl
 
--- ---- interfaces and rows
+-- ---- interfaces, rows and files
 
 ifaces_sound : (parts : List (List ℕ)) (b : Block IfSpec) → ifaces_at parts ≡ Some b → (parts ≡ map (λ i. codes "if " ++ spec_text i) b.0 ++ b.1) × AreInterfaces b.0
 unfolding ifaces_at
@@ -131,78 +133,33 @@ rows_read : (rows : List HostRow) (rest : List (List ℕ)) → AreRows rows → 
 unfolding rows_at
 rows_read rows rest are stops = rw (block_whole (codes "row ") rows rest row_reads are.each stops, are.test) refl
 
--- ---- the life
+record AreFiles (files : List StoreFile) : Type 0 where
+  each : AllByRecursion FitsFile files
+  test : have_unlike_names files ≡ true
 
-abbrev life_parts : LifeScript → List (List ℕ)
-life_parts life = (codes "start " ++ begin_words life.begin) ∷ (map (λ g. codes "turn " ++ turn_words g) life.turns ++ [] ∷ [])
+files_sound : (parts : List (List ℕ)) (b : Block StoreFile) → files_at parts ≡ Some b → (parts ≡ map (λ f. codes "file " ++ file_words f) b.0 ++ b.1) × AreFiles b.0
+unfolding files_at
+files_sound parts b e =
+    let block = passed (block_at (codes "file ") file_at parts) _ b e in
+    let test = cond_some (have_unlike_names block.value.0) block.value b block.gives in
+    let s = block_sound (codes "file ") parts block.value file_reads block.was in
+    let are : AreFiles block.value.0 = record { each = s.1; test = test.0 } in
+    subst (λ (p : Block StoreFile). (parts ≡ map (λ f. codes "file " ++ file_words f) p.0 ++ p.1) × AreFiles p.0) test.1 (s.0, are)
 
-record IsLife (count : ℕ) (life : LifeScript) : Type 0 where
-  begin : FitsBegin count life.begin
-  turns : AreTurns count life.begin.at life.turns
-
-done_parts : (parts : List (List ℕ)) → are_done parts ≡ true → parts ≡ [] ∷ []
-done_parts [] e = cc
-done_parts ([] ∷ []) e = refl
-done_parts ([] ∷ next ∷ parts) e = cc
-done_parts ((c ∷ cs) ∷ []) e = cc
-done_parts ((c ∷ cs) ∷ next ∷ parts) e = cc
-
-life_sound : (count : ℕ) (parts : List (List ℕ)) (life : LifeScript) → count ≤ 64 → life_at count parts ≡ Some life → (parts ≡ life_parts life) × IsLife count life
-unfolding life_at
-life_sound count parts life few e =
-    let start = passed (line_at (codes "start ") (begin_at count) parts) _ life e in
-    let turns = passed (block_at (codes "turn ") turn_at start.value.1) _ life start.gives in
-    let test = cond_some (are_done turns.value.1 && turns_fit count start.value.0.at turns.value.0) (record { begin = start.value.0; turns = turns.value.0 }) life turns.gives in
-    let tests = and_parts (are_done turns.value.1) (turns_fit count start.value.0.at turns.value.0) test.0 in
-    let s = line_sound (codes "start ") parts start.value (begin_reads count few) start.was in
-    let t = block_sound (codes "turn ") start.value.1 turns.value turn_reads turns.was in
-    let done = done_parts turns.value.1 tests.0 in
-    let made : LifeScript = record { begin = start.value.0; turns = turns.value.0 } in
-    let spelled : parts ≡ life_parts made =
-    s.0 ∙ ap (λ ps. (codes "start " ++ begin_words start.value.0) ∷ ps) (t.0 ∙ ap (λ ps. map (λ g. codes "turn " ++ turn_words g) turns.value.0 ++ ps) done) in
-    let is : IsLife count made = record { begin = s.1; turns = record { each = t.1; test = tests.1 } } in
-    subst (λ (l : LifeScript). (parts ≡ life_parts l) × IsLife count l) test.1 (spelled, is)
-
-turns_some : (turns : List Given) → map (λ g. codes "turn " ++ turn_words g) turns ++ [] ∷ [] ≡ [] → ⊥
-turns_some [] e = cc
-turns_some (given ∷ turns) e = cc
-
-life_read : (count : ℕ) (life : LifeScript) → count ≤ 64 → IsLife count life → life_at count (life_parts life) ≡ Some life
-unfolding life_at
-life_read count life few is =
-    let rest = map (λ g. codes "turn " ++ turn_words g) life.turns ++ [] ∷ [] in
-    rw (line_whole (codes "start ") life.begin rest (begin_reads count few) is.begin (turns_some life.turns), block_whole (codes "turn ") life.turns ([] ∷ []) turn_reads is.turns.each refl, is.turns.test) refl
-
--- ---- the lives
-
-abbrev lives_parts : List LifeScript → List (List ℕ)
-lives_parts [] = [] ∷ []
-lives_parts (life ∷ lives) = (codes "start " ++ begin_words life.begin) ∷ (map (λ g. codes "turn " ++ turn_words g) life.turns ++ lives_parts lives)
-
-abbrev AreLives : ℕ → List LifeScript → Type 0
-AreLives count [] = ⊥
-AreLives count (life ∷ []) = IsLife count life
-AreLives count (life ∷ next ∷ lives) = ⊥
-
-lives_sound : (count : ℕ) (parts : List (List ℕ)) (lives : List LifeScript) → count ≤ 64 → lives_at count parts ≡ Some lives → (parts ≡ lives_parts lives) × AreLives count lives
-unfolding lives_at
-lives_sound count parts lives few e =
-    let m = mapped (λ (life : LifeScript). life ∷ []) (life_at count parts) lives e in
-    subst (λ (ls : List LifeScript). (parts ≡ lives_parts ls) × AreLives count ls) m.gives (life_sound count parts m.value few m.was)
-
-lives_read : (count : ℕ) (lives : List LifeScript) → count ≤ 64 → AreLives count lives → lives_at count (lives_parts lives) ≡ Some lives
-unfolding lives_at
-lives_read count [] few are = absurd are
-lives_read count (life ∷ []) few are = ap (option_map (λ (l : LifeScript). l ∷ [])) (life_read count life few are)
-lives_read count (life ∷ next ∷ lives) few are = absurd are
+files_read : (files : List StoreFile) (rest : List (List ℕ)) → AreFiles files → Stops (codes "file ") rest → files_at (map (λ f. codes "file " ++ file_words f) files ++ rest) ≡ Some (files, rest)
+unfolding files_at
+files_read files rest are stops = rw (block_whole (codes "file ") files rest file_reads are.each stops, are.test) refl
 
 -- ---- the body
 
 abbrev fail_parts : ScriptLines → List (List ℕ)
 fail_parts s = map (λ f. codes "fail " ++ fail_words f) s.fails ++ lives_parts s.lives
 
+abbrev file_parts : ScriptLines → List (List ℕ)
+file_parts s = map (λ f. codes "file " ++ file_words f) s.files ++ fail_parts s
+
 abbrev row_parts : ScriptLines → List (List ℕ)
-row_parts s = map (λ r. codes "row " ++ row_text r) s.rows ++ fail_parts s
+row_parts s = map (λ r. codes "row " ++ row_text r) s.rows ++ file_parts s
 
 abbrev iface_parts : ScriptLines → List (List ℕ)
 iface_parts s = map (λ i. codes "if " ++ spec_text i) s.ifaces ++ row_parts s
@@ -214,49 +171,53 @@ record FitsLines (s : ScriptLines) : Type 0 where
   conf : AllByRecursion (Lacks 10) s.conf
   ifaces : AreInterfaces s.ifaces
   rows : AreRows s.rows
+  files : AreFiles s.files
   fails : AllByRecursion FitsFail s.fails
   lives : AreLives (length s.ifaces) s.lives
 
 body_sound : (parts : List (List ℕ)) (s : ScriptLines) → AllByRecursion (Lacks 10) parts → body_at parts ≡ Some s → (parts ≡ script_parts s) × FitsLines s
-unfolding body_at
+unfolding body_at all_lives_at
 body_sound parts s free e =
     let conf = passed (conf_at parts) _ s e in
     let ifaces = passed (ifaces_at conf.value.1) _ s conf.gives in
     let rows = passed (rows_at ifaces.value.1) _ s ifaces.gives in
-    let fails = passed (block_at (codes "fail ") fail_at rows.value.1) _ s rows.gives in
-    let lives = passed (lives_at (length ifaces.value.0) fails.value.1) _ s fails.gives in
+    let files = passed (files_at rows.value.1) _ s rows.gives in
+    let fails = passed (block_at (codes "fail ") fail_at files.value.1) _ s files.gives in
+    let lives = passed (all_lives_at (length ifaces.value.0) fails.value.1) _ s fails.gives in
     let c = conf_sound parts conf.value free conf.was in
     let i = ifaces_sound conf.value.1 ifaces.value ifaces.was in
     let r = rows_sound ifaces.value.1 rows.value rows.was in
-    let f = block_sound (codes "fail ") rows.value.1 fails.value fail_reads fails.was in
-    let l = lives_sound (length ifaces.value.0) fails.value.1 lives.value (interfaces_few ifaces.value.0 i.1.test) lives.was in
-    let made : ScriptLines = record { conf = conf_lines conf.value.0; ifaces = ifaces.value.0; rows = rows.value.0; fails = fails.value.0; lives = lives.value } in
+    let st = files_sound rows.value.1 files.value files.was in
+    let f = block_sound (codes "fail ") files.value.1 fails.value fail_reads fails.was in
+    let l = lives_sound (length fails.value.1) (length ifaces.value.0) fails.value.1 lives.value (interfaces_few ifaces.value.0 i.1.test) lives.was in
+    let made : ScriptLines = record { conf = conf_lines conf.value.0; ifaces = ifaces.value.0; rows = rows.value.0; files = files.value.0; fails = fails.value.0; lives = lives.value } in
     let whole : made ≡ s = some_same lives.gives in
-    let fail_is : rows.value.1 ≡ fail_parts made = f.0 ∙ ap (λ ps. map (λ f. codes "fail " ++ fail_words f) fails.value.0 ++ ps) l.0 in
-    let row_is : ifaces.value.1 ≡ row_parts made = r.0 ∙ ap (λ ps. map (λ r. codes "row " ++ row_text r) rows.value.0 ++ ps) fail_is in
+    let fail_is : files.value.1 ≡ fail_parts made = f.0 ∙ ap (λ ps. map (λ f. codes "fail " ++ fail_words f) fails.value.0 ++ ps) l.0 in
+    let file_is : rows.value.1 ≡ file_parts made = st.0 ∙ ap (λ ps. map (λ f. codes "file " ++ file_words f) files.value.0 ++ ps) fail_is in
+    let row_is : ifaces.value.1 ≡ row_parts made = r.0 ∙ ap (λ ps. map (λ r. codes "row " ++ row_text r) rows.value.0 ++ ps) file_is in
     let iface_is : conf.value.1 ≡ iface_parts made = i.0 ∙ ap (λ ps. map (λ i. codes "if " ++ spec_text i) ifaces.value.0 ++ ps) row_is in
     let spelled : parts ≡ script_parts made = c.0 ∙ ap (λ ps. map (λ t. codes "c:" ++ t) (conf_lines conf.value.0) ++ ps) iface_is in
-    let fits : FitsLines made = record { conf = c.1; ifaces = i.1; rows = r.1; fails = f.1; lives = l.1 } in
+    let fits : FitsLines made = record { conf = c.1; ifaces = i.1; rows = r.1; files = st.1; fails = f.1; lives = l.1 } in
     subst (λ (x : ScriptLines). (parts ≡ script_parts x) × FitsLines x) whole (spelled, fits)
 
 -- no line of a kind is taken for one of an earlier kind
-stops_lives : (word : List ℕ) (count : ℕ) (lives : List LifeScript) → AreLives count lives → WordsApart word (codes "start ") → Stops word (lives_parts lives)
-stops_lives word count [] are apart = absurd are
-stops_lives word count (life ∷ lives) are apart = stops_line word (codes "start ") (begin_words life.begin) (map (λ g. codes "turn " ++ turn_words g) life.turns ++ lives_parts lives) apart
-
 stops_fails : (word : List ℕ) (s : ScriptLines) → FitsLines s → WordsApart word (codes "fail ") → WordsApart word (codes "start ") → Stops word (fail_parts s)
 stops_fails word s fits fail start = stops_block word (codes "fail ") fail_words s.fails (lives_parts s.lives) fail (stops_lives word (length s.ifaces) s.lives fits.lives start)
 
-stops_rows : (word : List ℕ) (s : ScriptLines) → FitsLines s → WordsApart word (codes "row ") → WordsApart word (codes "fail ") → WordsApart word (codes "start ") → Stops word (row_parts s)
-stops_rows word s fits row fail start = stops_block word (codes "row ") row_text s.rows (fail_parts s) row (stops_fails word s fits fail start)
+stops_files : (word : List ℕ) (s : ScriptLines) → FitsLines s → WordsApart word (codes "file ") → WordsApart word (codes "fail ") → WordsApart word (codes "start ") → Stops word (file_parts s)
+stops_files word s fits file fail start = stops_block word (codes "file ") file_words s.files (fail_parts s) file (stops_fails word s fits fail start)
+
+stops_rows : (word : List ℕ) (s : ScriptLines) → FitsLines s → WordsApart word (codes "row ") → WordsApart word (codes "file ") → WordsApart word (codes "fail ") → WordsApart word (codes "start ") → Stops word (row_parts s)
+stops_rows word s fits row file fail start = stops_block word (codes "row ") row_text s.rows (file_parts s) row (stops_files word s fits file fail start)
 
 body_whole : (s : ScriptLines) → FitsLines s → body_at (script_parts s) ≡ Some s
 unfolding body_at
 body_whole s fits =
     rw (
-      conf_whole s.conf (iface_parts s) (stops_block (codes "c:") (codes "if ") spec_text s.ifaces (row_parts s) refl (stops_rows (codes "c:") s fits refl refl refl)),
-      ifaces_read s.ifaces (row_parts s) fits.ifaces (stops_rows (codes "if ") s fits refl refl refl),
-      rows_read s.rows (fail_parts s) fits.rows (stops_fails (codes "row ") s fits refl refl),
+      conf_whole s.conf (iface_parts s) (stops_block (codes "c:") (codes "if ") spec_text s.ifaces (row_parts s) refl (stops_rows (codes "c:") s fits refl refl refl refl)),
+      ifaces_read s.ifaces (row_parts s) fits.ifaces (stops_rows (codes "if ") s fits refl refl refl refl),
+      rows_read s.rows (file_parts s) fits.rows (stops_files (codes "row ") s fits refl refl refl),
+      files_read s.files (fail_parts s) fits.files (stops_fails (codes "file ") s fits refl refl),
       block_whole (codes "fail ") s.fails (lives_parts s.lives) fail_reads fits.fails (stops_lives (codes "fail ") (length s.ifaces) s.lives fits.lives refl),
       lives_read (length s.ifaces) s.lives (interfaces_few s.ifaces fits.ifaces.test) fits.lives,
       conf_lines_of s.conf fits.conf,
@@ -280,16 +241,18 @@ fails_spelled : (fails : List FailLine) → AllByRecursion FitsFail fails → Al
 fails_spelled [] fits = tt
 fails_spelled (fail ∷ fails) fits = ((fail_spelled fail, lacks-append 10 (codes "fail ") (fail_words fail) refl (fail_line fail fits.0)), fails_spelled fails fits.1)
 
-turns_spelled : (turns : List Given) → AllByRecursion (FitsGiven 64) turns → AllByRecursion (λ g. (given_text g ≡ codes "turn " ++ turn_words g) × Lacks 10 (codes "turn " ++ turn_words g)) turns
-turns_spelled [] fits = tt
-turns_spelled (given ∷ turns) fits =
-    ((turn_spelled given, lacks-append 10 (codes "turn ") (turn_words given) refl (turn_line given fits.0)), turns_spelled turns fits.1)
+files_spelled : (files : List StoreFile) → AllByRecursion FitsFile files → AllByRecursion (λ f. (file_text f ≡ codes "file " ++ file_words f) × Lacks 10 (codes "file " ++ file_words f)) files
+files_spelled [] fits = tt
+files_spelled (file ∷ files) fits = ((file_spelled file, lacks-append 10 (codes "file ") (file_words file) refl (file_line file fits.0)), files_spelled files fits.1)
 
 abbrev fail_body : ScriptLines → List ℕ
 fail_body s = flat_map (λ fail. ended (fail_text fail)) s.fails ++ flat_map life_text s.lives
 
+abbrev file_body : ScriptLines → List ℕ
+file_body s = flat_map (λ file. ended (file_text file)) s.files ++ fail_body s
+
 abbrev row_body : ScriptLines → List ℕ
-row_body s = flat_map (λ row. ended (codes "row " ++ row_text row)) s.rows ++ fail_body s
+row_body s = flat_map (λ row. ended (codes "row " ++ row_text row)) s.rows ++ file_body s
 
 abbrev iface_body : ScriptLines → List ℕ
 iface_body s = flat_map (λ spec. ended (interface_text spec)) s.ifaces ++ row_body s
@@ -297,29 +260,18 @@ iface_body s = flat_map (λ spec. ended (interface_text spec)) s.ifaces ++ row_b
 abbrev body_text : ScriptLines → List ℕ
 body_text s = flat_map (λ text. ended (codes "c:" ++ text)) s.conf ++ iface_body s
 
-life_cut : (count : ℕ) (life : LifeScript) → count ≤ 64 → IsLife count life → parts_of (life_text life) ≡ life_parts life
-life_cut count life few is =
-    let turns = flat_map (λ given. ended (given_text given)) life.turns in
-    let first : life_text life ≡ (codes "start " ++ begin_words life.begin) ++ 10 ∷ turns = append_assoc (start_text life.begin) (10 ∷ []) turns ∙ ap (λ t. t ++ 10 ∷ turns) (begin_spelled life.begin) in
-    let free : Lacks 10 (codes "start " ++ begin_words life.begin) = lacks-append 10 (codes "start ") (begin_words life.begin) refl (begin_line count life.begin few is.begin) in
-    let others : parts_of turns ≡ map (λ g. codes "turn " ++ turn_words g) life.turns ++ [] ∷ [] =
-    ap parts_of (sym (append-nil turns)) ∙ parts_block given_text (λ g. codes "turn " ++ turn_words g) life.turns [] (turns_spelled life.turns is.turns.each) in
-    ap parts_of first ∙ parts_line (codes "start " ++ begin_words life.begin) turns free ∙ ap (λ ps. (codes "start " ++ begin_words life.begin) ∷ ps) others
-
-lives_cut : (count : ℕ) (lives : List LifeScript) → count ≤ 64 → AreLives count lives → parts_of (flat_map life_text lives) ≡ lives_parts lives
-lives_cut count [] few are = absurd are
-lives_cut count (life ∷ []) few are = ap parts_of (append-nil (life_text life)) ∙ life_cut count life few are
-lives_cut count (life ∷ next ∷ lives) few are = absurd are
-
 body_cut : (s : ScriptLines) → FitsLines s → parts_of (body_text s) ≡ script_parts s
 body_cut s fits =
     let lives = lives_cut (length s.ifaces) s.lives (interfaces_few s.ifaces fits.ifaces.test) fits.lives in
     let fails : parts_of (fail_body s) ≡ fail_parts s =
     parts_block fail_text (λ f. codes "fail " ++ fail_words f) s.fails (flat_map life_text s.lives) (fails_spelled s.fails fits.fails)
     ∙ ap (λ ps. map (λ f. codes "fail " ++ fail_words f) s.fails ++ ps) lives in
+    let files : parts_of (file_body s) ≡ file_parts s =
+    parts_block file_text (λ f. codes "file " ++ file_words f) s.files (fail_body s) (files_spelled s.files fits.files.each)
+    ∙ ap (λ ps. map (λ f. codes "file " ++ file_words f) s.files ++ ps) fails in
     let rows : parts_of (row_body s) ≡ row_parts s =
-    parts_block (λ row. codes "row " ++ row_text row) (λ row. codes "row " ++ row_text row) s.rows (fail_body s) (rows_spelled s.rows fits.rows.each)
-    ∙ ap (λ ps. map (λ r. codes "row " ++ row_text r) s.rows ++ ps) fails in
+    parts_block (λ row. codes "row " ++ row_text row) (λ row. codes "row " ++ row_text row) s.rows (file_body s) (rows_spelled s.rows fits.rows.each)
+    ∙ ap (λ ps. map (λ r. codes "row " ++ row_text r) s.rows ++ ps) files in
     let ifaces : parts_of (iface_body s) ≡ iface_parts s =
     parts_block interface_text (λ i. codes "if " ++ spec_text i) s.ifaces (row_body s) (ifaces_spelled s.ifaces fits.ifaces.each)
     ∙ ap (λ ps. map (λ i. codes "if " ++ spec_text i) s.ifaces ++ ps) rows in
@@ -327,34 +279,6 @@ body_cut s fits =
     ∙ ap (λ ps. map (λ t. codes "c:" ++ t) s.conf ++ ps) ifaces
 
 -- ---- the same bounds in the words of the model
-
-lives_to : (count : ℕ) (lives : List LifeScript) → count ≤ 64 → length lives ≡ 1 → AllByRecursion (FitsLife count) lives → AreLives count lives
-lives_to count [] few one fits = absurd (omega (arith, one))
-lives_to count (life ∷ []) few one fits =
-    let life_fits = fits.0 in
-    record {
-      begin = record { at = life_fits.at; salt = life_fits.salt; up = life_fits.up };
-      turns = turns_whole count life.begin.at life.turns few (by_recursion (FitsGiven count) life.turns life_fits.turns) life_fits.over;
-    }
-lives_to count (life ∷ next ∷ lives) few one fits = absurd (omega (arith, one))
-
-abbrev FitLives : ℕ → List LifeScript → Type 0
-FitLives count lives = (length lives ≡ 1) × AllByRecursion (FitsLife count) lives
-
-lives_from : (count : ℕ) (lives : List LifeScript) → AreLives count lives → FitLives count lives
-lives_from count [] are = absurd are
-lives_from count (life ∷ []) are =
-    let begin = are.begin in
-    let turns = turns_sound count life.begin.at life.turns are.turns in
-    let fits : FitsLife count life = record {
-      at = begin.at;
-      salt = begin.salt;
-      up = begin.up;
-      turns = All-from_recursion (FitsGiven count) life.turns turns.0;
-      over = turns.1;
-    } in
-    (refl, (fits, tt))
-lives_from count (life ∷ next ∷ lives) are = absurd are
 
 lines_to : (s : ScriptLines) → FitsScript s → FitsLines s
 unfolding are_once
@@ -365,8 +289,9 @@ lines_to s fits =
       conf = by_recursion (Lacks 10) s.conf fits.conf;
       ifaces = ifaces;
       rows = record { each = by_recursion IsBuiltRow s.rows fits.rows; test = eq-eqb _ _ fits.once };
+      files = record { each = by_recursion FitsFile s.files fits.files; test = unlike_whole s.files fits.unlike };
       fails = by_recursion FitsFail s.fails fits.fails;
-      lives = lives_to (length s.ifaces) s.lives few fits.one (by_recursion (FitsLife (length s.ifaces)) s.lives fits.lives);
+      lives = lives_to (length s.ifaces) s.lives few fits.some fits.parted (by_recursion (FitsLife (length s.ifaces)) s.lives fits.lives);
     }
 
 lines_from : (s : ScriptLines) → FitsLines s → FitsScript s
@@ -378,9 +303,12 @@ lines_from s fits =
       ifaces = interfaces_sound s.ifaces fits.ifaces;
       rows = All-from_recursion IsBuiltRow s.rows fits.rows.each;
       once = eqb-true _ _ fits.rows.test;
+      files = All-from_recursion FitsFile s.files fits.files.each;
+      unlike = unlike_sound s.files fits.files.test;
       fails = All-from_recursion FitsFail s.fails fits.fails;
-      one = lives.0;
-      lives = All-from_recursion (FitsLife (length s.ifaces)) s.lives lives.1;
+      some = lives.some;
+      parted = lives.parted;
+      lives = All-from_recursion (FitsLife (length s.ifaces)) s.lives lives.each;
     }
 
 -- ---- scripts

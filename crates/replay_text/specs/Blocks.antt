@@ -1,5 +1,5 @@
 -- Lines, and lines of one kind after one another.
-use Rattle.std.specs.Prelude.{ℕ, ◌==◌, Bool, true, false, List, [], ◌∷◌, Option, Some, None}
+use Rattle.std.specs.Prelude.{ℕ, ◌==◌, Bool, true, false, List, [], ◌∷◌, Option, Some, None, option_map}
 use Rattle.std.specs.List.{slice_split}
 use Rattle.net_types.specs.Cutting.{◌>>=◌, strip_word, split_at_byte}
 
@@ -42,6 +42,15 @@ line_at word read (line ∷ parts) = do
   words ← words_at word line parts
   x ← read words
   Some (x, parts)
+
+abbrev pub optional_with : {X : Type 0} → (List ℕ → Option X) → Option (List ℕ) → List ℕ → List (List ℕ) → Option (Option X × List (List ℕ))
+optional_with read None line parts = Some (None, line ∷ parts)
+optional_with read (Some words) line parts = option_map (λ x. (Some x, parts)) (read words)
+
+-- where the first line begins with a word, that line, read after it, and the parts after it
+abbrev pub optional_at : {X : Type 0} → List ℕ → (List ℕ → Option X) → List (List ℕ) → Option (Option X × List (List ℕ))
+optional_at word read [] = Some (None, [])
+optional_at word read (line ∷ parts) = optional_with read (words_at word line parts) line parts
 
 -- nothing follows the last line
 abbrev pub are_done : List (List ℕ) → Bool

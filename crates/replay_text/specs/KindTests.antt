@@ -1,11 +1,14 @@
 -- What is asked of all lines of a kind together.
-use Rattle.std.specs.Prelude.{ℕ, ◌+◌, Bool, true, not, ◌&&◌, ◌==◌, nat_le, List, [], ◌∷◌, length, bytes_eq}
+use Rattle.std.specs.Prelude.{ℕ, ◌+◌, Bool, true, not, ◌&&◌, ◌==◌, nat_le, List, [], ◌∷◌, length, map, bytes_eq}
 use Rattle.std.specs.List.{list_all}
+use Rattle.std.specs.Set.{distinct_count}
 use Rattle.net_types.specs.declared.interface.IfSpec.{IfSpec}
 use Rattle.net_types.specs.NameText.{name_text}
 use Rattle.world.specs.declared.rows.HostRow.{HostRow}
 use Rattle.world.specs.declared.wakes.Event.{Event}
 use Rattle.world.specs.declared.wakes.Event.TheVariants.{Frame, Carrier, Release, Rebind}
+use Rattle.world.specs.FileLists.{StoreFile, file_name}
+use Rattle.world.specs.FileNames.{is_name}
 use Rattle.world.specs.LinkCalls.{Given}
 use Rattle.world.specs.RowOrder.{in_row_order}
 use Rattle.replay_text.specs.Clocks.{clock_at, is_in_time}
@@ -27,6 +30,10 @@ interfaces_fit specs = nat_le (length specs) 64 && (counts_from 1 specs && all_u
 
 unfoldable pub are_once : List HostRow → Bool
 are_once rows = length (in_row_order rows) == length rows
+
+-- as many names as files, where equal names count once
+unfoldable pub have_unlike_names : List StoreFile → Bool
+have_unlike_names files = distinct_count is_name (map file_name files) == length files
 
 abbrev pub is_listed : ℕ → Event → Bool
 is_listed count (Frame iface len) = nat_le iface count

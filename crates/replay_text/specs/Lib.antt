@@ -1,5 +1,7 @@
 pub mod RowReading
 pub mod LineReading
+pub mod FileReading
+pub mod CrashReading
 pub mod Carriers
 pub mod Blocks
 pub mod ScriptContent

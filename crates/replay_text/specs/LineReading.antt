@@ -10,7 +10,7 @@ use Rattle.world.specs.declared.wakes.Event.{Event}
 use Rattle.world.specs.declared.wakes.Event.TheVariants.{Frame, Carrier, Release, Rebind, Stop, Quiet}
 use Rattle.world.specs.LinkCalls.{Given}
 use Rattle.script_model.specs.declared.failing.FailDevice.{FailDevice}
-use Rattle.script_model.specs.declared.failing.FailDevice.TheVariants.{Link, Host}
+use Rattle.script_model.specs.declared.failing.FailDevice.TheVariants.{Link, Store, Host}
 use Rattle.script_model.specs.declared.failing.FailLine.{FailLine}
 use Rattle.script_model.specs.Scripts.{frame_room}
 use Rattle.replay_text.specs.RowReading.{iface_at}
@@ -32,7 +32,7 @@ abbrev pub failing_at : FailDevice → List ℕ → Option FailLine
 failing_at device rest = option_map (failing device) (call_at rest)
 
 abbrev pub devices : Choices FailLine
-devices = (codes "link ", failing_at Link) ∷ (codes "host ", failing_at Host) ∷ []
+devices = (codes "link ", failing_at Link) ∷ (codes "store ", failing_at Store) ∷ (codes "host ", failing_at Host) ∷ []
 
 -- a call of a device that fails
 unfoldable pub fail_at : List ℕ → Option FailLine

@@ -3,18 +3,21 @@ ghost use Rattle.std.specs.Prelude.{◌≡◌, ℕ, List, Option, map, option_ma
 ghost use Rattle.net_types.specs.declared.interface.IfSpec.{IfSpec};
 ghost use Rattle.script_model.specs.declared.failing.FailLine.{FailLine};
 ghost use Rattle.world.specs.declared.rows.HostRow.{HostRow};
+ghost use Rattle.world.specs.FileLists.{StoreFile};
 ghost use Rattle.world.specs.LinkCalls.{Given};
 ghost use Rattle.replay_text.specs.RowReading.{row_at};
 ghost use Rattle.replay_text.specs.LineReading.{spec_at, fail_at, turn_at};
+ghost use Rattle.replay_text.specs.FileReading.{file_at};
 ghost use Rattle.replay_text.specs.Blocks.{line_after, block_at, parts_of};
-ghost use Rattle.replay_text.specs.ScriptContent.{given_of, HoldsLines};
+ghost use Rattle.replay_text.specs.ScriptContent.{file_of, given_of, HoldsLines};
 ghost use Rattle.replay_text.specs.ScriptReading.{conf_at};
 ghost use Rattle.replay_text.specs.Answers.{Gives};
 
+use crate::files::file_of;
 use crate::lines::{fail_of, spec_of, turn_of};
 use crate::refusal::Refusal;
 use crate::rows::row_of;
-use crate::script::TurnLine;
+use crate::script::{FileLine, TurnLine};
 use net_types::{IfSpec, NoMemory, split_at_byte, strip_word};
 use script_model::FailLine;
 use std::alloc::Global;
@@ -55,6 +58,18 @@ impl LineForm for HostRow {
 
     fn from_words(_alloc: Global, words: &[u8]) -> Result<Option<HostRow>, NoMemory> {
         Ok(row_of(words))
+    }
+}
+
+impl LineForm for FileLine {
+    ghost Content = { StoreFile };
+
+    ghost content = { file_of };
+
+    ghost found = { file_at };
+
+    fn from_words(alloc: Global, words: &[u8]) -> Result<Option<FileLine>, NoMemory> {
+        file_of(alloc, words)
     }
 }
 

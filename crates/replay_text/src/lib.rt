@@ -4,8 +4,11 @@
 mod blocks;
 mod carriers;
 mod clock;
+mod crashing;
+mod files;
 mod line_numbers;
 mod lines;
+mod lives;
 mod reading;
 mod refusal;
 mod rows;
@@ -14,7 +17,9 @@ mod script;
 pub use line_numbers::line_feeds;
 pub use reading::read_script;
 pub use rows::{print_row, read_row, row_of};
-pub use script::{LifeLines, Script, ScriptAnswer, ScriptCause, ScriptFault, TurnLine};
+pub use script::{
+    CrashLine, FileLine, LifeLines, Script, ScriptAnswer, ScriptCause, ScriptFault, TurnLine,
+};
 
 #[cfg(test)]
 mod tests;

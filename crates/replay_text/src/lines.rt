@@ -64,6 +64,9 @@ pub fn fail_of(bytes: &[u8]) -> Option<FailLine>
     if let Some(rest) = strip_word(bytes, b"link ") {
         return failing_of(FailDevice::Link, rest);
     }
+    if let Some(rest) = strip_word(bytes, b"store ") {
+        return failing_of(FailDevice::Store, rest);
+    }
     match strip_word(bytes, b"host ") {
         Some(rest) => failing_of(FailDevice::Host, rest),
         None => None,

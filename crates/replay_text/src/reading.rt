@@ -1,26 +1,25 @@
 //! Scripts, read.
-ghost use Rattle.std.specs.Prelude.{◌≡◌, ◌≢◌, ◌+◌, ◌<◌, ◌≤◌, length, map, codes, IsTrue, IfOk, IfErr, ◌==◌};
+ghost use Rattle.std.specs.Prelude.{◌≡◌, ◌≢◌, ◌+◌, ◌<◌, ◌≤◌, length, map, IsTrue, IfOk, IfErr, ◌==◌};
 ghost use Rattle.std.specs.List.{list_all};
 ghost use Rattle.script_model.specs.ScriptTexts.{ScriptLines, script_text};
 ghost use Rattle.script_model.specs.Scripts.{FitsScript};
-ghost use Rattle.replay_text.specs.Blocks.{parts_of, line_at, block_at, are_done};
-ghost use Rattle.replay_text.specs.Carriers.{begin_at};
-ghost use Rattle.replay_text.specs.ScriptContent.{script_of, life_of, given_of, HoldsLines};
-ghost use Rattle.replay_text.specs.KindTests.{counts_from, is_unlike, all_unlike, interfaces_fit, are_once, is_listed, turns_fit};
-ghost use Rattle.replay_text.specs.ScriptReading.{ifaces_at, rows_at, life_at, lives_at, body_at, script_at};
+ghost use Rattle.replay_text.specs.Blocks.{parts_of, block_at};
+ghost use Rattle.replay_text.specs.ScriptContent.{script_of, file_of, HoldsLines};
+ghost use Rattle.replay_text.specs.KindTests.{counts_from, is_unlike, all_unlike, interfaces_fit, are_once};
+ghost use Rattle.replay_text.specs.ScriptReading.{ifaces_at, rows_at, files_at, body_at, script_at};
 ghost use Rattle.replay_text.specs.Answers.{Gives, IsBad, NamesFault};
 
-use crate::blocks::{block_of, conf_of, line_after};
-use crate::carriers::begin_of;
-use crate::clock::are_in_time;
+use crate::blocks::{block_of, conf_of};
+use crate::files::have_unlike_names;
 use crate::line_numbers::line_number;
+use crate::lives::lives_of;
 use crate::refusal::Refusal;
-use crate::script::{LifeLines, Script, ScriptAnswer, ScriptCause, ScriptFault, TurnLine};
+use crate::script::{FileLine, Script, ScriptAnswer, ScriptCause, ScriptFault};
 use net_types::{IfSpec, NoMemory, strip_word};
 use script_model::FailLine;
 use std::alloc::Global;
 use std::collections::BTreeSet;
-use world::{Begin, Event, HostRow};
+use world::HostRow;
 
 /// The most interfaces.
 const MOST_INTERFACES: usize = 64;
@@ -95,35 +94,6 @@ fn are_once(alloc: Global, rows: &[HostRow]) -> Result<bool, NoMemory>
     Ok(unlike.len() == rows.len())
 }
 
-fn is_listed(count: u32, event: Event) -> bool
-    ensures { result ≡ is_listed count event }
-{
-    match event {
-        Event::Frame { iface, .. } => iface <= count,
-        Event::Carrier { iface, .. } => iface <= count,
-        Event::Duplicate { .. } => true,
-        Event::Release { iface } => iface <= count,
-        Event::Rebind { iface } => iface <= count,
-        Event::Stop => true,
-        Event::Quiet => true,
-        Event::End => true,
-    }
-}
-
-fn are_listed(count: u32, turns: &[TurnLine]) -> bool
-    ensures { result ≡ list_all (λ turn. is_listed count turn.wake.event) turns.now }
-{
-    turns.iter().all(|turn| is_listed(count, turn.wake.event))
-}
-
-/// Whether the turns of a life that begins at this moment name interfaces of the script alone, and end once it is over.
-#[tactic(auto, unfolding(crate::specs::KindTests::turns_fit), using(crate::proofs::TestLaws::given_listed))]
-fn turns_fit(count: u32, begin: u64, turns: &[TurnLine]) -> bool
-    ensures { result ≡ turns_fit count begin (map given_of turns.now) }
-{
-    are_listed(count, turns) && are_in_time(begin, turns)
-}
-
 #[tactic(auto, unfolding(crate::specs::ScriptReading::ifaces_at))]
 fn ifaces_of(alloc: Global, text: &[u8]) -> Result<(Vec<IfSpec>, &[u8]), Refusal>
     ensures value { Gives (λ b. (b.0.items, parts_of b.1.now)) result (ifaces_at (parts_of text.now)) }
@@ -149,54 +119,16 @@ fn rows_of(alloc: Global, text: &[u8]) -> Result<(Vec<HostRow>, &[u8]), Refusal>
     }
 }
 
-/// Whether no line is left.
-fn is_done(text: &[u8]) -> bool
-    ensures { result ≡ are_done (parts_of text.now) }
+#[tactic(auto, unfolding(crate::specs::ScriptReading::files_at))]
+fn files_of(alloc: Global, text: &[u8]) -> Result<(Vec<FileLine>, &[u8]), Refusal>
+    ensures { Gives (λ b. (map file_of b.0.items, parts_of b.1.now)) result (files_at (parts_of text.now)) }
 {
-    text.is_empty()
-}
-
-fn start_of(alloc: Global, count: u32, text: &[u8]) -> Result<(Begin, &[u8]), Refusal>
-    requires { count ≤ 64 }
-    ensures { Gives (λ b. (b.0, parts_of b.1.now)) result (line_at (codes "start ") (begin_at count) (parts_of text.now)) }
-{
-    let Some((words, rest)) = line_after(text, b"start ") else {
-        return Err(Refusal::Bad { left: text.len() });
-    };
-    let begin = begin_of(alloc, count, words)?;
-    match begin {
-        Some(begin) => Ok((begin, rest)),
-        None => Err(Refusal::Bad { left: text.len() }),
-    }
-}
-
-#[tactic(auto, unfolding(crate::specs::ScriptReading::life_at))]
-fn life_of(alloc: Global, count: u32, text: &[u8]) -> Result<LifeLines, Refusal>
-    requires { count ≤ 64 }
-    ensures { Gives life_of result (life_at count (parts_of text.now)) }
-{
-    let (begin, rest) = start_of(alloc, count, text)?;
-    let (turns, left): (Vec<TurnLine>, &[u8]) = block_of(alloc, rest, b"turn ")?;
-    if !is_done(left) {
-        return Err(Refusal::Bad { left: left.len() });
-    }
-    if turns_fit(count, begin.at, &turns) {
-        Ok(LifeLines { begin, turns })
+    let (files, rest): (Vec<FileLine>, &[u8]) = block_of(alloc, text, b"file ")?;
+    if have_unlike_names(alloc, &files)? {
+        Ok((files, rest))
     } else {
-        Err(Refusal::Bad { left: rest.len() })
+        Err(Refusal::Bad { left: text.len() })
     }
-}
-
-/// The lives: one, so far.
-#[tactic(auto, unfolding(crate::specs::ScriptReading::lives_at))]
-fn lives_of(alloc: Global, count: u32, text: &[u8]) -> Result<Vec<LifeLines>, Refusal>
-    requires { count ≤ 64 }
-    ensures { Gives (λ lives. map life_of lives.items) result (lives_at count (parts_of text.now)) }
-{
-    let life = life_of(alloc, count, text)?;
-    let mut lives = Vec::new(alloc);
-    lives.push(life)?;
-    Ok(lives)
 }
 
 #[tactic(auto, unfolding(crate::specs::ScriptReading::body_at))]
@@ -207,12 +139,14 @@ fn body_of(alloc: Global, text: &[u8]) -> Result<Script, Refusal>
     let (conf, rest) = conf_of(alloc, text)?;
     let (ifaces, rest) = ifaces_of(alloc, rest)?;
     let (rows, rest) = rows_of(alloc, rest)?;
+    let (files, rest) = files_of(alloc, rest)?;
     let (fails, rest): (Vec<FailLine>, &[u8]) = block_of(alloc, rest, b"fail ")?;
     let lives = lives_of(alloc, ifaces.len() as u32, rest)?;
     Ok(Script {
         conf,
         ifaces,
         rows,
+        files,
         fails,
         lives,
     })
@@ -229,7 +163,7 @@ fn script_of(alloc: Global, text: &[u8]) -> Result<Script, Refusal>
     }
 }
 
-/// Reads a script of one life. Each script that is built has one text.
+/// Reads a script. Each script that is built has one text.
 pub fn read_script(alloc: Global, text: &[u8]) -> Result<Script, ScriptAnswer>
     ensures found { IfOk result (λ script. (text.now ≡ script_text (script_of script)) × FitsScript (script_of script)) }
     // Each line of the configuration is there with its line feed.

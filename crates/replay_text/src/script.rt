@@ -1,7 +1,15 @@
 //! A script, and why a text is none.
 use net_types::IfSpec;
-use script_model::FailLine;
+use script_model::{CrashKind, FailLine};
 use world::{Begin, HostRow, Wake};
+
+/// A file that the store holds at first.
+#[derive(Debug, Drop)]
+pub struct FileLine {
+    /// 1 to 64 letters, digits, `.`, `_` and `-`.
+    pub name: String,
+    pub bytes: Vec<u8>,
+}
 
 /// A wake with the bytes of its frame.
 #[derive(Debug, Drop)]
@@ -10,11 +18,22 @@ pub struct TurnLine {
     pub bytes: Vec<u8>,
 }
 
-/// A life: how it begins, and what comes in its turns.
+/// How the store crashes at the end of a life.
+#[derive(Clone, Copy, Debug, PartialEq, Eq)]
+pub struct CrashLine {
+    /// So many calls of the life are answered as ever, and all later ones fail; `None` for no such limit.
+    pub calls: Option<u64>,
+    /// What the next life finds.
+    pub kind: CrashKind,
+}
+
+/// A life: how it begins, what comes in its turns, and how the store crashes when they are over.
 #[derive(Debug, Drop)]
 pub struct LifeLines {
     pub begin: Begin,
     pub turns: Vec<TurnLine>,
+    /// Each life that another one follows has it.
+    pub crash: Option<CrashLine>,
 }
 
 /// What a script says.
@@ -26,9 +45,11 @@ pub struct Script {
     pub ifaces: Vec<IfSpec>,
     /// The rows that the host holds at first.
     pub rows: Vec<HostRow>,
+    /// The files that the store holds at first; their names are unlike.
+    pub files: Vec<FileLine>,
     /// The calls of devices that fail.
     pub fails: Vec<FailLine>,
-    /// The lives, one after another over the same host.
+    /// The lives, one after another over the same host and store.
     pub lives: Vec<LifeLines>,
 }
 

@@ -1,5 +1,6 @@
 use super::*;
 use net_types::{IfIndex, Ip4, Net, Net4};
+use script_model::CrashKind;
 use std::test::*;
 use world::{HostRow, Via};
 
@@ -27,7 +28,7 @@ fn a_route(rt: HostRuntime) -> Result<(), Fail> {
 
 #[test]
 fn refusals(rt: HostRuntime) {
-    let bad: [(&[u8], u64); 12] = [
+    let bad: [(&[u8], u64); 18] = [
         (b"", 1),
         // a byte outside printable ASCII
         (b"dhcpcd-script 1\nstart 0 0 up -\nturn 5 0 quiet\x80\n", 3),
@@ -55,9 +56,30 @@ fn refusals(rt: HostRuntime) {
             3,
         ),
         // a device whose failing calls aren't built
-        (b"dhcpcd-script 1\nfail store 1\nstart 0 0 up -\n", 2),
+        (b"dhcpcd-script 1\nfail hooks 1\nstart 0 0 up -\n", 2),
         // calls count from 1
         (b"dhcpcd-script 1\nfail link 0\nstart 0 0 up -\n", 2),
+        // a file twice
+        (b"dhcpcd-script 1\nfile a 00\nfile a -\nstart 0 0 up -\n", 2),
+        // a byte that no file's name has
+        (b"dhcpcd-script 1\nfile a/b 00\nstart 0 0 up -\n", 2),
+        // a name of 65 bytes
+        (
+            b"dhcpcd-script 1\nfile 12345678901234567890123456789012345678901234567890123456789012345 -\nstart 0 0 up -\n",
+            2,
+        ),
+        // a life follows one that doesn't crash
+        (b"dhcpcd-script 1\nstart 0 0 up -\nstart 1 0 up -\n", 3),
+        // a life that crashes twice
+        (
+            b"dhcpcd-script 1\nstart 0 0 up -\ncrash - old\ncrash - old\n",
+            4,
+        ),
+        // a number of calls above 64 bits
+        (
+            b"dhcpcd-script 1\nstart 0 0 up -\ncrash 18446744073709551616 new\n",
+            3,
+        ),
         // no life
         (b"dhcpcd-script 1\nc:noarp\n", 3),
     ];
@@ -80,5 +102,39 @@ fn a_stopped_life(rt: HostRuntime) -> Result<(), Fail> {
     assert_eq!(rt; script.fails.len(), 3);
     let life = script.lives.first().ok_or("it has a life")?;
     assert_eq!(rt; life.turns.len(), 5);
+    Ok(())
+}
+
+#[test]
+fn lives_over_one_store(rt: HostRuntime) -> Result<(), Fail> {
+    let text =
+        b"dhcpcd-script 1\nfile duid 00ff\nfile eth0.lease4.new -\nfail store 3\nfail hooks 1\nstart 0 0 up -\n";
+    assert!(rt; read_script(rt.alloc(), text).is_err());
+    let text =
+        b"dhcpcd-script 1\nfile duid 00ff\nfile eth0.lease4.new -\nfail store 3\nstart 0 0 up -\nturn 1 0 stop\n\
+        turn 5001 0 quiet\ncrash 0 old\nstart 9 0 up -\ncrash - new\nstart 5 0 up -\nturn 6 0 quiet\n";
+    let script = read_script(rt.alloc(), text).ok().ok_or("it is a script")?;
+    let file = script.files.first().ok_or("it has a file")?;
+    assert_eq!(rt; file.name.as_str(), "duid");
+    assert!(rt; file.bytes.as_slice() == b"\x00\xff".as_slice());
+    assert_eq!(rt; script.files.len(), 2);
+    assert_eq!(rt; script.fails.len(), 1);
+    assert_eq!(rt; script.lives.len(), 3);
+    let first = script.lives.first().ok_or("it has a life")?;
+    let crash = CrashLine {
+        calls: Some(0),
+        kind: CrashKind::Old,
+    };
+    assert!(rt; first.crash == Some(crash));
+    assert_eq!(rt; first.turns.len(), 2);
+    let second = script.lives.get(1).ok_or("it has two lives")?;
+    let crash = CrashLine {
+        calls: None,
+        kind: CrashKind::New,
+    };
+    assert!(rt; second.crash == Some(crash));
+    let last = script.lives.last().ok_or("it has three lives")?;
+    assert!(rt; last.crash.is_none());
+    assert_eq!(rt; last.turns.len(), 1);
     Ok(())
 }

@@ -5,9 +5,10 @@ use Rattle.std.proofs.lemmas.List.{length-append, take-append-drop}
 use Rattle.std.proofs.lemmas.List.Elements.{filter-append}
 use Rattle.world.specs.RowText.{row_text}
 use Rattle.script_model.specs.FailingCalls.{fail_text}
+use Rattle.script_model.specs.FirstFiles.{file_text}
 use Rattle.script_model.specs.Lines.{interface_text, start_text}
 use Rattle.script_model.specs.LineNumbers.{line_feeds, ScriptsHaveLines}
-use Rattle.script_model.specs.ScriptTexts.{LifeScript, ended, given_text, life_text}
+use Rattle.script_model.specs.ScriptTexts.{LifeScript, ended, given_text, crash_line, life_text}
 
 pub feeds_join : (a b : List ℕ) → line_feeds (a ++ b) ≡ line_feeds a + line_feeds b
 feeds_join a b = ap length (filter-append (λ x. x == 10) a b) ∙ length-append _ _
@@ -33,7 +34,7 @@ feeds_conf (text ∷ texts) =
 
 feeds_life : (life : LifeScript) → 1 ≤ line_feeds (life_text life)
 feeds_life life =
-    omega (arith, feeds_ended (start_text life.begin), feeds_join (ended (start_text life.begin)) (flat_map (λ given. ended (given_text given)) life.turns))
+    omega (arith, feeds_ended (start_text life.begin), feeds_join (ended (start_text life.begin)) (flat_map (λ given. ended (given_text given)) life.turns ++ crash_line life.crash))
 
 feeds_lives : (lives : List LifeScript) → length lives ≤ line_feeds (flat_map life_text lives)
 feeds_lives [] = omega arith
@@ -44,15 +45,17 @@ pub script_feeds : ScriptsHaveLines
 script_feeds s =
     let lives = flat_map life_text s.lives in
     let fails = flat_map (λ fail. ended (fail_text fail)) s.fails in
+    let files = flat_map (λ file. ended (file_text file)) s.files in
     let rows = flat_map (λ row. ended (codes "row " ++ row_text row)) s.rows in
     let ifaces = flat_map (λ spec. ended (interface_text spec)) s.ifaces in
     let conf = flat_map (λ text. ended (codes "c:" ++ text)) s.conf in
     omega (
       arith,
-      feeds_join (ended (codes "dhcpcd-script 1")) (conf ++ (ifaces ++ (rows ++ (fails ++ lives)))),
-      feeds_join conf (ifaces ++ (rows ++ (fails ++ lives))),
-      feeds_join ifaces (rows ++ (fails ++ lives)),
-      feeds_join rows (fails ++ lives),
+      feeds_join (ended (codes "dhcpcd-script 1")) (conf ++ (ifaces ++ (rows ++ (files ++ (fails ++ lives))))),
+      feeds_join conf (ifaces ++ (rows ++ (files ++ (fails ++ lives)))),
+      feeds_join ifaces (rows ++ (files ++ (fails ++ lives))),
+      feeds_join rows (files ++ (fails ++ lives)),
+      feeds_join files (fails ++ lives),
       feeds_join fails lives,
       feeds_conf s.conf,
       feeds_each interface_text s.ifaces,

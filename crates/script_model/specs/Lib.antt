@@ -1,6 +1,8 @@
 pub mod IfaceSets
 pub mod Lines
 pub mod FailingCalls
+pub mod FirstFiles
+pub mod Crashes
 pub mod ScriptTexts
 pub mod Stops
 pub mod Scripts

@@ -23,6 +23,9 @@ pub data Line : Type 0 where
   Start : (begin : Begin) → Line
   Asides : (names : List (List ℕ)) → Line
   AsidesFailed : Line
+  Wrote : (name bytes : List ℕ) → (done : Bool) → Line
+  Synced : (name : List ℕ) → (done : Bool) → Line
+  Renamed : (name : List ℕ) → (done : Bool) → Line
   Removed : (name : List ℕ) → (done : Bool) → Line
   Settled : (done : Bool) → Line
   Read : (name : List ℕ) → (reading : Reading) → Line
@@ -99,6 +102,9 @@ line_words (Life number) = codes "life " ++ decimal number
 line_words (Start begin) = start_text begin
 line_words (Asides names) = codes "store list ok" ++ flat_map (λ name. codes " " ++ name) names
 line_words AsidesFailed = codes "store list failed"
+line_words (Wrote name bytes done) = codes "store write " ++ name ++ codes " " ++ hex_text bytes ++ codes " " ++ outcome_text done
+line_words (Synced name done) = codes "store sync " ++ name ++ codes " " ++ outcome_text done
+line_words (Renamed name done) = codes "store rename " ++ name ++ codes " " ++ outcome_text done
 line_words (Removed name done) = codes "store remove " ++ name ++ codes " " ++ outcome_text done
 line_words (Settled done) = codes "store settle " ++ outcome_text done
 line_words (Read name reading) = codes "store read " ++ name ++ codes " " ++ reading_text reading

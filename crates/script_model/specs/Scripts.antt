@@ -1,5 +1,5 @@
 -- Which scripts are built.
-use Rattle.std.specs.Prelude.{ℕ, ◌≡◌, ◌+◌, ◌^◌, ◌<◌, ◌≤◌, List, [], ◌∷◌, length, All, AllPairs}
+use Rattle.std.specs.Prelude.{ℕ, ◌≡◌, ◌+◌, ◌^◌, ◌<◌, ◌≤◌, List, [], ◌∷◌, length, All, AllPairs, IfSome, IsTrue, is_some}
 use Rattle.net_types.specs.declared.interface.IfSpec.{IfSpec}
 use Rattle.net_types.specs.AddressText.{FitsMac}
 use Rattle.net_types.specs.NameText.{FitsName}
@@ -10,6 +10,8 @@ use Rattle.world.specs.LinkCalls.{Given}
 use Rattle.world.specs.RowOrder.{in_row_order}
 use Rattle.world.specs.RowText.{IsBuiltRow}
 use Rattle.script_model.specs.FailingCalls.{FitsFail}
+use Rattle.script_model.specs.FirstFiles.{FitsFile, UnlikeNames}
+use Rattle.script_model.specs.Crashes.{FitsCrash}
 use Rattle.script_model.specs.ScriptTexts.{ScriptLines, LifeScript}
 use Rattle.script_model.specs.Stops.{wakes_seen, EndsWhenOver}
 
@@ -63,6 +65,11 @@ pub record FitsLife (count : ℕ) (life : LifeScript) : Type 0 where
   pub up : life.begin.up < 2 ^ count
   pub turns : All (FitsGiven count) life.turns
   pub over : EndsWhenOver (wakes_seen life.begin.at life.turns)
+  pub crash : IfSome life.crash FitsCrash
+
+-- A life that another one follows ends with a crash.
+abbrev pub CrashBetween : List LifeScript → Type 0
+CrashBetween lives = AllPairs (λ life later. IsTrue (is_some life.crash)) lives
 
 pub record FitsScript (script : ScriptLines) : Type 0 where
   pub conf : All (Lacks 10) script.conf
@@ -70,7 +77,9 @@ pub record FitsScript (script : ScriptLines) : Type 0 where
   -- rows that are built, each once
   pub rows : All IsBuiltRow script.rows
   pub once : length (in_row_order script.rows) ≡ length script.rows
+  pub files : All FitsFile script.files
+  pub unlike : AllPairs UnlikeNames script.files
   pub fails : All FitsFail script.fails
-  -- lives that are built: one
-  pub one : length script.lives ≡ 1
+  pub some : 1 ≤ length script.lives
+  pub parted : CrashBetween script.lives
   pub lives : All (FitsLife (length script.ifaces)) script.lives

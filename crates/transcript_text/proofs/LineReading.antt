@@ -146,12 +146,21 @@ send_whole iface bytes taken h =
     let small : iface.number < 2 ^ 64 = omega (arith, h.0) in
     simp append_assoc (rw (cut_number iface.number (hex_text bytes ++ 32 ∷ outcome_text taken) small, cut_hex bytes (outcome_text taken) h.1, number_whole iface.number small, hex_whole bytes h.1, done_whole taken) refl)
 
-unfoldable pub removed_in : List ℕ → Line
-removed_in text = Model.Removed (cut text).0 (done_in (cut text).1)
+unfoldable pub wrote_in : List ℕ → Line
+wrote_in text = Model.Wrote (cut text).0 (hex_in (cut (cut text).1).0) (done_in (cut (cut text).1).1)
 
-removed_whole : (name : List ℕ) (done : Bool) → IsFileName name → removed_in (name ++ codes " " ++ outcome_text done) ≡ Model.Removed name done
-unfolding removed_in
-removed_whole name done h = simp append_assoc (rw (cut_file name (outcome_text done) h, done_whole done) refl)
+wrote_whole : (name bytes : List ℕ) (done : Bool) → IsFileName name → AreBytes bytes → wrote_in (name ++ codes " " ++ hex_text bytes ++ codes " " ++ outcome_text done) ≡ Model.Wrote name bytes done
+unfolding wrote_in
+wrote_whole name bytes done h octets =
+    simp append_assoc (rw (cut_file name (hex_text bytes ++ 32 ∷ outcome_text done) h, cut_hex bytes (outcome_text done) octets, hex_whole bytes octets, done_whole done) refl)
+
+-- a call of the store on a file, by the line that it makes
+unfoldable pub call_in : (List ℕ → Bool → Line) → List ℕ → Line
+call_in make text = make (cut text).0 (done_in (cut text).1)
+
+call_whole : (make : List ℕ → Bool → Line) (name : List ℕ) (done : Bool) → IsFileName name → call_in make (name ++ codes " " ++ outcome_text done) ≡ make name done
+unfolding call_in
+call_whole make name done h = simp append_assoc (rw (cut_file name (outcome_text done) h, done_whole done) refl)
 
 unfoldable pub read_in : List ℕ → Line
 read_in text = Model.Read (cut text).0 (reading_in (cut text).1)
@@ -222,7 +231,10 @@ line_in =
     (after (codes "start ") start_in
     (after (codes "store list ok") (λ text. Model.Asides (drop 1 (words_in text)))
     (after (codes "store list failed") (λ text. Model.AsidesFailed)
-    (after (codes "store remove ") removed_in
+    (after (codes "store write ") wrote_in
+    (after (codes "store sync ") (call_in Model.Synced)
+    (after (codes "store rename ") (call_in Model.Renamed)
+    (after (codes "store remove ") (call_in Model.Removed)
     (after (codes "store settle ") (λ text. Model.Settled (done_in text))
     (after (codes "store read ") read_in
     (after (codes "turn ") turn_in
@@ -235,7 +247,7 @@ line_in =
     (after (codes "until ") (λ text. Model.Until (number_at (2 ^ 64) text))
     (after (codes "hold addr ") hold_in
     (after (codes "end") (λ text. Model.EndOfLife)
-    (λ text. Model.Head)))))))))))))))))))
+    (λ text. Model.Head))))))))))))))))))))))
 
 pub line_whole : (line : Line) → FitsLine line → line_in (line_words line) ≡ line
 unfolding line_in line_words strip_word
@@ -246,7 +258,10 @@ line_whole (Model.Life number) h = ap Model.Life (number_whole number h)
 line_whole (Model.Start begin) h = start_whole begin h
 line_whole (Model.Asides names) h = ap (λ words. Model.Asides (drop 1 words)) (names_whole names [] refl h)
 line_whole Model.AsidesFailed h = refl
-line_whole (Model.Removed name done) h = removed_whole name done h
+line_whole (Model.Wrote name bytes done) h = wrote_whole name bytes done h.0 h.1
+line_whole (Model.Synced name done) h = call_whole Model.Synced name done h
+line_whole (Model.Renamed name done) h = call_whole Model.Renamed name done h
+line_whole (Model.Removed name done) h = call_whole Model.Removed name done h
 line_whole (Model.Settled done) h = ap Model.Settled (done_whole done)
 line_whole (Model.Read name reading) h = read_whole name reading h.0 h.1
 line_whole (Model.Turn at salt event bytes) h = turn_whole at salt event bytes h

@@ -7,7 +7,7 @@ use Rattle.script_model.specs.Lines as Model
 use Rattle.transcript_text.specs.declared.lines.Reading.{Reading}
 use Rattle.transcript_text.specs.declared.lines.Reading.TheVariants.{Found, Missing, Unread}
 use Rattle.transcript_text.specs.declared.lines.TranscriptLine.{TranscriptLine}
-use Rattle.transcript_text.specs.declared.lines.TranscriptLine.TheVariants.{Head, Conf, Interface, Life, Start, Asides, AsidesFailed, Removed, Settled, Read, Turn, Send, HostListed, Row, HostListFailed, HostDel, HostAdd, Until, Hold, EndOfLife}
+use Rattle.transcript_text.specs.declared.lines.TranscriptLine.TheVariants.{Head, Conf, Interface, Life, Start, Asides, AsidesFailed, Wrote, Synced, Renamed, Removed, Settled, Read, Turn, Send, HostListed, Row, HostListFailed, HostDel, HostAdd, Until, Hold, EndOfLife}
 
 abbrev pub reading_of : Reading → Store.Reading
 reading_of (Found bytes) = Store.Found bytes.now
@@ -22,6 +22,9 @@ line_of (Life number) = Model.Life number
 line_of (Start begin) = Model.Start begin
 line_of (Asides names) = Model.Asides (map string_bytes names.now)
 line_of AsidesFailed = Model.AsidesFailed
+line_of (Wrote name bytes done) = Model.Wrote name.now bytes.now done
+line_of (Synced name done) = Model.Synced name.now done
+line_of (Renamed name done) = Model.Renamed name.now done
 line_of (Removed name done) = Model.Removed name.now done
 line_of (Settled done) = Model.Settled done
 line_of (Read name reading) = Model.Read name.now (reading_of reading)

@@ -27,6 +27,22 @@ pub enum TranscriptLine<'a> {
     /// The names of asides that the store listed.
     Asides(&'a [String]),
     AsidesFailed,
+    /// The aside of a file was written, with all its bytes.
+    Wrote {
+        name: &'a str,
+        bytes: &'a [u8],
+        done: bool,
+    },
+    /// The aside of a file was brought to rest.
+    Synced {
+        name: &'a str,
+        done: bool,
+    },
+    /// The aside of a file was put in its place.
+    Renamed {
+        name: &'a str,
+        done: bool,
+    },
     Removed {
         name: &'a str,
         done: bool,

@@ -208,6 +208,36 @@ fn print_done<'a>(
     append_pieces(&[Piece::Word(word), about, outcome(done)], into)
 }
 
+/// Appends a word, the name of a file and whether the call was done.
+fn print_named(word: &[u8], name: &str, done: bool, into: &mut Vec<u8>) -> Result<(), NoMemory>
+    ensures ok { OnOk result (into.new.items ≡ into.old.items ++ ((word.now ++ name.now ++ codes " " ++ outcome_text done) ++ 10 ∷ [])) }
+    ensures err { OnErr result (into.new.items ≡ into.old.items) }
+{
+    print_done(word, Piece::Word(name.as_bytes()), done, into)
+}
+
+#[tactic(auto, unfolding(script_model::specs::Lines::line_words), using(std::proofs::Common::append_assoc))]
+fn print_wrote<'a>(
+    name: &'a str,
+    bytes: &'a [u8],
+    done: bool,
+    into: &mut Vec<u8>,
+) -> Result<(), NoMemory>
+    ensures ok { OnOk result (into.new.items ≡ into.old.items ++ line_text (Lines.Wrote name.now bytes.now done)) }
+    ensures err { OnErr result (into.new.items ≡ into.old.items) }
+{
+    append_pieces(
+        &[
+            Piece::Word(b"store write "),
+            Piece::Word(name.as_bytes()),
+            BLANK,
+            Piece::Hex(bytes),
+            outcome(done),
+        ],
+        into,
+    )
+}
+
 fn print_listed(names: &[String], into: &mut Vec<u8>) -> Result<(), NoMemory>
     ensures ok { OnOk result (into.new.items ≡ into.old.items ++ ((codes "store list ok" ++ flat_map (λ name. codes " " ++ name) (map string_bytes names.now)) ++ 10 ∷ [])) }
     ensures err { OnErr result (into.new.items ≡ into.old.items) }
@@ -234,12 +264,10 @@ pub fn print_line(line: &TranscriptLine<'_>, into: &mut Vec<u8>) -> Result<(), N
         Line::Start(begin) => print_start(begin, into),
         Line::Asides(names) => print_listed(names, into),
         Line::AsidesFailed => append_bytes(b"store list failed\n", into),
-        Line::Removed { name, done } => print_done(
-            b"store remove ",
-            Word(name.as_bytes()),
-            done,
-            into,
-        ),
+        Line::Wrote { name, bytes, done } => print_wrote(name, bytes, done, into),
+        Line::Synced { name, done } => print_named(b"store sync ", name, done, into),
+        Line::Renamed { name, done } => print_named(b"store rename ", name, done, into),
+        Line::Removed { name, done } => print_named(b"store remove ", name, done, into),
         Line::Settled { done } => append_pieces(&[Word(b"store settle"), outcome(done)], into),
         Line::Read { name, reading } => print_read(name, reading, into),
         Line::Turn {

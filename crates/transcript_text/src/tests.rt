@@ -48,6 +48,24 @@ fn prints_what_examples_do_not_show(rt: HostRuntime) -> Result<(), Fail> {
     let lines = [
         TranscriptLine::Asides(&asides),
         TranscriptLine::AsidesFailed,
+        TranscriptLine::Wrote {
+            name: "duid",
+            bytes: &[0, 0x0a, 0xff],
+            done: true,
+        },
+        TranscriptLine::Wrote {
+            name: "resolv.conf",
+            bytes: b"".as_slice(),
+            done: false,
+        },
+        TranscriptLine::Synced {
+            name: "duid",
+            done: true,
+        },
+        TranscriptLine::Renamed {
+            name: "duid",
+            done: false,
+        },
         TranscriptLine::Removed {
             name: "duid.new",
             done: false,
@@ -78,6 +96,10 @@ fn prints_what_examples_do_not_show(rt: HostRuntime) -> Result<(), Fail> {
         str::from_utf8(&printed(alloc, &lines)?)?,
         "store list ok duid.new eth0.lease4.new\n\
          store list failed\n\
+         store write duid 000aff ok\n\
+         store write resolv.conf - failed\n\
+         store sync duid ok\n\
+         store rename duid failed\n\
          store remove duid.new failed\n\
          store settle ok\n\
          store read duid 000aff\n\

@@ -3,7 +3,7 @@ use Rattle.std.proofs.Common.{◌≡◌, Bool, true, false, cond, List, [], ◌�
 use Rattle.std.specs.Prelude.{map, not}
 use Rattle.std.specs.List.{list_all}
 use Rattle.world.specs.declared.rows.HostRow.{HostRow}
-use Rattle.world.specs.HostCalls.{HostCall, HostTold, Listed, host_answered}
+use Rattle.world.specs.HostCalls.{HostTold, Listed, host_answered}
 use Rattle.settings.specs.declared.interfaces.Managed.{Managed}
 use Rattle.host_model.specs.declared.changes.HostChange.{HostChange}
 use Rattle.host_model.specs.HostTurn.{changes, changes_from, learnt, change_call, change_calls, host_calls, applied, after_changes, known_after}

@@ -2,10 +2,13 @@
 use Rattle.std.specs.Prelude.{ℕ, ◌||◌, if◌then◌else◌, List, [], ◌∷◌, take, drop, Option, Some}
 use Rattle.net_types.specs.declared.interface.IfSpec.{IfSpec}
 use Rattle.world.specs.declared.wakes.Wake.{Wake}
+use Rattle.world.specs.HostCalls.{HostTold}
 use Rattle.world.specs.LinkCalls.{Given, frame_len, cut_wake, waited}
+use Rattle.world.specs.StoreCalls.{StoreTold}
+use Rattle.world.specs.StoreFails.{StoreFails}
 use Rattle.settings.specs.declared.interfaces.Managed.{Managed}
 use Rattle.script_model.specs.Scripts.{frame_room}
-use Rattle.device_calls.specs.Worlds.{World, Ran, run, with_link}
+use Rattle.device_calls.specs.Worlds.{Told, World, Ran, run, with_link}
 use Rattle.turn_model.specs.Turns.{Life, turn_asks, until, is_over, is_end}
 use Rattle.turn_model.specs.Opening.{opening_asks}
 use Rattle.turn_model.specs.Lives.{OpeningMet, Met, met_with}
@@ -36,6 +39,13 @@ told_turns managed life world (given ∷ coming) =
     let ran = ran_turn managed life world given in
     if is_over life || is_end given.wake.event then [] else met_of given ran ∷ told_turns managed ran.result ran.world coming
 
+-- what the devices tell after these turns
+abbrev pub told_after : List Managed → Life → World → List Given → World
+told_after managed life world [] = world
+told_after managed life world (given ∷ coming) =
+    let ran = ran_turn managed life world given in
+    if is_over life || is_end given.wake.event then world else told_after managed ran.result ran.world coming
+
 abbrev pub foretold_turns : List Managed → Life → World → List Met
 foretold_turns managed life world = told_turns managed life world world.link.told.coming
 
@@ -47,11 +57,26 @@ opening_of managed specs world =
     let ran = ran_opening managed specs world in
     record { begin = world.link.told.begin; calls = ran.calls; life = ran.result }
 
+-- what a life leaves to the next one: how many frames were offered, the host and the store
+pub record Left : Type 0 where
+  pub sent : ℕ
+  pub host : Told HostTold (List ℕ)
+  pub store : Told StoreTold StoreFails
+
+abbrev pub left_in : World → Left
+left_in world = record { sent = world.link.told.sends; host = world.host; store = world.store }
+
 -- a life that devices foretell
 pub record ForetoldLife : Type 0 where
   pub opening : OpeningMet
   pub mets : List Met
+  pub left : Left
 
 abbrev pub foretold_life : List Managed → List IfSpec → World → ForetoldLife
 foretold_life managed specs world =
-    record { opening = opening_of managed specs world; mets = foretold_turns managed (ran_opening managed specs world).result (ran_opening managed specs world).world }
+    let opened = ran_opening managed specs world in
+    record {
+      opening = opening_of managed specs world;
+      mets = foretold_turns managed opened.result opened.world;
+      left = left_in (told_after managed opened.result opened.world opened.world.link.told.coming);
+    }

@@ -1,5 +1,7 @@
+pub mod LeaseFiles
 pub mod Turns
 pub mod Opening
 pub mod Lives
 pub mod Foretold
 pub mod HostInLife
+pub mod FilesInLife

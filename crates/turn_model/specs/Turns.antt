@@ -1,5 +1,5 @@
 -- One turn of a life: the client's step, then what it asks of the devices, part after part, and what comes of the answers.
-use Rattle.std.specs.Prelude.{ℕ, ◌+◌, ◌-◌, ◌^◌, Bool, true, false, max, nat_le, List, [], ◌∷◌, ◌++◌, map, filter, reverse, bit_or, Option, Some, None}
+use Rattle.std.specs.Prelude.{ℕ, ◌+◌, ◌-◌, ◌^◌, Bool, true, false, max, nat_le, List, [], ◌∷◌, filter, bit_or, Option, Some, None}
 use Rattle.world.specs.declared.wakes.Event.{Event}
 use Rattle.world.specs.declared.wakes.Event.TheVariants.{Stop, End}
 use Rattle.world.specs.declared.wakes.Wake.{Wake}
@@ -14,12 +14,15 @@ use Rattle.host_model.specs.declared.changes.HostChange.{HostChange}
 use Rattle.host_model.specs.HostTurn.{changes, applied}
 use Rattle.device_calls.specs.Calls.{Offer, ListRows, Change}
 use Rattle.device_calls.specs.Programs.{Asks, Done, Then, after}
+use Rattle.turn_model.specs.LeaseFiles.{LeaseFile, keeping, file_retry_at}
 
 -- a life between two turns
 pub record Life : Type 0 where
   pub client : Client
   -- the host's rows on managed interfaces, where they are known
   pub known : Option (List HostRow)
+  -- the files of leases
+  pub files : List LeaseFile
   -- the moment of the last turn, in milliseconds since 1970
   pub now : ℕ
   -- the moment of the stop, once it came
@@ -56,7 +59,8 @@ end_at (Some at) = Some (at + 5000)
 
 -- the moment that the next wait is asked for
 abbrev pub until : Life → Option ℕ
-until life = earlier (client_due life.client.ifaces) (earlier (retry_at life.known life.now) (end_at life.stop))
+until life =
+    earlier (client_due life.client.ifaces) (earlier (retry_at life.known life.now) (earlier (file_retry_at life.files life.now) (end_at life.stop)))
 
 abbrev pub is_past : Option ℕ → ℕ → Bool
 is_past None now = false
@@ -108,12 +112,18 @@ hosting managed wanted (Some known) = changing (changes known wanted) (Some know
 
 -- ---- the turn
 
--- what a step of the client asks, by what is known of the host's rows, and the life then
-abbrev pub acting : List Managed → (known : Option (List HostRow)) → ClientStep → (moment : ℕ) → (stop : Option ℕ) → Asks Life
-acting managed known step moment stop =
+-- what is known of the outside: of the host's rows, and of the files
+pub record Outlook : Type 0 where
+  pub known : Option (List HostRow)
+  pub files : List LeaseFile
+
+-- what a step of the client asks, by what is known of the outside, and the life then
+abbrev pub acting : List Managed → Outlook → ClientStep → (moment : ℕ) → (stop : Option ℕ) → Asks Life
+acting managed outlook step moment stop =
     after (offering step.sends 0) (λ unsent.
-    after (hosting managed (rows_of step.client) known) (λ known_then.
-    Done (record { client = step.client; known = known_then; now = moment; stop = stop; unsent = unsent })))
+    after (hosting managed (rows_of step.client) outlook.known) (λ known.
+    after (keeping step.client.ifaces outlook.files) (λ files.
+    Done (record { client = step.client; known = known; files = files; now = moment; stop = stop; unsent = unsent }))))
 
 -- the turn as the interfaces meet it
 abbrev pub input_of : Life → Wake → List ℕ → Turn
@@ -122,6 +132,9 @@ input_of life wake bytes = record { at = turn_moment life wake; salt = wake.salt
 abbrev pub step_of : Life → Wake → List ℕ → ClientStep
 step_of life wake bytes = client_turned (input_of life wake bytes) life.client
 
+abbrev pub outlook_of : Life → Outlook
+outlook_of life = record { known = life.known; files = life.files }
+
 unfoldable pub turn_asks : List Managed → Life → Wake → List ℕ → Asks Life
 turn_asks managed life wake bytes =
-    acting managed life.known (step_of life wake bytes) (turn_moment life wake) (stop_after life.stop wake.event (turn_moment life wake))
+    acting managed (outlook_of life) (step_of life wake bytes) (turn_moment life wake) (stop_after life.stop wake.event (turn_moment life wake))

@@ -5,7 +5,7 @@ use Rattle.std.specs.List.{AllByRecursion}
 use Rattle.world.specs.declared.rows.HostRow.{HostRow}
 use Rattle.world.specs.Rows.{IsRow}
 use Rattle.world.specs.RowOrder.{in_row_order}
-use Rattle.client_model.specs.WantedRows.{is_kept}
+use Rattle.client_core.specs.Displaced.{stays_among}
 use Rattle.client_core.proofs.Order.{kept_in, kept_out}
 use Rattle.client_core.proofs.RowsFit.{order_fit}
 use Rattle.client_core.proofs.wanting.unique_rows.Goals as goal
@@ -18,5 +18,5 @@ pub returns-clause-fit : goal.returns-clause-fit
 returns-clause-fit c =
     let all : List HostRow = c.args.rows.now in
     let seen : take c.loop-row.row-index all ≡ all = take_all c.loop-row.row-index all (omega arith) in
-    subst (λ (keys : List HostRow). AllByRecursion IsRow keys) (sym (c.loop-row.invariant ∙ ap (λ (rows : List HostRow). in_row_order (filter (is_kept all) rows)) seen))
-    (order_fit (is_kept all) all c.requires)
+    subst (λ (keys : List HostRow). AllByRecursion IsRow keys) (sym (c.loop-row.invariant ∙ ap (λ (rows : List HostRow). in_row_order (filter (stays_among c.args.running.now) rows)) seen))
+    (order_fit (stays_among c.args.running.now) all c.requires)

@@ -10,7 +10,7 @@ use Rattle.daemon.proofs.serving.take_turns.Goals as goal
 pub wakes-init : goal.wakes-init
 wakes-init g c = record {
   turns = takes_none c.args.managed.now (life_of c.args.life) (g.W.Outside.seen c.args.outside.now) (g.O.Sink.written c.args.out.now);
-  timely = c.requires.timely;
+  orderly = c.requires.orderly;
   going = c.requires.going;
   out = omega arith;
   link = omega arith;
@@ -24,7 +24,7 @@ wakes-preserved g c =
     let woken = rw c.in-On.is at c.in_ok-last.ensures.ok in
     record {
       turns = takes_more c.args.managed.now (life_of c.args.life) (life_of c.wakes.life) (life_of c.in-On.next) (g.W.Outside.seen c.args.outside.now) (g.W.Outside.seen c.wakes.outside) _ (g.O.Sink.written c.args.out.now) (g.O.Sink.written c.wakes.out) _ c.wakes.counter c.wakes.invariant.turns woken.1;
-      timely = woken.0;
+      orderly = woken.0;
       going = woken.1.going;
       out = omega (arith, c.wakes.invariant.out, c.in_ok-last.ensures.later.0);
       link = omega (arith, c.wakes.invariant.link, c.in_ok-last.ensures.later.1);

@@ -45,7 +45,7 @@ returns-then-is_over-clause-ok g c =
 
 pub returns-clause-ok : goal.returns-clause-ok
 returns-clause-ok g c = (
-  c.in_ok-life.ensures.timely,
+  c.in_ok-life.ensures.orderly,
   record {
     met = met_with c.in_ok-wake.wake c.front.result.now c.in_ok-life.ensures.made.calls (life_of c.in_ok-life.life);
     goes = one_goes c.args.managed.now (life_of c.args.life) (life_of c.in_ok-life.life) c.in_ok-wake.wake c.front.result.now c.wait.new.buf c.clear.new.self.items c.turn.new.text.items c.deref.result.now c.until.result

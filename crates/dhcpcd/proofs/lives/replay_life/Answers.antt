@@ -1,31 +1,70 @@
-use Rattle.std.proofs.Common.{◌≤◌, ◌+◌, length, inl, inr, refl, arith}
+use Rattle.std.proofs.Common.{◌≤◌, ◌+◌, [], length, inl, inr, refl, ap, arith, ◌∙◌}
 use Rattle.std.proofs.lemmas.List.{length-map}
+use Rattle.world.specs.StoreFails.{StoreFails}
+use Rattle.world_mem.specs.HostRecord.{HostState}
 use Rattle.replay_text.specs.ScriptContent as content
 use Rattle.daemon.specs.declared.serving.ServeEnd.TheVariants as ends
-use Rattle.dhcpcd.proofs.WholeLife.{is_first, lived, stops_life, all_come}
+use Rattle.daemon.specs.Streams.{WritesFront}
+use Rattle.daemon.proofs.Causes.{error_is}
+use Rattle.daemon.proofs.CutOffs.{front_none}
+use Rattle.dhcpcd.specs.Carried.{between_in, failing_with}
+use Rattle.dhcpcd.specs.Replays.{life_in}
+use Rattle.dhcpcd.proofs.WholeLife.{lived, stops_life, all_come, front_whole, front_of_number, front_of_lines, lived_whole}
+use Rattle.dhcpcd.proofs.LifeLeft.{made_first, next_is, still_fails_store, still_fails_host, fails_on}
 use Rattle.dhcpcd.proofs.lives.replay_life.Goals as goal
-
-pub returns-in-End-clause-ok : goal.returns-in-End-clause-ok
-returns-in-End-clause-ok g c = (
-  c.in-End.ensures.cause.0,
-  lived c.args.managed.now c.args.specs.now c.args.rows.items c.args.fails.now (content.life_of c.args.life) _ _ _ _
-      (is_first c.args.managed.now c.args.specs.now c.args.rows.items c.args.fails.now (content.life_of c.args.life) c.in_ok-live.live.link c.in_ok-live.live.store c.in_ok-live.live.host c.in_ok-live.ensures.link c.in_ok-live.ensures.store c.in_ok-live.ensures.host)
-      (c.in-End.ensures.served refl),
-)
-
-pub returns-in-WriteFault-clause-front : goal.returns-in-WriteFault-clause-front
-returns-in-WriteFault-clause-front g c =
-    stops_life c.args.managed.now c.args.specs.now c.args.rows.items c.args.fails.now (content.life_of c.args.life) _ _
-    (is_first c.args.managed.now c.args.specs.now c.args.rows.items c.args.fails.now (content.life_of c.args.life) c.in_ok-live.live.link c.in_ok-live.live.store c.in_ok-live.live.host c.in_ok-live.ensures.link c.in_ok-live.ensures.store c.in_ok-live.ensures.host)
-    _ _ ends.WriteFault (inl refl) c.in-WriteFault.ensures.cut
-
-pub returns-in-NoMemory-clause-front : goal.returns-in-NoMemory-clause-front
-returns-in-NoMemory-clause-front g c =
-    stops_life c.args.managed.now c.args.specs.now c.args.rows.items c.args.fails.now (content.life_of c.args.life) _ _
-    (is_first c.args.managed.now c.args.specs.now c.args.rows.items c.args.fails.now (content.life_of c.args.life) c.in_ok-live.live.link c.in_ok-live.live.store c.in_ok-live.live.host c.in_ok-live.ensures.link c.in_ok-live.ensures.store c.in_ok-live.ensures.host)
-    _ _ ends.NoMemory (inr refl) c.in-NoMemory.ensures.cut
 
 pub unreachable-requires-in-TurnsOver : goal.unreachable-requires-in-TurnsOver
 unreachable-requires-in-TurnsOver g c =
     let many : c.len.result + 1 ≤ length c.in_ok-live.live.link.told.coming = c.in-TurnsOver.ensures.many refl in
-    all_come (content.life_of c.args.life) c.args.fails.now c.in_ok-live.live.link c.in_ok-live.ensures.link (omega (arith, many, c.len.ensures, length-map c.args.life.turns.items content.given_of))
+    all_come (content.life_of c.args.life) c.args.between.sent c.args.sends.now c.in_ok-live.live.link c.in_ok-live.ensures.link (omega (arith, many, c.len.ensures, length-map c.args.life.turns.items content.given_of))
+
+pub returns-in_err-begin_life-clause-front : goal.returns-in_err-begin_life-clause-front
+returns-in_err-begin_life-clause-front g c =
+    error_is c.from_residual.result _ (λ status. WritesFront (g.O.Sink.written c.args.out.now) (g.O.Sink.written c.begin_life.new.out) [] (life_in c.args.managed.now c.args.specs.now (failing_with c.args.sends.now c.args.between) (between_in c.args.between) (content.life_of c.args.life))) c.from_residual.ensures.1
+    (front_of_number c.args.managed.now c.args.specs.now (failing_with c.args.sends.now c.args.between) (between_in c.args.between) (content.life_of c.args.life) (c.args.between.lives + 1) refl _ _ c.in_err-begin_life.ensures.front)
+
+pub returns-in_err-live-clause-front : goal.returns-in_err-live-clause-front
+returns-in_err-live-clause-front g c =
+    error_is c.from_residual-in_err-live.result _ (λ status. WritesFront (g.O.Sink.written c.args.out.now) (g.O.Sink.written c.begin_life.new.out) [] (life_in c.args.managed.now c.args.specs.now (failing_with c.args.sends.now c.args.between) (between_in c.args.between) (content.life_of c.args.life))) c.from_residual-in_err-live.ensures.1
+    (front_of_lines c.args.managed.now c.args.specs.now (failing_with c.args.sends.now c.args.between) (between_in c.args.between) (content.life_of c.args.life) (c.args.between.lives + 1) refl _ _ _ c.in_ok-begin_life.ensures.ok.1 (front_none _ _))
+
+pub returns-in-WriteFault-clause-front : goal.returns-in-WriteFault-clause-front
+returns-in-WriteFault-clause-front g c =
+    front_of_lines c.args.managed.now c.args.specs.now (failing_with c.args.sends.now c.args.between) (between_in c.args.between) (content.life_of c.args.life) (c.args.between.lives + 1) refl _ _ _ c.in_ok-begin_life.ensures.ok.1
+    (stops_life c.args.managed.now c.args.specs.now (failing_with c.args.sends.now c.args.between) (between_in c.args.between) (content.life_of c.args.life) _ _ (made_first (failing_with c.args.sends.now c.args.between) (between_in c.args.between) (content.life_of c.args.life) c.in_ok-live.live.link c.in_ok-live.live.store c.in_ok-live.live.host (record { of_link = c.in_ok-live.ensures.link; of_store = c.in_ok-live.ensures.told; fails_store = c.in_ok-live.ensures.failing; of_host = ap (λ (h : HostState). h.told) c.in_ok-live.ensures.host; fails_host = ap (λ (h : HostState). h.failing) c.in_ok-live.ensures.host })) _ _ ends.WriteFault (inl refl) c.in-WriteFault.ensures.cut)
+
+pub returns-in-NoMemory-clause-front : goal.returns-in-NoMemory-clause-front
+returns-in-NoMemory-clause-front g c =
+    front_of_lines c.args.managed.now c.args.specs.now (failing_with c.args.sends.now c.args.between) (between_in c.args.between) (content.life_of c.args.life) (c.args.between.lives + 1) refl _ _ _ c.in_ok-begin_life.ensures.ok.1
+    (stops_life c.args.managed.now c.args.specs.now (failing_with c.args.sends.now c.args.between) (between_in c.args.between) (content.life_of c.args.life) _ _ (made_first (failing_with c.args.sends.now c.args.between) (between_in c.args.between) (content.life_of c.args.life) c.in_ok-live.live.link c.in_ok-live.live.store c.in_ok-live.live.host (record { of_link = c.in_ok-live.ensures.link; of_store = c.in_ok-live.ensures.told; fails_store = c.in_ok-live.ensures.failing; of_host = ap (λ (h : HostState). h.told) c.in_ok-live.ensures.host; fails_host = ap (λ (h : HostState). h.failing) c.in_ok-live.ensures.host })) _ _ ends.NoMemory (inr refl) c.in-NoMemory.ensures.cut)
+
+pub returns-in_err-left-in-End-clause-front : goal.returns-in_err-left-in-End-clause-front
+returns-in_err-left-in-End-clause-front g c =
+    error_is c.from_residual-in_err-left-in-End.result _ (λ status. WritesFront (g.O.Sink.written c.args.out.now) (g.O.Sink.written c.serve.new.out) [] (life_in c.args.managed.now c.args.specs.now (failing_with c.args.sends.now c.args.between) (between_in c.args.between) (content.life_of c.args.life))) c.from_residual-in_err-left-in-End.ensures.1
+    (front_whole _ _ _
+    (lived_whole c.args.managed.now c.args.specs.now (failing_with c.args.sends.now c.args.between) (between_in c.args.between) (content.life_of c.args.life) (c.args.between.lives + 1) refl _ _ _ c.in_ok-begin_life.ensures.ok.1 (lived c.args.managed.now c.args.specs.now (failing_with c.args.sends.now c.args.between) (between_in c.args.between) (content.life_of c.args.life) _ _ _ _ (made_first (failing_with c.args.sends.now c.args.between) (between_in c.args.between) (content.life_of c.args.life) c.in_ok-live.live.link c.in_ok-live.live.store c.in_ok-live.live.host (record { of_link = c.in_ok-live.ensures.link; of_store = c.in_ok-live.ensures.told; fails_store = c.in_ok-live.ensures.failing; of_host = ap (λ (h : HostState). h.told) c.in_ok-live.ensures.host; fails_host = ap (λ (h : HostState). h.failing) c.in_ok-live.ensures.host })) (c.in-End.ensures.served refl))))
+
+pub returns-in_ok-left-in-End-clause-ok : goal.returns-in_ok-left-in-End-clause-ok
+returns-in_ok-left-in-End-clause-ok g c = (
+  omega (arith, c.in_ok-begin_life.ensures.ok.0, c.in-End.ensures.cause.0),
+  lived_whole c.args.managed.now c.args.specs.now (failing_with c.args.sends.now c.args.between) (between_in c.args.between) (content.life_of c.args.life) (c.args.between.lives + 1) refl _ _ _ c.in_ok-begin_life.ensures.ok.1 (lived c.args.managed.now c.args.specs.now (failing_with c.args.sends.now c.args.between) (between_in c.args.between) (content.life_of c.args.life) _ _ _ _ (made_first (failing_with c.args.sends.now c.args.between) (between_in c.args.between) (content.life_of c.args.life) c.in_ok-live.live.link c.in_ok-live.live.store c.in_ok-live.live.host (record { of_link = c.in_ok-live.ensures.link; of_store = c.in_ok-live.ensures.told; fails_store = c.in_ok-live.ensures.failing; of_host = ap (λ (h : HostState). h.told) c.in_ok-live.ensures.host; fails_host = ap (λ (h : HostState). h.failing) c.in_ok-live.ensures.host })) (c.in-End.ensures.served refl)),
+)
+
+pub returns-in_ok-left-in-End-clause-left : goal.returns-in_ok-left-in-End-clause-left
+returns-in_ok-left-in-End-clause-left g c =
+    let served = c.in-End.ensures.served refl in
+    let counts = c.in_ok-left-in-End.ensures.counts in
+    let host = c.in_ok-left-in-End.ensures.host in
+    let told = c.in_ok-left-in-End.ensures.told in
+    (λ i. record { lives = counts.0 i; sent = counts.1 i; host = (host i).told; store = told i })
+    ∙ next_is c.args.managed.now c.args.specs.now (failing_with c.args.sends.now c.args.between) (between_in c.args.between) (content.life_of c.args.life) c.in_ok-live.live.link c.serve.new.live.link c.in_ok-live.live.store c.serve.new.live.store c.in_ok-live.live.host c.serve.new.live.host
+    (record { of_link = c.in_ok-live.ensures.link; of_store = c.in_ok-live.ensures.told; fails_store = c.in_ok-live.ensures.failing; of_host = ap (λ (h : HostState). h.told) c.in_ok-live.ensures.host; fails_host = ap (λ (h : HostState). h.failing) c.in_ok-live.ensures.host }) served.left (c.args.between.lives + 1) refl
+
+pub returns-in_ok-left-in-End-clause-failing : goal.returns-in_ok-left-in-End-clause-failing
+returns-in_ok-left-in-End-clause-failing g c =
+    let served = c.in-End.ensures.served refl in
+    fails_on c.args.sends.now c.in_ok-left-in-End.field-0 c.args.between
+    (ap (λ (h : HostState). h.failing) c.in_ok-left-in-End.ensures.host ∙ still_fails_host c.args.managed.now c.args.specs.now (failing_with c.args.sends.now c.args.between) (between_in c.args.between) (content.life_of c.args.life) c.in_ok-live.live.link c.serve.new.live.link c.in_ok-live.live.store c.serve.new.live.store c.in_ok-live.live.host c.serve.new.live.host
+    (record { of_link = c.in_ok-live.ensures.link; of_store = c.in_ok-live.ensures.told; fails_store = c.in_ok-live.ensures.failing; of_host = ap (λ (h : HostState). h.told) c.in_ok-live.ensures.host; fails_host = ap (λ (h : HostState). h.failing) c.in_ok-live.ensures.host }) served.left)
+    (ap (λ (f : StoreFails). f.numbers) c.in_ok-left-in-End.ensures.failing ∙ still_fails_store c.args.managed.now c.args.specs.now (failing_with c.args.sends.now c.args.between) (between_in c.args.between) (content.life_of c.args.life) c.in_ok-live.live.link c.serve.new.live.link c.in_ok-live.live.store c.serve.new.live.store c.in_ok-live.live.host c.serve.new.live.host
+    (record { of_link = c.in_ok-live.ensures.link; of_store = c.in_ok-live.ensures.told; fails_store = c.in_ok-live.ensures.failing; of_host = ap (λ (h : HostState). h.told) c.in_ok-live.ensures.host; fails_host = ap (λ (h : HostState). h.failing) c.in_ok-live.ensures.host }) served.left)

@@ -1,0 +1,326 @@
+-- A turn of which nothing is new and in which nothing is said leaves the lease that an interface keeps.
+use Rattle.std.proofs.Common.{ℕ, ◌≡◌, ◌+◌, ◌*◌, ◌||◌, Bool, true, false, cond, List, [], ◌∷◌, ◌++◌, map, Option, Some, None, nat_le, nat_eq, refl, ap, ◌∙◌}
+use Rattle.std.specs.Prelude.{option_to_list}
+use Rattle.net_types.proofs.CaseLaws.{gated}
+use Rattle.net_types.specs.declared.address.Mac.{Mac}
+use Rattle.frame_link.specs.declared.arp.ArpView.{ArpView}
+use Rattle.machine.specs.Moment.{is_due}
+use Rattle.arp_acd.specs.declared.detection.Acd.{Acd}
+use Rattle.arp_acd.specs.declared.detection.AcdSays.{AcdSays}
+use Rattle.arp_acd.specs.declared.detection.AcdSays.TheVariants as says
+use Rattle.arp_acd.specs.declared.detection.ArpSay.{ArpSay}
+use Rattle.arp_acd.specs.Table as detection
+use Rattle.ipv4ll.specs.Table.{ll_hears, ll_tick}
+use Rattle.lease_text.specs.declared.lease.Terms4.{Terms4}
+use Rattle.lease_text.specs.Leases.{LeaseContent, ValueContent}
+use Rattle.v4_frames.specs.Heard.{HeardMessage, heard4_in}
+use Rattle.v4_client.specs.declared.moments.Backoff.TheVariants.{Four}
+use Rattle.v4_client.specs.declared.moments.TheConstants.{SECOND}
+use Rattle.v4_client.specs.declared.states.Answer4.{Answer4}
+use Rattle.v4_client.specs.declared.states.Answer4.TheVariants as answer
+use Rattle.v4_client.specs.declared.states.Carrier.TheVariants.{Up, Down}
+use Rattle.v4_client.specs.declared.states.Keep4.{Keep4}
+use Rattle.v4_client.specs.declared.states.Keep4.TheVariants.{Stays}
+use Rattle.v4_client.specs.declared.states.News4.{News4}
+use Rattle.v4_client.specs.declared.states.News4.TheVariants as news
+use Rattle.v4_client.specs.declared.states.Origin4.{Origin4}
+use Rattle.v4_client.specs.declared.states.Origin4.TheVariants.{Offered, Rebooted}
+use Rattle.v4_client.specs.declared.states.Say4.{Say4}
+use Rattle.v4_client.specs.declared.states.State4.{State4}
+use Rattle.v4_client.specs.declared.states.State4.TheVariants.{Off, Init, Selecting, Requesting, Rebooting, Checking, Waiting, Bound, Renewing, Rebinding}
+use Rattle.v4_client.specs.declared.states.Step4.{Step4}
+use Rattle.v4_client.specs.declared.states.Tell.{Tell}
+use Rattle.v4_client.specs.declared.states.Tell.TheVariants.{Server, Nobody}
+use Rattle.v4_client.specs.declared.states.Turn4.{Turn4}
+use Rattle.v4_client.specs.Calls.{answer_to, arp_step, brought, carrier_step, heard_step, rebind_step, release_step}
+use Rattle.v4_client.specs.Clients.{ClientContent, kept_terms, turn_of}
+use Rattle.v4_client.specs.Detection.{checked, defended, with_acd}
+use Rattle.v4_client.specs.Due.{due_of}
+use Rattle.v4_client.specs.Hearing.{offered, granted, answered, renewed, heard_row, contested, arp_row}
+use Rattle.v4_client.specs.History.{tick_step}
+use Rattle.v4_client.specs.Inputs.{begins, begin_row, rebind_row, release_row}
+use Rattle.v4_client.specs.Inputs as lease
+use Rattle.v4_client.specs.Messages.{Arrival}
+use Rattle.v4_client.specs.Moments.{doubled, expiry, rebinding_at, renewal_at}
+use Rattle.v4_client.specs.Moves.{kept_after}
+use Rattle.v4_client.specs.Steps.{binds, discovers, expires, new_exchange, rebinding, rebooting, renewing, requesting, rests, to_init}
+use Rattle.v4_client.specs.Ticks.{detects, is_longest, tick_row}
+use Rattle.world.specs.declared.wakes.Event.{Event}
+use Rattle.world.specs.declared.wakes.Event.TheVariants.{Frame, Carrier, Duplicate, Release, Rebind, Stop, Quiet, End}
+use Rattle.script_model.specs.IfaceSets.{is_in}
+use Rattle.client_model.specs.declared.interfaces.Iface.{Iface}
+use Rattle.client_model.specs.declared.steps.News.{News}
+use Rattle.client_model.specs.declared.steps.News.TheVariants.{CarrierCame, CarrierWent, Released, Stopped}
+use Rattle.client_model.specs.declared.steps.Said.{Said}
+use Rattle.client_model.specs.declared.steps.Said.TheVariants.{Dhcp4}
+use Rattle.client_model.specs.IfaceSteps.{Report, IfaceStep, index_of, silent, then_step, with_news}
+use Rattle.client_model.specs.ClientSettings.{runs_dhcp4}
+use Rattle.client_model.specs.LocalSteps.{armed, local_hears, local_step, tick_local}
+use Rattle.client_model.specs.Dhcp4Steps.{arms, arrival_at, begin_dhcp4, dhcp4_packet, dhcp4_step, holds_lease, rebind_dhcp4, said_in, tick_dhcp4}
+use Rattle.client_model.specs.Interfaces.{machines_drop, machines_rebind, machines_stop, restarted, unsent_in, ticked, carrier_comes, carrier_goes, carried, released, rebound, told_at_stop}
+use Rattle.client_model.specs.Interfaces as run
+use Rattle.client_model.specs.IfaceTurns.{Turn, arp_heard, hears, hears_either, hears_message, hears_packet, taken, input_step, iface_turned}
+use Rattle.client_model.specs.Runs.{KeepsInQuiet}
+use Rattle.client_model.proofs.QuietTurns.{none_first, none_next, no_lease_news}
+
+-- ---- a step of the table
+
+-- where it has no news and says no message, the kept lease stays
+abbrev Stilly : Step4 → Type 0
+Stilly step = step.news ≡ news.Nothing → step.say ≡ None → step.keep ≡ Stays
+
+checked_still : (turn : Turn4) (xid : ℕ) (terms : Terms4) (origin : Origin4) (acd : Acd) (said : AcdSays) → Stilly (checked turn xid terms origin acd said)
+checked_still turn xid terms origin acd says.SayProbe n s = refl
+checked_still turn xid terms Offered acd says.Passed n s = cc
+checked_still turn xid terms Rebooted acd says.Passed n s = cc
+checked_still turn xid terms origin acd says.Conflict n s = cc
+checked_still turn xid terms origin acd says.Quiet n s = refl
+checked_still turn xid terms origin acd says.SayAnnounce n s = refl
+checked_still turn xid terms origin acd says.GivenUp n s = refl
+
+defended_still : (turn : Turn4) (xid : ℕ) (terms : Terms4) (state : State4) (said : AcdSays) → Stilly (defended turn xid terms state said)
+defended_still turn xid terms state says.SayAnnounce n s = refl
+defended_still turn xid terms state says.GivenUp n s = cc
+defended_still turn xid terms state says.Quiet n s = refl
+defended_still turn xid terms state says.SayProbe n s = refl
+defended_still turn xid terms state says.Passed n s = refl
+defended_still turn xid terms state says.Conflict n s = refl
+
+detects_still : (turn : Turn4) (xid : ℕ) (terms : Terms4) (state : State4) (acd : Option Acd) → Stilly (detects turn xid terms state acd)
+detects_still turn xid terms state None n s = refl
+detects_still turn xid terms state (Some acd) n s =
+    defended_still turn xid terms (with_acd state (detection.acd_tick acd turn.at turn.salt).acd) (detection.acd_tick acd turn.at turn.salt).says n s
+
+contested_still : (own : List Mac) (turn : Turn4) (arp : ArpView) (xid : ℕ) (terms : Terms4) (state : State4) (acd : Option Acd)
+    → Stilly (contested own turn arp xid terms state acd)
+contested_still own turn arp xid terms state None n s = refl
+contested_still own turn arp xid terms state (Some acd) n s =
+    defended_still turn xid terms (with_acd state (detection.acd_hears own acd arp turn.at).acd) (detection.acd_hears own acd arp turn.at).says n s
+
+tick_still : (turn : Turn4) (state : State4) → Stilly (tick_row turn state)
+tick_still turn Off = λ n s. refl
+tick_still turn (Init due) = λ n s. refl
+tick_still turn (Waiting due) = λ n s. refl
+tick_still turn (Selecting xid began secs backoff due) = λ n s. refl
+tick_still turn (Requesting exchange secs backoff due) =
+    gated Stilly (is_longest backoff) (to_init turn) (requesting turn exchange secs (doubled backoff)) (λ n s. refl) (λ n s. refl)
+tick_still turn (Rebooting exchange backoff end due) =
+    gated Stilly (nat_le end turn.at) (discovers turn) (rebooting turn exchange (doubled backoff) end) (λ n s. refl) (λ n s. refl)
+tick_still turn (Checking xid terms origin acd) =
+    gated Stilly (is_due (expiry terms) turn.at) (to_init turn)
+    (checked turn xid terms origin (detection.acd_tick acd turn.at turn.salt).acd (detection.acd_tick acd turn.at turn.salt).says) (λ n s. refl)
+    (checked_still turn xid terms origin (detection.acd_tick acd turn.at turn.salt).acd (detection.acd_tick acd turn.at turn.salt).says)
+tick_still turn (Bound xid terms acd) =
+    gated Stilly (is_due (expiry terms) turn.at) (expires turn) _ (λ n s. cc)
+    (gated Stilly (is_due (rebinding_at terms) turn.at) (rebinding turn (new_exchange turn terms.net.ip) terms acd) _ (λ n s. refl)
+    (gated Stilly (is_due (renewal_at terms) turn.at) (renewing turn (new_exchange turn terms.net.ip) terms acd) _ (λ n s. refl)
+    (detects_still turn xid terms (Bound xid terms acd) acd)))
+tick_still turn (Renewing exchange terms acd due) =
+    gated Stilly (is_due (expiry terms) turn.at) (expires turn) _ (λ n s. cc)
+    (gated Stilly (is_due (rebinding_at terms) turn.at) (rebinding turn (new_exchange turn terms.net.ip) terms acd) _ (λ n s. refl)
+    (gated Stilly (nat_le due turn.at) (renewing turn exchange terms acd) _ (λ n s. refl)
+    (detects_still turn exchange.xid terms (Renewing exchange terms acd due) acd)))
+tick_still turn (Rebinding exchange terms acd due) =
+    gated Stilly (is_due (expiry terms) turn.at) (expires turn) _ (λ n s. cc)
+    (gated Stilly (nat_le due turn.at) (rebinding turn exchange terms acd) _ (λ n s. refl)
+    (detects_still turn exchange.xid terms (Rebinding exchange terms acd due) acd))
+
+granted_still : (turn : Turn4) (xid : ℕ) (terms : Terms4) (origin : Origin4) → Stilly (granted turn xid terms origin)
+granted_still turn xid terms Offered = gated Stilly turn.site.noarp (binds turn xid terms news.Bound None) _ (λ n s. cc) (λ n s. refl)
+granted_still turn xid terms Rebooted = gated Stilly turn.site.noarp (binds turn xid terms news.Reboot None) _ (λ n s. cc) (λ n s. refl)
+
+offered_still : (turn : Turn4) (xid secs : ℕ) (state : State4) (said : Answer4) → Stilly (offered turn xid secs state said)
+offered_still turn xid secs state (answer.Offer address server) n s = refl
+offered_still turn xid secs state answer.Nothing n s = refl
+offered_still turn xid secs state (answer.Ack terms) n s = refl
+offered_still turn xid secs state answer.Nak n s = refl
+
+answered_still : (turn : Turn4) (xid : ℕ) (origin : Origin4) (state : State4) (said : Answer4) → Stilly (answered turn xid origin state said)
+answered_still turn xid origin state (answer.Ack terms) = granted_still turn xid terms origin
+answered_still turn xid origin state answer.Nak = λ n s. cc
+answered_still turn xid origin state answer.Nothing = λ n s. refl
+answered_still turn xid origin state (answer.Offer address server) = λ n s. refl
+
+renewed_still : (turn : Turn4) (xid : ℕ) (acd : Option Acd) (state : State4) (said : Answer4) → Stilly (renewed turn xid news.Renew acd state said)
+renewed_still turn xid acd state (answer.Ack terms) n s = cc
+renewed_still turn xid acd state answer.Nak n s = cc
+renewed_still turn xid acd state answer.Nothing n s = refl
+renewed_still turn xid acd state (answer.Offer address server) n s = refl
+
+rebound_still : (turn : Turn4) (xid : ℕ) (acd : Option Acd) (state : State4) (said : Answer4) → Stilly (renewed turn xid news.Rebind acd state said)
+rebound_still turn xid acd state (answer.Ack terms) n s = cc
+rebound_still turn xid acd state answer.Nak n s = cc
+rebound_still turn xid acd state answer.Nothing n s = refl
+rebound_still turn xid acd state (answer.Offer address server) n s = refl
+
+heard_still : (turn : Turn4) (said : Answer4) (state : State4) → Stilly (heard_row turn said state)
+heard_still turn said Off = λ n s. refl
+heard_still turn said (Init due) = λ n s. refl
+heard_still turn said (Selecting xid began secs backoff due) = offered_still turn xid secs (Selecting xid began secs backoff due) said
+heard_still turn said (Requesting exchange secs backoff due) = answered_still turn exchange.xid Offered (Requesting exchange secs backoff due) said
+heard_still turn said (Rebooting exchange backoff end due) = answered_still turn exchange.xid Rebooted (Rebooting exchange backoff end due) said
+heard_still turn said (Checking xid terms origin acd) = λ n s. refl
+heard_still turn said (Waiting due) = λ n s. refl
+heard_still turn said (Bound xid terms acd) = λ n s. refl
+heard_still turn said (Renewing exchange terms acd due) = renewed_still turn exchange.xid acd (Renewing exchange terms acd due) said
+heard_still turn said (Rebinding exchange terms acd due) = rebound_still turn exchange.xid acd (Rebinding exchange terms acd due) said
+
+arp_still : (own : List Mac) (turn : Turn4) (arp : ArpView) (state : State4) → Stilly (arp_row own turn arp state)
+arp_still own turn arp Off = λ n s. refl
+arp_still own turn arp (Init due) = λ n s. refl
+arp_still own turn arp (Selecting xid began secs backoff due) = λ n s. refl
+arp_still own turn arp (Requesting exchange secs backoff due) = λ n s. refl
+arp_still own turn arp (Rebooting exchange backoff end due) = λ n s. refl
+arp_still own turn arp (Checking xid terms origin acd) =
+    checked_still turn xid terms origin (detection.acd_hears own acd arp turn.at).acd (detection.acd_hears own acd arp turn.at).says
+arp_still own turn arp (Waiting due) = λ n s. refl
+arp_still own turn arp (Bound xid terms acd) = contested_still own turn arp xid terms (Bound xid terms acd) acd
+arp_still own turn arp (Renewing exchange terms acd due) = contested_still own turn arp exchange.xid terms (Renewing exchange terms acd due) acd
+arp_still own turn arp (Rebinding exchange terms acd due) = contested_still own turn arp exchange.xid terms (Rebinding exchange terms acd due) acd
+
+begins_still : (turn : Turn4) (kept : Option Terms4) → Stilly (begins turn kept)
+begins_still turn None = λ n s. refl
+begins_still turn (Some terms) =
+    gated Stilly (is_due (expiry terms) turn.at || nat_eq turn.site.reboot 0) (to_init turn)
+    (rebooting turn (new_exchange turn terms.net.ip) Four (turn.at + SECOND * turn.site.reboot)) (λ n s. refl) (λ n s. refl)
+
+begin_still : (turn : Turn4) (kept : Option Terms4) (state : State4) → Stilly (begin_row turn kept state)
+begin_still turn kept Off = begins_still turn kept
+begin_still turn kept (Init due) = λ n s. refl
+begin_still turn kept (Selecting xid began secs backoff due) = λ n s. refl
+begin_still turn kept (Requesting exchange secs backoff due) = λ n s. refl
+begin_still turn kept (Rebooting exchange backoff end due) = λ n s. refl
+begin_still turn kept (Checking xid terms origin acd) = λ n s. refl
+begin_still turn kept (Waiting due) = λ n s. refl
+begin_still turn kept (Bound xid terms acd) = λ n s. refl
+begin_still turn kept (Renewing exchange terms acd due) = λ n s. refl
+begin_still turn kept (Rebinding exchange terms acd due) = λ n s. refl
+
+rebind_still : (turn : Turn4) (kept : Option Terms4) (state : State4) → Stilly (rebind_row turn kept state)
+rebind_still turn kept Off = begins_still turn kept
+rebind_still turn kept (Init due) = λ n s. refl
+rebind_still turn kept (Selecting xid began secs backoff due) = λ n s. refl
+rebind_still turn kept (Requesting exchange secs backoff due) = λ n s. refl
+rebind_still turn kept (Rebooting exchange backoff end due) = λ n s. refl
+rebind_still turn kept (Checking xid terms origin acd) = λ n s. refl
+rebind_still turn kept (Waiting due) = λ n s. refl
+rebind_still turn kept (Bound xid terms acd) = λ n s. refl
+rebind_still turn kept (Renewing exchange terms acd due) = λ n s. refl
+rebind_still turn kept (Rebinding exchange terms acd due) = λ n s. refl
+
+tick_step_still : (at salt : ℕ) (c : ClientContent) → Stilly (tick_step at salt c)
+tick_step_still at salt c =
+    gated Stilly (is_due (due_of c.state) at) (tick_row (turn_of at salt c) c.state) (rests (turn_of at salt c) c.state)
+    (tick_still (turn_of at salt c) c.state) (λ n s. refl)
+
+-- ---- the interface
+
+abbrev KeepsStill : Iface → IfaceStep → Type 0
+KeepsStill old step = step.reports ≡ [] → step.said ≡ [] → step.iface.dhcp4.kept ≡ old.dhcp4.kept
+
+both_still : (iface : Iface) (first : IfaceStep) (next : Iface → IfaceStep) → KeepsStill iface first → KeepsStill first.iface (next first.iface)
+    → KeepsStill iface (then_step first next)
+both_still iface first next one two n s =
+    two (none_next first.reports (next first.iface).reports n) (none_next first.said (next first.iface).said s)
+    ∙ one (none_first first.reports (next first.iface).reports n) (none_first first.said (next first.iface).said s)
+
+silent_still : (iface : Iface) → KeepsStill iface (silent iface)
+silent_still iface n s = refl
+
+told : (old before : Iface) (news : News) (step : IfaceStep) → KeepsStill old (with_news news before step)
+told old before news step n s = cc
+
+none_said : (say : Option Say4) (more : List Said) → map Dhcp4 (option_to_list say) ++ more ≡ [] → say ≡ None
+none_said None more e = refl
+none_said (Some say) more e = cc
+
+dhcp4_still_from : (at : ℕ) (old before : Iface) (step : Step4) → before.dhcp4.kept ≡ old.dhcp4.kept → Stilly step → KeepsStill old (dhcp4_step at before step)
+dhcp4_still_from at old before step same still n s =
+    ap (λ (keep : Keep4). kept_after keep before.dhcp4.settings.site.iface.name before.dhcp4.fresh before.dhcp4.kept)
+    (still (no_lease_news _ step.news n) (none_said step.say _ s))
+    ∙ same
+
+dhcp4_still : (at : ℕ) (iface : Iface) (step : Step4) → Stilly step → KeepsStill iface (dhcp4_step at iface step)
+dhcp4_still at iface step still = dhcp4_still_from at iface iface step refl still
+
+arms_still : (at : ℕ) (iface : Iface) → KeepsStill iface (arms at iface)
+arms_still at iface =
+    gated (KeepsStill iface) (holds_lease iface) (silent iface) (silent (record iface { local = armed iface.managed.conf at iface.local }))
+    (λ n s. refl) (λ n s. refl)
+
+rebind_dhcp4_still : (at salt : ℕ) (iface : Iface) → KeepsStill iface (rebind_dhcp4 at salt iface)
+rebind_dhcp4_still at salt iface =
+    gated (KeepsStill iface) (runs_dhcp4 iface.managed.conf) (dhcp4_step at iface (rebind_step at salt iface.dhcp4)) (silent iface)
+    (dhcp4_still at iface (rebind_step at salt iface.dhcp4) (rebind_still (turn_of at salt iface.dhcp4) (kept_terms iface.dhcp4) iface.dhcp4.state))
+    (λ n s. refl)
+
+-- ---- the interface's turn
+
+unsent_keeps : (set at salt : ℕ) (iface : Iface) → (unsent_in set at salt iface).dhcp4.kept ≡ iface.dhcp4.kept
+unsent_keeps set at salt iface =
+    gated (λ (new : Iface). new.dhcp4.kept ≡ iface.dhcp4.kept) (is_in set (index_of iface)) (restarted at salt iface) iface refl refl
+
+carried_still : (at salt : ℕ) (up : Bool) (iface : Iface) → KeepsStill iface (carried at salt up iface)
+carried_still at salt true iface =
+    gated (KeepsStill iface) iface.up (silent iface) (carrier_comes at salt iface) (λ n s. refl)
+    (told iface iface CarrierCame (run.begins at salt (record iface { up = true })))
+carried_still at salt false iface =
+    gated (KeepsStill iface) iface.up (carrier_goes at salt iface) (silent iface)
+    (told iface iface CarrierWent (machines_drop at salt (record iface { up = false }))) (λ n s. refl)
+
+rebound_iface_still : (at salt : ℕ) (iface : Iface) → KeepsStill iface (rebound at salt iface)
+rebound_iface_still at salt iface =
+    gated (KeepsStill iface) iface.up (machines_rebind at salt iface) (silent iface)
+    (both_still iface (rebind_dhcp4 at salt iface) (arms at) (rebind_dhcp4_still at salt iface) (arms_still at (rebind_dhcp4 at salt iface).iface))
+    (λ n s. refl)
+
+module _ (own : List Mac) (at salt : ℕ) (bytes : List ℕ) where
+  packet_still : (arp : ArpView) (iface : Iface) → KeepsStill iface (hears_packet own at salt arp iface)
+  packet_still arp iface =
+      both_still iface (dhcp4_packet own at salt arp iface) (local_hears own at salt arp)
+      (dhcp4_still at iface (arp_step own at salt arp iface.dhcp4) (arp_still own (turn_of at salt iface.dhcp4) arp iface.dhcp4.state)) (λ n s. refl)
+
+  message_still : (message : Option HeardMessage) (iface : Iface) → KeepsStill iface (hears_message at salt message iface)
+  message_still None iface = λ n s. refl
+  message_still (Some heard) iface =
+      dhcp4_still_from at iface (record iface { dhcp4 = brought (arrival_at at heard) iface.dhcp4 }) (heard_step salt (arrival_at at heard) iface.dhcp4) refl
+      (heard_still (turn_of at salt iface.dhcp4) (answer_to (arrival_at at heard) iface.dhcp4) iface.dhcp4.state)
+
+  either_still : (arp : Option ArpView) (message : Option HeardMessage) (iface : Iface) → KeepsStill iface (hears_either own at salt arp message iface)
+  either_still (Some arp) message iface = packet_still arp iface
+  either_still None message iface = message_still message iface
+
+  named_still : (index : ℕ) (iface : Iface) (step : IfaceStep) → KeepsStill iface step → KeepsStill iface (cond (nat_eq (index_of iface) index) step (silent iface))
+  named_still index iface step still = gated (KeepsStill iface) (nat_eq (index_of iface) index) step (silent iface) still (λ n s. refl)
+
+  taken_still : (event : Event) (iface : Iface) → KeepsStill iface (taken own at salt event bytes iface)
+  taken_still (Frame index len) iface =
+      named_still index iface (hears own at salt bytes iface) (either_still (arp_heard bytes) (heard4_in iface.managed.spec.mac bytes) iface)
+  taken_still (Carrier index up) iface = named_still index iface (carried at salt up iface) (carried_still at salt up iface)
+  taken_still (Duplicate index addr) iface = λ n s. refl
+  taken_still (Release index) iface = named_still index iface (released at salt iface) (told iface iface Released (machines_stop Server at salt iface))
+  taken_still (Rebind index) iface = named_still index iface (rebound at salt iface) (rebound_iface_still at salt iface)
+  taken_still Stop iface = told iface iface Stopped (machines_stop (told_at_stop iface.managed.conf) at salt (record iface { stopped = true }))
+  taken_still Quiet iface = λ n s. refl
+  taken_still End iface = λ n s. refl
+
+  input_still : (event : Event) (iface : Iface) → KeepsStill iface (input_step own at salt event bytes iface)
+  input_still event iface =
+      gated (KeepsStill iface) iface.stopped (silent iface) (taken own at salt event bytes iface) (λ n s. refl) (taken_still event iface)
+
+ticked_still : (at salt : ℕ) (iface : Iface) → KeepsStill iface (ticked at salt iface)
+ticked_still at salt iface =
+    both_still iface (tick_dhcp4 at salt iface) (tick_local at salt)
+    (dhcp4_still at iface (tick_step at salt iface.dhcp4) (tick_step_still at salt iface.dhcp4)) (λ n s. refl)
+
+no_news_told : (reports : List Report) → map (λ (report : Report). report.news) reports ≡ [] → reports ≡ []
+no_news_told [] none = refl
+no_news_told (report ∷ reports) none = cc
+
+pub quiet_kept : KeepsInQuiet
+quiet_kept own turn iface n s =
+    let anew : Iface = unsent_in turn.unsent turn.at turn.salt iface in
+    let first : IfaceStep = ticked turn.at turn.salt anew in
+    both_still anew first (input_step own turn.at turn.salt turn.event turn.bytes) (ticked_still turn.at turn.salt anew)
+    (input_still own turn.at turn.salt turn.bytes turn.event first.iface) (no_news_told (iface_turned own turn iface).reports n) s
+    ∙ unsent_keeps turn.unsent turn.at turn.salt iface

@@ -1,0 +1,53 @@
+-- The lease with which an interface begins: that of its file, where the file's text is a lease of this interface.
+use Rattle.std.specs.Prelude.{◌≡◌, ℕ, bytes_eq, ◌==◌, if◌then◌else◌, List, [], ◌∷◌, ◌++◌, Option, Some, None, option_map, option_and_then}
+use Rattle.net_types.specs.declared.interface.Name.{Name}
+use Rattle.net_types.specs.Cutting.{guarded}
+use Rattle.net_types.specs.FirstBadLine.{IsSpelled}
+use Rattle.net_types.specs.LineReading.{run}
+use Rattle.net_types.specs.NameText.{name_text}
+use Rattle.net_types.specs.TextLines.{Line}
+use Rattle.lease_text.specs.LeaseLines.{SpellsLease4}
+use Rattle.lease_text.specs.LeaseReading.{step, start, given}
+use Rattle.lease_text.specs.Leases.{LeaseContent}
+use Rattle.world.specs.StoreCalls.{Reading, Found, Missing, Unread}
+use Rattle.settings.specs.declared.interfaces.Managed.{Managed}
+
+-- ---- the lease that a text spells
+
+-- a text's lines; none where its last line isn't ended
+abbrev pub with_byte : ℕ → Option (List Line) → Option (List Line)
+with_byte byte None = None
+with_byte byte (Some []) = None
+with_byte byte (Some (line ∷ lines)) = Some ((byte ∷ line) ∷ lines)
+
+abbrev pub lines_in : List ℕ → Option (List Line)
+lines_in [] = Some []
+lines_in (byte ∷ text) = if byte == 10 then option_map (λ lines. [] ∷ lines) (lines_in text) else with_byte byte (lines_in text)
+
+abbrev pub lease_by_lines : List Line → Option LeaseContent
+lease_by_lines lines = option_and_then given (run step lines start)
+
+unfoldable pub lease_spelled : List ℕ → Option LeaseContent
+lease_spelled text = option_and_then lease_by_lines (lines_in text)
+
+-- It is the one whose text this is.
+pub record IsReading (text : List ℕ) (lease : LeaseContent) : Type 0 where
+  pub sound : lease_spelled text ≡ Some lease → IsSpelled SpellsLease4 text lease
+  pub whole : IsSpelled SpellsLease4 text lease → lease_spelled text ≡ Some lease
+
+-- ---- the lease of an interface
+
+-- that of another interface counts as none
+abbrev pub own_lease : Name → LeaseContent → Option LeaseContent
+own_lease name lease = if bytes_eq (name_text lease.name) (name_text name) then Some lease else None
+
+-- what a file keeps that was read; one that isn't there, couldn't be read, or has another text keeps no lease
+abbrev pub kept_by : Name → Reading → Option LeaseContent
+kept_by name (Found bytes) = option_and_then (own_lease name) (lease_spelled bytes)
+kept_by name Missing = None
+kept_by name Unread = None
+
+-- a managed interface, and the lease that was kept for it
+pub record Beginning : Type 0 where
+  pub managed : Managed
+  pub kept : Option LeaseContent

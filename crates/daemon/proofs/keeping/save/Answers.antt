@@ -1,0 +1,25 @@
+use Rattle.std.proofs.Common.{false}
+use Rattle.daemon.proofs.Bringing.{unwritten, written_then, unsynced, synced_then, unrenamed, renamed_then}
+use Rattle.daemon.proofs.Parts.{if_ok}
+use Rattle.daemon.proofs.keeping.save.Goals as goal
+
+pub returns-then-not-written-clause-does : goal.returns-then-not-written-clause-does
+returns-then-not-written-clause-does g c = unwritten c.args.name.now c.args.bytes.now c.in_ok-written.written c.if-not-written.true c.in_ok-written.ensures.does
+
+pub returns-then-not-synced-clause-does : goal.returns-then-not-synced-clause-does
+returns-then-not-synced-clause-does g c =
+    written_then c.args.name.now c.args.bytes.now c.in_ok-written.written false c.if-not-written.false c.in_ok-written.ensures.does
+    (unsynced c.args.name.now c.in_ok-synced.synced c.if-not-synced.true c.in_ok-synced.ensures.does)
+
+pub returns-then-not-renamed-clause-does : goal.returns-then-not-renamed-clause-does
+returns-then-not-renamed-clause-does g c =
+    written_then c.args.name.now c.args.bytes.now c.in_ok-written.written false c.if-not-written.false c.in_ok-written.ensures.does
+    (synced_then c.args.name.now c.in_ok-synced.synced false c.if-not-synced.false c.in_ok-synced.ensures.does
+    (unrenamed c.args.name.now c.in_ok-renamed.renamed c.if-not-renamed.true c.in_ok-renamed.ensures.does))
+
+pub returns-clause-does : goal.returns-clause-does
+returns-clause-does g c = if_ok c.settle.result
+    (λ done did. written_then c.args.name.now c.args.bytes.now c.in_ok-written.written done c.if-not-written.false c.in_ok-written.ensures.does
+    (synced_then c.args.name.now c.in_ok-synced.synced done c.if-not-synced.false c.in_ok-synced.ensures.does
+    (renamed_then c.args.name.now c.in_ok-renamed.renamed done c.if-not-renamed.false c.in_ok-renamed.ensures.does did)))
+    c.settle.ensures.does

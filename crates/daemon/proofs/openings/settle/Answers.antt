@@ -1,6 +1,0 @@
-use Rattle.device_calls.specs.Calls.{Settle}
-use Rattle.device_calls.proofs.Doing.{does_one}
-use Rattle.daemon.proofs.openings.settle.Goals as goal
-
-pub returns-clause-does : goal.returns-clause-does
-returns-clause-does g c = does_one Settle c.in_ok-done.done _ _ _ _ c.in_ok-done.ensures.one c.in_ok-say.ensures

@@ -1,0 +1,6 @@
+use Rattle.device_calls.specs.Calls.{RenameAside}
+use Rattle.device_calls.proofs.Doing.{does_one}
+use Rattle.daemon.proofs.stores.rename.Goals as goal
+
+pub returns-clause-does : goal.returns-clause-does
+returns-clause-does g c = does_one (RenameAside c.args.name.now) c.in_ok-done.done _ _ _ _ c.in_ok-done.ensures.one c.in_ok-say.ensures

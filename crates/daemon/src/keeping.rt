@@ -1,0 +1,299 @@
+//! The files of leases: what is known of each, and how it is brought to what it is to hold.
+ghost use Rattle.std.specs.Prelude.{◌≡◌, ◌||◌, false, length, IfOk, OnOk, Some, None, option_map};
+ghost use Rattle.std.specs.List.{AllByRecursion, list_any};
+ghost use Rattle.std.specs.String.{string_bytes};
+ghost use Rattle.world.specs.FileNames.{IsFileName};
+ghost use Rattle.lease_text.specs.Leases.{lease_content};
+ghost use Rattle.client_model.specs.Clients.{kept_lease};
+ghost use Rattle.client_core.specs.Touched.{is_touched};
+ghost use Rattle.device_calls.specs.Does.{Does};
+ghost use Rattle.turn_model.specs.LeaseFiles.{same_content, is_settled, content_for, bringing, known_after, keeping_one, keeping, is_unknown};
+ghost use Rattle.daemon.specs.Files.{content_of, known_of};
+ghost use Rattle.daemon.specs.Keeping.{is_among, IsKept, AreKept, AreKeptBut};
+
+use crate::outside::Outside;
+use crate::stores::{remove, rename, settle, sync, write};
+use client_core::{Core, kept};
+use lease_text::{Lease4, print4};
+use net_types::IfIndex;
+use std::alloc::Global;
+use std::marker::Model;
+use world::NoMemory;
+
+/// What is known of a file.
+#[derive(Drop)]
+pub enum Known {
+    /// Its bytes; `None` stands for no such file.
+    Holds(Option<Vec<u8>>),
+    /// A call that was to change it failed.
+    Unknown,
+    /// The opening couldn't read it, and no lease was kept since.
+    Unread,
+}
+
+/// The interfaces whose kept leases may have changed.
+#[derive(Clone, Copy)]
+pub enum Touched<'a> {
+    All,
+    These(&'a [IfIndex]),
+}
+
+/// Whether an interface is one of these.
+fn is_touched(these: &[IfIndex], iface: IfIndex) -> bool
+    ensures { result ≡ is_touched iface.number these.now }
+{
+    these.iter().any(|one| one.number == iface.number)
+}
+
+impl Touched<'_> {
+    /// Whether an interface is one of them.
+    fn has(self, iface: IfIndex) -> bool
+        ensures { result ≡ is_among iface.number self.entry }
+    {
+        match self {
+            Touched::All => true,
+            Touched::These(these) => is_touched(these, iface),
+        }
+    }
+}
+
+/// The file of an interface's lease.
+#[derive(Drop)]
+pub struct LeaseFile {
+    iface: IfIndex,
+    name: String,
+    known: Known,
+}
+
+impl Model for LeaseFile {
+    ghost use Rattle.std.specs.String.{string_bytes};
+    ghost use Rattle.world.specs.FileNames.{IsFileName};
+    ghost use Rattle.turn_model.specs.LeaseFiles as model;
+    ghost use Rattle.daemon.specs.Files.{known_of};
+
+    ghost Value = { model.LeaseFile };
+
+    ghost view = { λ file. record { iface = file.iface.number; name = string_bytes file.name; known = known_of file.known } };
+
+    ghost invariant = { λ file. IsFileName (string_bytes file.name) };
+}
+
+fn same_content(held: &Option<Vec<u8>>, wanted: &Option<Vec<u8>>) -> bool
+    ensures { result ≡ same_content (content_of held.now) (content_of wanted.now) }
+{
+    match (held, wanted) {
+        (None, None) => true,
+        (None, Some(_)) => false,
+        (Some(_), None) => false,
+        (Some(held), Some(wanted)) => held == wanted,
+    }
+}
+
+/// Whether nothing is to be done. A file that couldn't be read is left alone until a lease is kept.
+fn is_settled(known: &Known, wanted: &Option<Vec<u8>>) -> bool
+    ensures { result ≡ is_settled (known_of known.now) (content_of wanted.now) }
+{
+    match known {
+        Known::Holds(content) => same_content(content, wanted),
+        Known::Unknown => false,
+        Known::Unread => wanted.is_none(),
+    }
+}
+
+/// What is known of a file that was to hold this, by whether all was done.
+fn known_after(wanted: Option<Vec<u8>>, done: bool) -> Known
+    ensures { known_of result ≡ known_after (content_of wanted) done }
+{
+    if done {
+        Known::Holds(wanted)
+    } else {
+        Known::Unknown
+    }
+}
+
+/// The text of the lease that is kept; without one there is to be no file.
+fn content_for(alloc: Global, lease: Option<&Lease4>) -> Result<Option<Vec<u8>>, NoMemory>
+    ensures { IfOk result (λ wanted. content_of wanted ≡ content_for (option_map (λ lease. lease_content lease.now) lease.entry)) }
+{
+    match lease {
+        None => Ok(None),
+        Some(lease) => Ok(Some(print4(alloc, lease)?.into_bytes())),
+    }
+}
+
+/// Writes a file aside, syncs that, puts it in place and settles that. The first call that isn't done ends it.
+fn save<'a, W: Outside>(
+    outside: &mut W,
+    name: &'a str,
+    bytes: &'a [u8],
+    text: &mut Vec<u8>,
+) -> Result<bool, NoMemory>
+    requires { IsFileName name.now }
+    ensures does { IfOk result (λ done. Does (bringing name.now (Some bytes.now)) done (W.seen outside.old) (W.seen outside.new) text.old.items text.new.items) }
+    ensures waiting { (W.seen outside.new).waiting ≡ (W.seen outside.old).waiting }
+{
+    let written = write(outside, name, bytes, text)?;
+    if !written {
+        return Ok(false);
+    }
+    let synced = sync(outside, name, text)?;
+    if !synced {
+        return Ok(false);
+    }
+    let renamed = rename(outside, name, text)?;
+    if !renamed {
+        return Ok(false);
+    }
+    settle(outside, text)
+}
+
+/// Removes a file and settles that. The first call that isn't done ends it.
+fn discard<W: Outside>(outside: &mut W, name: &str, text: &mut Vec<u8>) -> Result<bool, NoMemory>
+    requires { IsFileName name.now }
+    ensures does { IfOk result (λ done. Does (bringing name.now None) done (W.seen outside.old) (W.seen outside.new) text.old.items text.new.items) }
+    ensures waiting { (W.seen outside.new).waiting ≡ (W.seen outside.old).waiting }
+{
+    let removed = remove(outside, name, text)?;
+    if !removed {
+        return Ok(false);
+    }
+    settle(outside, text)
+}
+
+/// Brings a file to what it is to hold, and says whether all was done.
+fn bring<'a, W: Outside>(
+    outside: &mut W,
+    name: &'a str,
+    wanted: &'a Option<Vec<u8>>,
+    text: &mut Vec<u8>,
+) -> Result<bool, NoMemory>
+    requires { IsFileName name.now }
+    ensures does { IfOk result (λ done. Does (bringing name.now (content_of wanted.now)) done (W.seen outside.old) (W.seen outside.new) text.old.items text.new.items) }
+    ensures waiting { (W.seen outside.new).waiting ≡ (W.seen outside.old).waiting }
+{
+    match wanted {
+        Some(bytes) => save(outside, name, bytes, text),
+        None => discard(outside, name, text),
+    }
+}
+
+impl LeaseFile {
+    pub fn new(iface: IfIndex, name: String, known: Known) -> LeaseFile
+        requires { IsFileName (string_bytes name) }
+        ensures { result ≡ record { iface = iface.number; name = string_bytes name; known = known_of known } }
+    {
+        LeaseFile { iface, name, known }
+    }
+
+    /// Whether a call that was to change it failed.
+    pub fn is_unknown(&self) -> bool
+        ensures { result ≡ is_unknown self.now.known }
+    {
+        match self.known {
+            Known::Holds(_) => false,
+            Known::Unknown => true,
+            Known::Unread => false,
+        }
+    }
+
+    /// Whether it may hold something else than it is to hold.
+    fn is_due(&self, touched: Touched<'_>) -> bool
+        ensures { result ≡ (is_unknown self.now.known || is_among self.now.iface touched.entry) }
+    {
+        self.is_unknown() || touched.has(self.iface)
+    }
+
+    /// The interface whose lease it keeps.
+    fn iface(&self) -> IfIndex
+        ensures { result.number ≡ self.now.iface }
+    {
+        self.iface
+    }
+
+    /// Brings it to what it is to hold, where it doesn't hold that.
+    fn keep<W: Outside>(
+        &mut self,
+        alloc: Global,
+        lease: Option<&Lease4>,
+        outside: &mut W,
+        text: &mut Vec<u8>,
+    ) -> Result<(), NoMemory>
+        ensures does { OnOk result (Does (keeping_one (content_for (option_map (λ lease. lease_content lease.now) lease.entry)) self.old) self.new (W.seen outside.old) (W.seen outside.new) text.old.items text.new.items) }
+        ensures waiting { (W.seen outside.new).waiting ≡ (W.seen outside.old).waiting }
+    {
+        let wanted = content_for(alloc, lease)?;
+        if is_settled(&self.known, &wanted) {
+            return Ok(());
+        }
+        let done = bring(outside, &self.name, &wanted, text)?;
+        self.known = known_after(wanted, done);
+        Ok(())
+    }
+}
+
+/// Brings a file to what it is to hold. One that is known, of an interface that wasn't touched, holds it.
+fn keep_one<W: Outside>(
+    alloc: Global,
+    core: &Core,
+    touched: Touched<'_>,
+    file: &mut LeaseFile,
+    outside: &mut W,
+    text: &mut Vec<u8>,
+) -> Result<(), NoMemory>
+    requires { is_among file.old.iface touched ≡ false → IsKept core.now.ifaces file.old }
+    ensures does { OnOk result (Does (keeping_one (content_for (kept_lease file.old.iface core.now.ifaces)) file.old) file.new (W.seen outside.old) (W.seen outside.new) text.old.items text.new.items) }
+    ensures waiting { (W.seen outside.new).waiting ≡ (W.seen outside.old).waiting }
+{
+    if !file.is_due(touched) {
+        return Ok(());
+    }
+    let lease = kept(core, file.iface());
+    file.keep(alloc, lease, outside, text)
+}
+
+/// Brings each file to what it is to hold, one after another. A failure stops none.
+fn keep_each<W: Outside>(
+    alloc: Global,
+    core: &Core,
+    touched: Touched<'_>,
+    files: &mut [LeaseFile],
+    outside: &mut W,
+    text: &mut Vec<u8>,
+) -> Result<(), NoMemory>
+    requires { AreKeptBut touched core.now.ifaces files.old }
+    ensures does { OnOk result (Does (keeping core.now.ifaces files.old) files.new (W.seen outside.old) (W.seen outside.new) text.old.items text.new.items) }
+    ensures waiting { (W.seen outside.new).waiting ≡ (W.seen outside.old).waiting }
+    ensures kept { OnOk result (AreKept core.now.ifaces files.new) }
+    ensures count { OnOk result (length files.new ≡ length files.old) }
+{
+    for file in files.iter_mut() {
+        keep_one(alloc, core, touched, file, outside, text)?;
+    }
+    Ok(())
+}
+
+/// Brings the files to what they are to hold. Those that are known, of interfaces that weren't touched, hold it.
+pub fn keep_all<W: Outside>(
+    alloc: Global,
+    core: &Core,
+    touched: Touched<'_>,
+    files: Vec<LeaseFile>,
+    outside: &mut W,
+    text: &mut Vec<u8>,
+) -> Result<Vec<LeaseFile>, NoMemory>
+    requires { AreKeptBut touched core.now.ifaces files.items }
+    ensures does { IfOk result (λ kept. Does (keeping core.now.ifaces files.items) kept.items (W.seen outside.old) (W.seen outside.new) text.old.items text.new.items) }
+    ensures waiting { (W.seen outside.new).waiting ≡ (W.seen outside.old).waiting }
+    ensures kept { IfOk result (λ kept. AreKept core.now.ifaces kept.items) }
+{
+    let mut files = files;
+    keep_each(alloc, core, touched, &mut files, outside, text)?;
+    Ok(files)
+}
+
+/// Whether a file is unknown.
+pub fn any_unknown(files: &[LeaseFile]) -> bool
+    ensures { result ≡ list_any (λ file. is_unknown file.known) files.now }
+{
+    files.iter().any(|file| file.is_unknown())
+}

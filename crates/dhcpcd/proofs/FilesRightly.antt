@@ -1,0 +1,75 @@
+-- The store holds what it shall in the lives of a script.
+use Rattle.std.proofs.Common.{ℕ, List, [], ◌∷◌, Option, Some, None, sym, subst}
+use Rattle.std.specs.List.{AllPairs}
+use Rattle.world.specs.FileLists.{StoreFile, file_name, put_file}
+use Rattle.world.specs.NamedLists.{InNameOrder}
+use Rattle.world.specs.StoreCalls.{StoreTold}
+use Rattle.world.specs.Undoing.{UndoneFile, content_of, set_file, undone}
+use Rattle.world.proofs.NameOrder.{put_in_order, drop_in_order}
+use Rattle.world_mem.specs.StoreRecord.{put_files}
+use Rattle.world_mem.specs.CrashRecord.{files_left}
+use Rattle.world_mem.specs.declared.crashes.Pick.{Pick}
+use Rattle.world_mem.specs.declared.crashes.Pick.TheVariants.{Old, New}
+use Rattle.settings.specs.declared.interfaces.Managed.{Managed}
+use Rattle.script_model.specs.Crashes.{CrashScript}
+use Rattle.script_model.specs.ScriptTexts.{ScriptLines, LifeScript}
+use Rattle.script_model.specs.Scripts.{Unlike}
+use Rattle.conf_text.proofs.ManagedFit.{managed_specs}
+use Rattle.turn_model.specs.FilesInLife.{AreNamedApart}
+use Rattle.turn_model.specs.Foretold.{foretold_life}
+use Rattle.turn_model.proofs.FilesInLifeTurns.{opening_files, turn_files}
+use Rattle.turn_model.proofs.FilesInOrder.{files_left_in_order}
+use Rattle.turn_model.proofs.UnlikeNames.{named_apart}
+use Rattle.dhcpcd.specs.FilesHeld.{AllKeepRightly}
+use Rattle.dhcpcd.specs.Replays.{IsScript, Failing, Between, failing_in, at_first, pick_of, store_left, world_in, after_life}
+use Rattle.dhcpcd.proofs.Refusals.{settled_fit}
+
+-- ---- the files of a store stand in order
+
+abbrev InOrder : List StoreFile → Type 0
+InOrder files = InNameOrder file_name files
+
+put_in_turn : (sorted files : List StoreFile) → InOrder sorted → InOrder (put_files sorted files)
+put_in_turn sorted [] order = order
+put_in_turn sorted (file ∷ files) order = put_in_turn (put_file file sorted) files (put_in_order file_name file sorted order)
+
+set_in_order : (name : List ℕ) (content : Option (List ℕ)) (files : List StoreFile) → InOrder files → InOrder (set_file name content files)
+set_in_order name None files order = drop_in_order file_name name files order
+set_in_order name (Some bytes) files order = put_in_order file_name (record { name = name; bytes = bytes }) files order
+
+undone_in_order : (undo : List UndoneFile) (files : List StoreFile) → InOrder files → InOrder (undone undo files)
+undone_in_order [] files order = order
+undone_in_order (u ∷ undo) files order = set_in_order u.name (content_of u.undo) (undone undo files) (undone_in_order undo files order)
+
+picked_in_order : (pick : Pick) (told : StoreTold) → InOrder told.files → InOrder (files_left pick told)
+picked_in_order Old told order = undone_in_order told.undo told.files order
+picked_in_order New told order = order
+
+crashed_in_order : (crash : Option CrashScript) (told : StoreTold) → InOrder told.files → InOrder (store_left crash told).files
+crashed_in_order None told order = order
+crashed_in_order (Some crash) told order = picked_in_order (pick_of crash.kind) told order
+
+-- ---- lives
+
+module _ (bytes : List ℕ) (script : ScriptLines) (managed : List Managed) (is : IsScript bytes script managed) where
+  -- the managed interfaces are those of the script, whose names are unlike
+  apart : AreNamedApart managed
+  apart =
+      named_apart managed (settled_fit bytes script managed is)
+      (subst (AllPairs Unlike) (sym (managed_specs is.conf script.ifaces managed is.settings)) is.fits.ifaces.unlike)
+
+  -- in each life, whatever those before it left
+  keeps_on : (failing : Failing) (between : Between) → InOrder between.store.files → (lives : List LifeScript) → AllKeepRightly managed script.ifaces failing between lives
+  keeps_on failing between order [] = tt
+  keeps_on failing between order (life ∷ lives) = (
+    record {
+      opening_keeps = opening_files managed apart script.ifaces (world_in failing between life) order;
+      turns_keep = λ earlier given. turn_files managed apart script.ifaces (world_in failing between life) order earlier given;
+    },
+    keeps_on failing (after_life managed script.ifaces failing between life)
+        (crashed_in_order life.crash (foretold_life managed script.ifaces (world_in failing between life)).left.store.told
+        (files_left_in_order managed script.ifaces (world_in failing between life) order)) lives,
+  )
+
+  pub keeps_rightly : AllKeepRightly managed script.ifaces (failing_in script.fails) (at_first script.rows script.files) script.lives
+  keeps_rightly = keeps_on (failing_in script.fails) (at_first script.rows script.files) (put_in_turn [] script.files tt) script.lives

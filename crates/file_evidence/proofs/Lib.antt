@@ -1,0 +1,3 @@
+mod Bringing
+pub mod SavedFiles
+pub mod RemovedFiles

@@ -1,0 +1,8 @@
+-- An interface as a life begins, in the words of the definitions.
+use Rattle.std.specs.Prelude.{option_map}
+use Rattle.lease_text.specs.Leases.{lease_content}
+use Rattle.client_model.specs.KeptLeases as model
+use Rattle.iface_core.specs.declared.beginnings.Beginning.{Beginning}
+
+abbrev pub beginning_of : Beginning → model.Beginning
+beginning_of beginning = record { managed = beginning.managed; kept = option_map lease_content beginning.kept }

@@ -1,0 +1,9 @@
+pub mod Apart
+pub mod PartReads
+pub mod IaFacts
+pub mod LastIa
+pub mod ReadingSteps
+pub mod WholeLeases
+pub mod LineFeeds
+pub mod ReadingLaws
+pub mod BackLaws

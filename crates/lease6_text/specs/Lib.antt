@@ -1,0 +1,8 @@
+pub mod ValueForms
+pub mod Leases
+pub mod Bounds
+pub mod LeaseLines
+pub mod LineParts
+pub mod LeaseReading
+pub mod LinesRead
+pub mod ReadBack

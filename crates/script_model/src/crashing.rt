@@ -1,0 +1,8 @@
+/// What the next life finds of the store's files where calls weren't settled.
+#[derive(Clone, Copy, Debug, PartialEq, Eq)]
+pub enum CrashKind {
+    /// What no settling made sure is undone.
+    Old,
+    /// The files as they read.
+    New,
+}

@@ -1,0 +1,170 @@
+-- A life's opening and turns keep its files.
+use Rattle.std.proofs.Common.{◌≡◌, inl, inr, ℕ, true, List, [], ◌∷◌, ◌++◌, map, Option, Some, None, refl, sym, ap, subst, ◌∙◌, append-nil}
+use Rattle.std.specs.Prelude.{flat_map}
+use Rattle.std.specs.List.{AllByRecursion}
+use Rattle.net_types.specs.declared.interface.IfSpec.{IfSpec}
+use Rattle.lease_text.specs.Leases.{LeaseContent}
+use Rattle.machine.specs.Moment.{moment_of}
+use Rattle.world.specs.declared.wakes.Begin.{Begin}
+use Rattle.world.specs.declared.rows.HostRow.{HostRow}
+use Rattle.world.specs.FileLists.{StoreFile, file_name}
+use Rattle.world.specs.LinkCalls.{Given}
+use Rattle.world.specs.NamedLists.{InNameOrder}
+use Rattle.settings.specs.declared.interfaces.Managed.{Managed}
+use Rattle.client_model.specs.Clients.{ClientStep, kept_lease}
+use Rattle.device_calls.specs.Calls.{Call, Read, made}
+use Rattle.device_calls.specs.Worlds.{World, Ran, run, answer_to, asked_first}
+use Rattle.device_calls.proofs.Programs.{ran_both}
+use Rattle.turn_model.specs.LeaseFiles.{LeaseFile, Loaded, content_for, lease_file_name, files_of}
+use Rattle.turn_model.specs.FilesInLife.{AreNamedApart, with_files, IsAsKept, all_done, KeepsFiles}
+use Rattle.turn_model.specs.Foretold.{told_wake, told_bytes, woken, ran_turn, ran_opening}
+use Rattle.turn_model.specs.HostInLife.{Running, running_opened, running_turned, running_after, life_run}
+use Rattle.turn_model.specs.Opening.{resolver_file, outlook_from, opening_step}
+use Rattle.turn_model.specs.Turns.{Life, Outlook, acting, outlook_of, step_of, until, turn_moment, stop_after, turn_asks}
+use Rattle.turn_model.proofs.Acting.{offered, hosted, kept, lives, ran_is, store_before, ran_clearing, ran_loading, world_read, ran_step, opening_ran}
+use Rattle.turn_model.proofs.Bringing.{files_in, done_parts}
+use Rattle.turn_model.proofs.FileNames.{are_apart, AreApart}
+use Rattle.turn_model.proofs.Keeping.{names_of, ifaces_of, AreKnown, IsKept, Kept, are_kept}
+use Rattle.turn_model.proofs.Reading.{number_of, IsRead, clearing_order, all_read}
+
+-- the files of a life, as they stand in a store
+record Stands (managed : List Managed) (files : List LeaseFile) (store : List StoreFile) : Type 0 where
+  order : InNameOrder file_name store
+  names : names_of files ≡ map lease_file_name (with_files managed)
+  numbers : ifaces_of files ≡ map number_of (with_files managed)
+  known : AreKnown store files
+
+abbrev running : Ran Life → Running
+running ran = record { life = ran.result; world = ran.world }
+
+-- after a run they stand so, and are kept
+record Keeps (managed : List Managed) (ran : Ran Life) : Type 0 where
+  stands : Stands managed ran.result.files (files_in ran.world)
+  keeps : KeepsFiles managed ran.calls (running ran)
+
+-- ---- a step of the client
+
+none_kept : (lease : Option LeaseContent) → content_for lease ≡ None → lease ≡ None
+none_kept None e = refl
+none_kept (Some lease) e = absurd cc
+
+as_kept : (after : Running) (files : List LeaseFile) → AllByRecursion (IsKept after.life.client.ifaces (files_in after.world)) files → AllByRecursion (IsAsKept after) files
+as_kept after [] kept = tt
+as_kept after (file ∷ files) kept = (by kept.0, as_kept after files kept.1)
+  where
+    by : IsKept after.life.client.ifaces (files_in after.world) file → IsAsKept after file
+    by (inl reads) = inl reads
+    by (inr none) = inr (none.0, none_kept (kept_lease file.iface after.life.client.ifaces) none.1)
+
+module _ (managed : List Managed) (apart : AreNamedApart managed) where
+  module _ (outlook : Outlook) (step : ClientStep) (moment : ℕ) (stop : Option ℕ) (world : World) (before : Stands managed outlook.files (files_in world)) where
+    abbrev first : Ran ℕ
+    first = offered managed outlook step moment stop world
+
+    abbrev second : Ran (Option (List HostRow))
+    second = hosted managed outlook step moment stop world
+
+    abbrev third : Ran (List LeaseFile)
+    third = kept managed outlook step moment stop world
+
+    store_same : files_in world ≡ files_in second.world
+    store_same = ap (λ s. s.told.files) (sym (store_before managed outlook step moment stop world))
+
+    it : Kept step.client.ifaces outlook.files (files_in second.world) third
+    it =
+        are_kept step.client.ifaces outlook.files second.world
+        (subst AreApart (sym before.names) (are_apart managed apart))
+        (subst (InNameOrder file_name) store_same before.order)
+        (subst (λ (s : List StoreFile). AreKnown s outlook.files) store_same before.known)
+
+    abbrev last : Ran Life
+    last = lives managed outlook step moment stop world
+
+    abbrev whole : Ran Life
+    whole = ran_both first (ran_both second (ran_both third last))
+
+    files_done : all_done whole.calls ≡ true → all_done third.calls ≡ true
+    files_done e =
+        subst (λ (calls : List Call). all_done calls ≡ true) (append-nil third.calls)
+        (done_parts second.calls (third.calls ++ []) (done_parts first.calls (second.calls ++ (third.calls ++ [])) e).1).1
+
+    acting_keeps : Keeps managed (run (acting managed outlook step moment stop) world)
+    acting_keeps = subst (Keeps managed) (sym (ran_is managed outlook step moment stop world)) (record {
+      stands = record { order = it.order; names = it.names ∙ before.names; numbers = it.numbers ∙ before.numbers; known = it.known };
+      keeps = record {
+        names = it.names ∙ before.names;
+        ifaces = it.numbers ∙ before.numbers;
+        known = it.known;
+        kept = λ e. as_kept (running whole) third.result (it.kept (files_done e));
+      };
+    })
+
+  -- ---- a turn
+
+  turn_keeps : (life : Running) (given : Given) → Stands managed life.life.files (files_in life.world) → Keeps managed (ran_turn managed life.life life.world given)
+  unfolding turn_asks
+  turn_keeps life given before =
+      acting_keeps (outlook_of life.life) (step_of life.life (told_wake given) (told_bytes given)) (turn_moment life.life (told_wake given))
+      (stop_after life.life.stop (told_wake given).event (turn_moment life.life (told_wake given)))
+      (woken (until life.life) (told_wake given) (told_bytes given) life.world) before
+
+  after_stands : (turns : List Given) (life : Running) → Stands managed life.life.files (files_in life.world)
+      → Stands managed (running_after managed turns life).life.files (files_in (running_after managed turns life).world)
+  after_stands [] life before = before
+  after_stands (given ∷ coming) life before = after_stands coming (running_turned managed life given) (turn_keeps life given before).stands
+
+  -- ---- the opening
+
+  -- calls before these
+  more_before : (ran : Ran Life) (calls : List Call) → Keeps managed ran → Keeps managed (record ran { calls = calls ++ ran.calls })
+  more_before ran calls k = record {
+    stands = k.stands;
+    keeps = record {
+      names = k.keeps.names;
+      ifaces = k.keeps.ifaces;
+      known = k.keeps.known;
+      kept = λ e. k.keeps.kept (done_parts calls ran.calls e).1;
+    };
+  }
+
+  module _ (specs : List IfSpec) (world : World) (order : InNameOrder file_name (files_in world)) where
+    abbrev begin : Begin
+    begin = world.link.told.begin
+
+    abbrev cleared : Ran (Unit {0})
+    cleared = ran_clearing managed specs begin world
+
+    abbrev loaded_all : Ran (List Loaded)
+    loaded_all = ran_loading managed specs begin world
+
+    read : IsRead (with_files managed) (files_in cleared.world) (flat_map files_of loaded_all.result) loaded_all.world
+    read = all_read managed cleared.world
+
+    read_stands : Stands managed (flat_map files_of loaded_all.result) (files_in loaded_all.world)
+    read_stands = record {
+      order = subst (InNameOrder file_name) (sym read.same) (clearing_order world order);
+      names = read.names;
+      numbers = read.numbers;
+      known = subst (λ (s : List StoreFile). AreKnown s (flat_map files_of loaded_all.result)) (sym read.same) read.known;
+    }
+
+    step_keeps : Keeps managed (ran_step managed specs begin world)
+    step_keeps =
+        acting_keeps (outlook_from loaded_all.result) (opening_step loaded_all.result specs begin) (moment_of begin.at) None (world_read managed specs begin world) read_stands
+
+    opening_keeps : Keeps managed (ran_opening managed specs world)
+    opening_keeps =
+        let last : Ran Life = ran_step managed specs begin world in
+        let call : Call = made (Read resolver_file) (answer_to (Read resolver_file) loaded_all.world) in
+        subst (Keeps managed) (sym (opening_ran managed specs begin world))
+        (more_before (ran_both loaded_all (asked_first call last)) cleared.calls
+        (more_before (asked_first call last) loaded_all.calls (more_before last (call ∷ []) step_keeps)))
+
+    pub opening_files : KeepsFiles managed (ran_opening managed specs world).calls (running_opened managed specs world)
+    opening_files = opening_keeps.keeps
+
+    pub turn_files : (earlier : List Given) (given : Given)
+        → KeepsFiles managed (ran_turn managed (life_run managed specs world earlier).life (life_run managed specs world earlier).world given).calls
+        (running_turned managed (life_run managed specs world earlier) given)
+    turn_files earlier given =
+        (turn_keeps (life_run managed specs world earlier) given (after_stands earlier (running_opened managed specs world) opening_keeps.stands)).keeps
