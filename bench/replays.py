@@ -1,12 +1,13 @@
 #!/usr/bin/env python3
-"""Times the program on long scripts.
+"""Times the program on long scripts, and on long configurations.
 
-    bench/replays.py [--program PATH] [--kinds quiet carrier local lease renew busy] [--sizes 4 16] [--renewals 100 200]
+    bench/replays.py [--program PATH] [--kinds quiet carrier local lease renew busy check] [--sizes 4 16] [--renewals 100 200]
 
 For each kind of script and each size in MiB (of `renew`, each number of renewals): the time, the time over that of the
 size before, the time of sha256sum of the same script, and the peak memory, also over the size of the script. Beside
 `lease` stands the time in which tcpdump prints its frames, where there is a tcpdump. `busy` has the time of one turn on
-an interface among 64, and alone. `rt run` in crates/dhcpcd_prog builds the program.
+an interface among 64, and alone. `check` is a configuration: blocks of 64 interfaces, again and again, with comments,
+values, lists within their limits and blocks that are skipped. `rt run` in crates/dhcpcd_prog builds the program.
 """
 
 import argparse
@@ -181,6 +182,17 @@ def busy_turns(turns, ifaces):
         yield turns.quiet(10_000)
 
 
+def conf_lines_of_blocks():
+    """Lines of a configuration without end: lists once, and then values, comments and skipped blocks."""
+    for i in range(IFACES):
+        yield f"interface eth{i}\noption {' '.join(['ntp_servers'] * 60)}\nblacklist {' '.join(['192.0.2.0/24'] * 60)}\n"
+    while True:
+        for i in range(IFACES):
+            yield f"# what is said of eth{i}\ninterface eth{i}\n\tmetric {100 + i}\n\thostname host-{i}.example.org\n"
+            yield f"\tclientid 00:01:02:{i:02x}\n\tstatic routers=10.0.{i}.1 10.0.{i}.2\n\tnoarp\n\ttimeout 60\n"
+            yield "ssid a network\n\tmetric 5\n\t; nothing of this counts\n\n"
+
+
 def sized(text, lines, size):
     """As many whole lines as a script of at most so many bytes has."""
     left = size - len(text)
@@ -204,7 +216,7 @@ SIZED = {
     "local": (local_lines, IFACES, lambda turns: local_turns()),
     "lease": (leased_lines, IFACES, lease_turns),
 }
-KINDS = [*SIZED, "renew", "busy"]
+KINDS = [*SIZED, "renew", "busy", "check"]
 
 
 def write_lines(path, lines):
@@ -233,9 +245,9 @@ def timed(words, path):
     return seconds, usage.ru_maxrss * 1024
 
 
-def run_one(program, path, kind, size, before):
-    """Runs the program on a script, prints its row, and gives its seconds."""
-    seconds, peak = timed([program, "replay"], path)
+def run_one(program, path, kind, size, before, word="replay"):
+    """Runs the program on a script or a configuration, prints its row, and gives its seconds."""
+    seconds, peak = timed([program, word], path)
     sum_seconds, _ = timed(["sha256sum"], path)
     ratio = f"{seconds / before:5.1f}" if before else "    -"
     print(
@@ -255,6 +267,13 @@ def run_sized(program, room, kind, sizes):
         before = run_one(program, path, kind, size, before)
         if turns.frames:
             run_tcpdump(room, turns.frames)
+
+
+def run_checks(program, room, sizes):
+    path, before = os.path.join(room, "configuration"), None
+    for size in sizes:
+        write_lines(path, sized("", conf_lines_of_blocks(), size * MIB))
+        before = run_one(program, path, "check", size, before, "check")
 
 
 def run_tcpdump(room, packets):
@@ -303,6 +322,8 @@ def main():
                 run_renewals(options.program, room, options.renewals)
             elif kind == "busy":
                 run_busy(options.program, room)
+            elif kind == "check":
+                run_checks(options.program, room, options.sizes)
             else:
                 run_sized(options.program, room, kind, options.sizes)
 

@@ -1,8 +1,8 @@
 -- A loop over elements that lets each go on in its place.
-use Rattle.std.proofs.Common.{ℕ, ◌≡◌, ◌+◌, ◌<◌, ◌≤◌, Bool, true, false, ◌||◌, List, [], ◌∷◌, ◌++◌, zero, suc, length, get_or, set, take, drop, refl, sym, ap, ◌∙◌, arith}
+use Rattle.std.proofs.Common.{ℕ, ◌≡◌, ◌+◌, ◌<◌, ◌≤◌, List, [], ◌∷◌, ◌++◌, zero, suc, length, get_or, set, take, drop, refl, sym, ap, ◌∙◌, arith}
 use Rattle.std.specs.Prelude.{map, flat_map}
 use Rattle.std.specs.List.{AllByRecursion}
-use Rattle.std.proofs.lemmas.List.{append-nil, take_all, drop_all, take_more, map-append, get_or_default, flat_map_more}
+use Rattle.std.proofs.lemmas.List.{append-nil, take_all, drop_all, take_more, get_or_default, flat_map_more}
 use Rattle.std.proofs.lemmas.List.Edits.{map_over_more}
 
 -- what stands from a place on is still as at first
@@ -19,6 +19,15 @@ pub record Gone {X : Type 0} (go : X → X) (xs ys : List X) (i : ℕ) : Type 0 
 pub gone_all : {X : Type 0} (go : X → X) (xs ys : List X) (i : ℕ) → length xs ≤ i → ys ≡ map go (take i xs) ++ drop i xs → ys ≡ map go xs
 gone_all go xs ys i past so_far =
     so_far ∙ ap (λ rest. map go (take i xs) ++ rest) (drop_all i xs past) ∙ append-nil (map go (take i xs)) ∙ ap (map go) (take_all i xs past)
+
+pub as_long : {X : Type 0} (go : X → X) (xs ys : List X) (i : ℕ) → ys ≡ map go (take i xs) ++ drop i xs → length ys ≡ length xs
+as_long go xs ys i so_far = ap length so_far ∙ long xs i
+  where
+    long : (zs : List _) (k : ℕ) → length (map go (take k zs) ++ drop k zs) ≡ length zs
+    long [] zero = refl
+    long [] (suc k) = refl
+    long (z ∷ zs) zero = refl
+    long (z ∷ zs) (suc k) = ap suc (long zs k)
 
 pub next_of : {X : Type 0} (go : X → X) (xs ys : List X) (i : ℕ) (d : X) → Gone go xs ys i → get_or ys i d ≡ get_or xs i d
 next_of go xs ys i d gone = ap (λ zs. get_or zs i d) gone.so_far ∙ place go xs i d gone.at
@@ -45,25 +54,3 @@ add_more go say xs ys i d before some more gone so_far adds =
     ∙ ap (λ x. (before ++ flat_map say (take i xs)) ++ say x) (next_of go xs ys i d gone)
     ∙ flat_map_more say before (take i xs) (get_or xs i d)
     ∙ ap (λ zs. before ++ flat_map say zs) (sym (take_more xs i d lt))
-
-flat_end : {X Y : Type 0} (rows : X → List Y) (xs : List X) (x : X) → flat_map rows (xs ++ x ∷ []) ≡ flat_map rows xs ++ rows x
-flat_end rows xs x = sym (flat_map_more rows [] xs x)
-
-pub same_more : {X Y : Type 0} (go : X → X) (rows : X → List Y) (xs ys : List X) (i : ℕ) (d new : X) (changed here : Bool) → Gone go xs ys i
-    → new ≡ go (get_or ys i d)
-    → (changed ≡ false → flat_map rows (map go (take i xs)) ≡ flat_map rows (take i xs))
-    → (here ≡ false → rows new ≡ rows (get_or ys i d))
-    → (changed || here) ≡ false → flat_map rows (map go (take (i + 1) xs)) ≡ flat_map rows (take (i + 1) xs)
-same_more go rows xs ys i d new true here gone goes so_far same none = absurd (cc)
-same_more {X} {Y} go rows xs ys i d new false here gone goes so_far same none =
-    let lt : i < length xs = gone.at in
-    let x : X = get_or xs i d in
-    let alike : rows (go x) ≡ rows x =
-    ap (λ y. rows (go y)) (sym (next_of go xs ys i d gone)) ∙ ap rows (sym goes) ∙ same none ∙ ap rows (next_of go xs ys i d gone) in
-    ap (λ zs. flat_map rows (map go zs)) (take_more xs i d lt)
-    ∙ ap (flat_map rows) (map-append go (take i xs) (x ∷ []))
-    ∙ flat_end rows (map go (take i xs)) (go x)
-    ∙ ap (λ r. r ++ rows (go x)) (so_far refl)
-    ∙ ap (λ r. flat_map rows (take i xs) ++ r) alike
-    ∙ sym (flat_end rows (take i xs) x)
-    ∙ ap (flat_map rows) (sym (take_more xs i d lt))

@@ -15,8 +15,6 @@ use Rattle.client_model.specs.Clients.{Client, Sending, sends_of, joined, client
 use Rattle.client_model.specs.Fitting.{AreIfaces}
 use Rattle.iface_core.specs.Outcomes.{Asked}
 use Rattle.net_types.specs.declared.interface.IfIndex.{IfIndex}
-use Rattle.client_core.specs.declared.running.Running.{Running}
-use Rattle.client_core.specs.Running.{ifaces_in}
 use Rattle.client_core.specs.Stepping.{GoAll, Steps, IsOnInterface}
 use Rattle.client_core.specs.Touched.{KeepsUntouched}
 use Rattle.client_core.proofs.Fit.{steps_on}
@@ -45,26 +43,25 @@ joined_on step xs ifaces before after none all fit =
     (steps_on step xs (subst AreIfaces all.go_on fit))
 
 -- the interfaces once each has gone on in its place
-pub placed : (own : List Mac) (turn : Turn) (before : Vec Running) (old new : List Running) (asked asking : Asked)
-    → GoAll (iface_turned own turn) (ifaces_in old) (ifaces_in new) asked asking → old ≡ before.items → (with_items before new).items ≡ new
+pub placed : (own : List Mac) (turn : Turn) (before : Vec Iface) (old new : List Iface) (asked asking : Asked)
+    → GoAll (iface_turned own turn) old new asked asking → old ≡ before.items → (with_items before new).items ≡ new
 placed own turn before old new asked asking all same =
     with_items_is before new
-    (sym (length-map new (λ one. one.iface)) ∙ ap length all.go_on ∙ length-map (ifaces_in old) (λ iface. (iface_turned own turn iface).iface)
-    ∙ length-map old (λ one. one.iface) ∙ ap length same ∙ sym before.ok.0)
+    (ap length all.go_on ∙ length-map old (λ iface. (iface_turned own turn iface).iface) ∙ ap length same ∙ sym before.ok.0)
 
-pub in_place : (own : List Mac) (turn : Turn) (before : Vec Running) (old new : List Running) (asked asking : Asked)
-    → GoAll (iface_turned own turn) (ifaces_in old) (ifaces_in new) asked asking → old ≡ before.items
-    → GoAll (iface_turned own turn) (ifaces_in before.items) (ifaces_in (with_items before new).items) asked asking
+pub in_place : (own : List Mac) (turn : Turn) (before : Vec Iface) (old new : List Iface) (asked asking : Asked)
+    → GoAll (iface_turned own turn) old new asked asking → old ≡ before.items
+    → GoAll (iface_turned own turn) before.items (with_items before new).items asked asking
 in_place own turn before old new asked asking all same =
-    subst (λ (ys : List Running). GoAll (iface_turned own turn) (ifaces_in before.items) (ifaces_in ys) asked asking) (sym (placed own turn before old new asked asking all same))
-    (subst (λ (xs : List Running). GoAll (iface_turned own turn) (ifaces_in xs) (ifaces_in new) asked asking) same all)
+    subst (λ (ys : List Iface). GoAll (iface_turned own turn) before.items ys asked asking) (sym (placed own turn before old new asked asking all same))
+    (subst (λ (xs : List Iface). GoAll (iface_turned own turn) xs new asked asking) same all)
 
-pub untouched_in_place : (core : Client) (own : List Mac) (turn : Turn) (touched : List IfIndex) (before : Vec Running) (old new : List Running) (asked asking : Asked)
-    → ifaces_in before.items ≡ core.ifaces → GoAll (iface_turned own turn) (ifaces_in old) (ifaces_in new) asked asking → old ≡ before.items
-    → KeepsUntouched touched (ifaces_in old) (ifaces_in new) → KeepsUntouched touched core.ifaces (ifaces_in (with_items before new).items)
+pub untouched_in_place : (core : Client) (own : List Mac) (turn : Turn) (touched : List IfIndex) (before : Vec Iface) (old new : List Iface) (asked asking : Asked)
+    → before.items ≡ core.ifaces → GoAll (iface_turned own turn) old new asked asking → old ≡ before.items
+    → KeepsUntouched touched old new → KeepsUntouched touched core.ifaces (with_items before new).items
 untouched_in_place core own turn touched before old new asked asking view all same kept =
-    subst (λ (ys : List Running). KeepsUntouched touched core.ifaces (ifaces_in ys)) (sym (placed own turn before old new asked asking all same))
-    (subst (λ (xs : List Iface). KeepsUntouched touched xs (ifaces_in new)) (ap ifaces_in same ∙ view) kept)
+    subst (λ (ys : List Iface). KeepsUntouched touched core.ifaces ys) (sym (placed own turn before old new asked asking all same))
+    (subst (λ (xs : List Iface). KeepsUntouched touched xs new) (same ∙ view) kept)
 
 pub turned_steps : (core : Client) (own : List Mac) (turn : Turn) (old new : List Iface) (before after : Asked) → record { own = own; ifaces = old } ≡ core
     → before ≡ nothing → GoAll (iface_turned own turn) old new before after → Steps (client_turned turn core) (record { own = own; ifaces = new }) after

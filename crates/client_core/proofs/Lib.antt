@@ -4,8 +4,5 @@ pub mod Going
 pub mod InPlace
 pub mod Joined
 pub mod LeaseValues
-pub mod Order
-pub mod OwnMetrics
-pub mod RowsFit
 pub mod SameRows
 pub mod Untouched

@@ -1,21 +1,15 @@
 -- Where nothing is new of an interface, its rows are as before, and where it says nothing either, the lease that it keeps.
 use Rattle.std.proofs.Common.{◌≡◌, ◌+◌, ◌≤◌, ℕ, Bool, true, false, ◌||◌, nat_lt, List, [], ◌∷◌, ◌++◌, map, length, refl, ap, ◌∙◌, arith, length-append}
 use Rattle.std.proofs.lemmas.Bool.Decides.{nat_tests}
-use Rattle.std.specs.Prelude.{flat_map, filter}
 use Rattle.net_types.specs.declared.address.Mac.{Mac}
-use Rattle.world.specs.declared.rows.HostRow.{HostRow}
-use Rattle.world.specs.RowOrder.{in_row_order}
 use Rattle.client_model.specs.declared.interfaces.Iface.{Iface}
 use Rattle.client_model.specs.IfaceSteps.{Report, IfaceStep, news_of}
 use Rattle.client_model.specs.Clients.{sends_of}
 use Rattle.client_model.specs.IfaceTurns.{Turn, iface_turned}
-use Rattle.client_model.specs.WantedRows.{iface_rows, is_kept, wanted_rows}
+use Rattle.client_model.specs.WantedRows.{iface_rows}
 use Rattle.client_model.proofs.QuietTurns.{quiet_rows}
 use Rattle.client_model.proofs.QuietKept.{quiet_kept}
 use Rattle.iface_core.specs.Outcomes.{Asked, Goes}
-
-pub same_wanted : (old new : List Iface) → flat_map iface_rows new ≡ flat_map iface_rows old → wanted_rows new ≡ wanted_rows old
-same_wanted old new same = ap (λ (rows : List HostRow). in_row_order (filter (is_kept rows) rows)) same
 
 none_more : {X : Type 0} (before more : List X) → length (before ++ more) ≤ length before → more ≡ []
 none_more before [] few = refl

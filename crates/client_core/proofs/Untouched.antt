@@ -11,14 +11,12 @@ use Rattle.lease_text.specs.Leases.{LeaseContent}
 use Rattle.client_model.specs.declared.interfaces.Iface.{Iface}
 use Rattle.client_model.specs.IfaceSteps.{index_of}
 use Rattle.client_model.specs.Clients.{kept_lease}
-use Rattle.client_core.specs.declared.running.Running.{Running}
-use Rattle.client_core.specs.Running.{ifaces_in}
 use Rattle.client_core.specs.Touched.{is_touched, KeepsUntouched, noted}
 use Rattle.client_core.proofs.InPlace.{Gone, next_of}
 
 -- an interface that isn't among those touched keeps its lease where it goes
-abbrev pub Keeps : (Running → Running) → List IfIndex → Running → Type 0
-Keeps go touched one = is_touched (index_of one.iface) touched ≡ false → (go one).iface.dhcp4.kept ≡ one.iface.dhcp4.kept
+abbrev pub Keeps : (Iface → Iface) → List IfIndex → Iface → Type 0
+Keeps go touched one = is_touched (index_of one) touched ≡ false → (go one).dhcp4.kept ≡ one.dhcp4.kept
 
 first_none : (touched more : List IfIndex) (index : ℕ) → is_touched index (touched ++ more) ≡ false → is_touched index touched ≡ false
 first_none [] more index none = refl
@@ -44,60 +42,60 @@ new_keeps touched false index iface new same kept none = kept refl
 new_keeps touched true index iface new same kept none =
     let never : true ≡ false = sym (last_one touched index (index_of iface) same) ∙ none in cc
 
-pub untouched_more : (go : Running → Running) → ((one : Running) → (go one).iface.managed ≡ one.iface.managed) → (xs ys : List Running) (i : ℕ) (d new : Running)
-    (is_one : Bool) (touched more : List IfIndex) → Gone go xs ys i → new ≡ go (get_or ys i d) → more ≡ touched ++ noted is_one new.iface.managed.spec.index
-    → (is_one ≡ false → new.iface.dhcp4.kept ≡ (get_or ys i d).iface.dhcp4.kept)
+pub untouched_more : (go : Iface → Iface) → ((one : Iface) → (go one).managed ≡ one.managed) → (xs ys : List Iface) (i : ℕ) (d new : Iface)
+    (is_one : Bool) (touched more : List IfIndex) → Gone go xs ys i → new ≡ go (get_or ys i d) → more ≡ touched ++ noted is_one new.managed.spec.index
+    → (is_one ≡ false → new.dhcp4.kept ≡ (get_or ys i d).dhcp4.kept)
     → AllByRecursion (Keeps go touched) (take i xs) → AllByRecursion (Keeps go more) (take (i + 1) xs)
 untouched_more go same xs ys i d new is_one touched more gone goes adds kept all =
-    let x : Running = get_or xs i d in
+    let x : Iface = get_or xs i d in
     let next : get_or ys i d ≡ x = next_of go xs ys i d gone in
     let is : new ≡ go x = goes ∙ ap go next in
-    let index : new.iface.managed.spec.index.number ≡ index_of x.iface = ap (λ (one : Running). index_of one.iface) is ∙ ap (λ m. m.spec.index.number) (same x) in
-    let longer : List IfIndex = touched ++ noted is_one new.iface.managed.spec.index in
+    let index : new.managed.spec.index.number ≡ index_of x = ap (λ (one : Iface). index_of one) is ∙ ap (λ m. m.spec.index.number) (same x) in
+    let longer : List IfIndex = touched ++ noted is_one new.managed.spec.index in
     let here : Keeps go longer x =
-    λ none. ap (λ (one : Running). one.iface.dhcp4.kept) (sym is)
-    ∙ new_keeps touched is_one new.iface.managed.spec.index x.iface new.iface index (λ no. kept no ∙ ap (λ (one : Running). one.iface.dhcp4.kept) next) none in
+    λ none. ap (λ (one : Iface). one.dhcp4.kept) (sym is)
+    ∙ new_keeps touched is_one new.managed.spec.index x new index (λ no. kept no ∙ ap (λ (one : Iface). one.dhcp4.kept) next) none in
     subst (λ (ts : List IfIndex). AllByRecursion (Keeps go ts) (take (i + 1) xs)) (sym adds)
-    (subst (λ (zs : List Running). AllByRecursion (Keeps go longer) zs) (sym (take_more xs i d gone.at))
+    (subst (λ (zs : List Iface). AllByRecursion (Keeps go longer) zs) (sym (take_more xs i d gone.at))
     (all_join (Keeps go longer) (take i xs) (x ∷ [])
     (all_map (Keeps go touched) (Keeps go longer)
-    (λ one keeps none. keeps (first_none touched (noted is_one new.iface.managed.spec.index) (index_of one.iface) none)) (take i xs) all)
+    (λ one keeps none. keeps (first_none touched (noted is_one new.managed.spec.index) (index_of one) none)) (take i xs) all)
     (here, tt)))
 
-pub untouched_all : (go : Running → Running) → ((one : Running) → (go one).iface.managed ≡ one.iface.managed) → (touched : List IfIndex) (all : List Running)
-    → AllByRecursion (Keeps go touched) all → KeepsUntouched touched (ifaces_in all) (ifaces_in (map go all))
+pub untouched_all : (go : Iface → Iface) → ((one : Iface) → (go one).managed ≡ one.managed) → (touched : List IfIndex) (all : List Iface)
+    → AllByRecursion (Keeps go touched) all → KeepsUntouched touched all ((map go all))
 untouched_all go same touched [] keep index none = refl
 untouched_all go same touched (one ∷ all) keep index none =
-    let rest : Option LeaseContent = kept_lease index (ifaces_in all) in
-    let gone : Option LeaseContent = kept_lease index (ifaces_in (map go all)) in
-    ap (λ m. cond (nat_eq m.spec.index.number index) (go one).iface.dhcp4.kept gone) (same one)
-    ∙ split (nat_eq (index_of one.iface) index)
-    (λ here. ap (λ (b : Bool). cond b (go one).iface.dhcp4.kept gone) here
-    ∙ keep.0 (ap (λ (n : ℕ). is_touched n touched) (eqb-true (index_of one.iface) index here) ∙ none)
-    ∙ sym (ap (λ (b : Bool). cond b one.iface.dhcp4.kept rest) here))
-    (λ apart. ap (λ (b : Bool). cond b (go one).iface.dhcp4.kept gone) apart ∙ untouched_all go same touched all keep.1 index none
-    ∙ sym (ap (λ (b : Bool). cond b one.iface.dhcp4.kept rest) apart))
+    let rest : Option LeaseContent = kept_lease index all in
+    let gone : Option LeaseContent = kept_lease index ((map go all)) in
+    ap (λ m. cond (nat_eq m.spec.index.number index) (go one).dhcp4.kept gone) (same one)
+    ∙ split (nat_eq (index_of one) index)
+    (λ here. ap (λ (b : Bool). cond b (go one).dhcp4.kept gone) here
+    ∙ keep.0 (ap (λ (n : ℕ). is_touched n touched) (eqb-true (index_of one) index here) ∙ none)
+    ∙ sym (ap (λ (b : Bool). cond b one.dhcp4.kept rest) here))
+    (λ apart. ap (λ (b : Bool). cond b (go one).dhcp4.kept gone) apart ∙ untouched_all go same touched all keep.1 index none
+    ∙ sym (ap (λ (b : Bool). cond b one.dhcp4.kept rest) apart))
 
 -- ---- the lease of an interface that is found by its number
 
 -- what is found by a number, in a list of which the first is the one or isn't
-abbrev found_in : ℕ → List Running → Option Running
-found_in index all = find (λ (one : Running). nat_eq (index_of one.iface) index) all
+abbrev found_in : ℕ → List Iface → Option Iface
+found_in index all = find (λ (one : Iface). nat_eq (index_of one) index) all
 
-first_found : (b : Bool) (one : Running) (others : List Running) (index : ℕ)
-    → kept_lease index (ifaces_in others) ≡ option_and_then (λ (found : Running). found.iface.dhcp4.kept) (found_in index others)
-    → cond b one.iface.dhcp4.kept (kept_lease index (ifaces_in others))
-    ≡ option_and_then (λ (found : Running). found.iface.dhcp4.kept) (cond b (Some one) (found_in index others))
+first_found : (b : Bool) (one : Iface) (others : List Iface) (index : ℕ)
+    → kept_lease index others ≡ option_and_then (λ (found : Iface). found.dhcp4.kept) (found_in index others)
+    → cond b one.dhcp4.kept (kept_lease index others)
+    ≡ option_and_then (λ (found : Iface). found.dhcp4.kept) (cond b (Some one) (found_in index others))
 first_found true one others index more = refl
 first_found false one others index more = more
 
-kept_found : (index : ℕ) (all : List Running)
-    → kept_lease index (ifaces_in all) ≡ option_and_then (λ (found : Running). found.iface.dhcp4.kept) (found_in index all)
+kept_found : (index : ℕ) (all : List Iface)
+    → kept_lease index all ≡ option_and_then (λ (found : Iface). found.dhcp4.kept) (found_in index all)
 kept_found index [] = refl
-kept_found index (one ∷ others) = first_found (nat_eq (index_of one.iface) index) one others index (kept_found index others)
+kept_found index (one ∷ others) = first_found (nat_eq (index_of one) index) one others index (kept_found index others)
 
-pub kept_by_none : (index : ℕ) (all : List Running) → None ≡ found_in index all → None ≡ kept_lease index (ifaces_in all)
-kept_by_none index all none = ap (option_and_then (λ (found : Running). found.iface.dhcp4.kept)) none ∙ sym (kept_found index all)
+pub kept_by_none : (index : ℕ) (all : List Iface) → None ≡ found_in index all → None ≡ kept_lease index all
+kept_by_none index all none = ap (option_and_then (λ (found : Iface). found.dhcp4.kept)) none ∙ sym (kept_found index all)
 
-pub kept_by_one : (index : ℕ) (all : List Running) (one : Running) → Some one ≡ found_in index all → one.iface.dhcp4.kept ≡ kept_lease index (ifaces_in all)
-kept_by_one index all one found = ap (option_and_then (λ (other : Running). other.iface.dhcp4.kept)) found ∙ sym (kept_found index all)
+pub kept_by_one : (index : ℕ) (all : List Iface) (one : Iface) → Some one ≡ found_in index all → one.dhcp4.kept ≡ kept_lease index all
+kept_by_one index all one found = ap (option_and_then (λ (other : Iface). other.dhcp4.kept)) found ∙ sym (kept_found index all)

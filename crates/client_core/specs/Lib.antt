@@ -2,5 +2,3 @@ pub mod Routing
 pub mod Running
 pub mod Stepping
 pub mod Touched
-pub mod Displaced
-pub mod Wanted

@@ -1,4 +1,4 @@
-ghost use Rattle.std.specs.Prelude.{◌≡◌, ◌==◌, ◌<◌, ◌^◌, IfOk, IfSome, find, map, option_map, Bool, false};
+ghost use Rattle.std.specs.Prelude.{◌≡◌, ◌==◌, ◌<◌, ◌^◌, IfOk, IfSome, find, map, option_map};
 ghost use Rattle.std.specs.Option.{option_copied};
 ghost use Rattle.std.specs.List.{AllByRecursion};
 ghost use Rattle.machine.specs.Moment.{moment_of};
@@ -7,20 +7,19 @@ ghost use Rattle.lease_text.specs.Bounds.{FitsLease};
 ghost use Rattle.lease_text.specs.Leases.{lease_content};
 ghost use Rattle.client_model.specs.IfaceSteps.{index_of};
 ghost use Rattle.client_model.specs.Interfaces.{opened};
-ghost use Rattle.client_model.specs.WantedRows.{wanted_rows};
-ghost use Rattle.client_model.specs.Fitting.{AreBeginnings};
+ghost use Rattle.client_model.specs.Fitting.{AreBeginnings, AreIfaces};
 ghost use Rattle.client_model.specs.Clients.{Client, opening, client_turned, client_due, kept_lease, rows_of};
 ghost use Rattle.iface_core.specs.Beginnings.{beginning_of};
 ghost use Rattle.iface_core.specs.Inputs.{turn_of};
 ghost use Rattle.iface_core.specs.Outcomes.{asked_in, sends_in};
-ghost use Rattle.client_core.specs.Running.{AreRunning, ifaces_in};
+ghost use Rattle.client_core.specs.Running.{IsRunning};
 ghost use Rattle.client_core.specs.Stepping.{Steps, GoAll, IsOnInterface};
 ghost use Rattle.client_core.specs.Touched.{KeepsUntouched};
-ghost use Rattle.client_core.specs.Wanted.{IsWanted};
 
-use crate::running::{Running, running_of};
+use crate::iface_tables::tables_of;
 use crate::turning::turn_all;
-use crate::wanting::wanted;
+use client_model::Iface;
+use host_tables::Tables;
 use iface_core::{Beginning, Outs, Turn, earlier_of, iface_due, iface_kept, iface_open};
 use lease_text::Lease4;
 use machine::clamp_moment;
@@ -35,16 +34,16 @@ use world::{Begin, HostRow};
 pub struct Core {
     alloc: Global,
     own: Vec<Mac>,
-    running: Vec<Running>,
-    wanted: BTreeSet<HostRow>,
+    ifaces: Vec<Iface>,
+    tables: Tables,
 }
 
 impl Model for Core {
     ghost Value = { Client };
 
-    ghost view = { λ core. record { own = core.own.items; ifaces = ifaces_in core.running.items } };
+    ghost view = { λ core. record { own = core.own.items; ifaces = core.ifaces.items } };
 
-    ghost invariant = { λ core. IsWanted core.running.items core.wanted.keys };
+    ghost invariant = { λ core. IsRunning core.ifaces.items core.tables };
 }
 
 /// The interfaces as they are opened, one after another.
@@ -53,22 +52,21 @@ fn opened_ifaces(
     beginnings: Vec<Beginning>,
     begin: Begin,
     outs: &mut Outs,
-) -> Result<Vec<Running>, NoMemory>
+) -> Result<Vec<Iface>, NoMemory>
     requires { AreBeginnings (map beginning_of beginnings.items) }
-    ensures goes { IfOk result (λ all. GoAll (opened begin.up (moment_of begin.at) begin.salt) (map beginning_of beginnings.items) (ifaces_in all.items) (asked_in outs.old) (asked_in outs.new)) }
-    ensures running { IfOk result (λ all. AreRunning all.items) }
+    ensures goes { IfOk result (λ all. GoAll (opened begin.up (moment_of begin.at) begin.salt) (map beginning_of beginnings.items) all.items (asked_in outs.old) (asked_in outs.new)) }
+    ensures fit { IfOk result (λ all. AreIfaces all.items) }
 {
     let opening = Begin {
         at: clamp_moment(begin.at),
         ..begin
     };
-    let mut running = Vec::new(alloc);
+    let mut ifaces = Vec::new(alloc);
     for beginning in beginnings {
         let iface = iface_open(alloc, beginning, opening, outs)?;
-        let one = running_of(alloc, iface)?;
-        running.push(one)?;
+        ifaces.push(iface)?;
     }
-    Ok(running)
+    Ok(ifaces)
 }
 
 /// The hardware addresses of the interfaces.
@@ -92,34 +90,15 @@ pub fn core_open(
 {
     let own = own_addresses(alloc, specs)?;
     let mut outs = Outs::new(alloc);
-    let running = opened_ifaces(alloc, beginnings, begin, &mut outs)?;
-    let wanted = wanted(alloc, &running)?;
+    let ifaces = opened_ifaces(alloc, beginnings, begin, &mut outs)?;
+    let tables = tables_of(alloc, &ifaces)?;
     let core = Core {
         alloc,
         own,
-        running,
-        wanted,
+        ifaces,
+        tables,
     };
     Ok((core, outs))
-}
-
-/// The rows after a turn: those before, where none has changed.
-fn renewed(
-    alloc: Global,
-    before: BTreeSet<HostRow>,
-    running: &[Running],
-    changed: bool,
-) -> Result<BTreeSet<HostRow>, NoMemory>
-    requires running { AreRunning running.now }
-    requires same { changed ≡ false → before.keys ≡ wanted_rows (ifaces_in running.now) }
-    requires rows { AllByRecursion IsRow before.keys }
-    ensures { IfOk result (λ wanted. IsWanted running.now wanted.keys) }
-{
-    if changed {
-        wanted(alloc, running)
-    } else {
-        Ok(before)
-    }
 }
 
 /// What a turn makes of the client, and what it asks.
@@ -142,22 +121,21 @@ pub fn step(core: Core, turn: Turn<'_>) -> Result<Stepped, NoMemory>
     let Core {
         alloc,
         own,
-        mut running,
-        wanted,
+        mut ifaces,
+        mut tables,
     } = core;
     let mut outs = Outs::new(alloc);
-    let changed = turn_all(alloc, &mut running, &turn, &own, &mut outs)?;
-    let wanted = renewed(alloc, wanted, &running, changed.rows)?;
+    let touched = turn_all(alloc, &mut ifaces, &mut tables, &turn, &own, &mut outs)?;
     let core = Core {
         alloc,
         own,
-        running,
-        wanted,
+        ifaces,
+        tables,
     };
     Ok(Stepped {
         core,
         outs,
-        touched: changed.touched,
+        touched,
     })
 }
 
@@ -166,7 +144,7 @@ pub fn rows(core: &Core) -> &BTreeSet<HostRow>
     ensures rows { result.now.keys ≡ rows_of core.now }
     ensures fit { AllByRecursion IsRow result.now.keys }
 {
-    &core.wanted
+    core.tables.wanted()
 }
 
 /// The lease that the interface of this number keeps for its next start, held or not.
@@ -174,24 +152,24 @@ pub fn kept(core: &Core, index: IfIndex) -> Option<&Lease4>
     ensures value { option_map (λ lease. lease_content lease.now) result ≡ kept_lease index.number core.now.ifaces }
     ensures fits { IfSome (option_map (λ lease. lease_content lease.now) result) FitsLease }
 {
-    kept_among(&core.running, index)
+    kept_among(&core.ifaces, index)
 }
 
-fn kept_among(running: &[Running], index: IfIndex) -> Option<&Lease4>
-    ensures value { option_map (λ lease. lease_content lease.now) result ≡ kept_lease index.number (ifaces_in running.now) }
+fn kept_among(ifaces: &[Iface], index: IfIndex) -> Option<&Lease4>
+    ensures value { option_map (λ lease. lease_content lease.now) result ≡ kept_lease index.number ifaces.now }
     ensures fits { IfSome (option_map (λ lease. lease_content lease.now) result) FitsLease }
 {
-    let one = one_of(running, index)?;
-    iface_kept(&one.iface)
+    let iface = iface_of(ifaces, index)?;
+    iface_kept(iface)
 }
 
 /// The interface of this number.
-fn one_of(running: &[Running], index: IfIndex) -> Option<&Running>
-    ensures { option_copied result ≡ find (λ one. index_of one.iface == index.number) running.now }
+fn iface_of(ifaces: &[Iface], index: IfIndex) -> Option<&Iface>
+    ensures { option_copied result ≡ find (λ iface. index_of iface == index.number) ifaces.now }
 {
-    running
+    ifaces
         .iter()
-        .find(|one| one.iface.managed.spec.index == index)
+        .find(|iface| iface.managed.spec.index == index)
 }
 
 /// The next moment at which a machine is due.
@@ -199,8 +177,8 @@ pub fn core_due(core: &Core) -> Option<u64>
     ensures { result ≡ client_due core.now.ifaces }
 {
     let mut due = None;
-    for one in &core.running {
-        due = earlier_of(due, iface_due(&one.iface));
+    for iface in &core.ifaces {
+        due = earlier_of(due, iface_due(iface));
     }
     due
 }

@@ -7,13 +7,14 @@ ghost use Rattle.world.specs.Rows.{IsInterface};
 ghost use Rattle.v4_options.specs.Numbers.{addrs_in};
 ghost use Rattle.lease_text.specs.Bounds.{FitsLease};
 ghost use Rattle.lease_text.specs.Leases.{lease_content, values_content};
-ghost use Rattle.client_model.specs.WantedRows.{value_in, classless_in, routers_in, classless_rows, preferred, lease_routes, lease_rows};
-ghost use Rattle.client_core.specs.Routing.{HasDestination};
+ghost use Rattle.client_model.specs.WantedRows.{value_in, classless_in, routers_in, classless_rows, preferred, router_for, lease_rows};
+ghost use Rattle.client_core.specs.Routing.{HasDestination, routes_by};
 
 use crate::address_rows::{push_address, push_gateway, push_route, push_router};
-use crate::host_rows::HostRows;
+use client_model::Outlet;
+use host_tables::HostRows;
 use lease_text::{Lease4, Value};
-use net_types::{IfIndex, Ip4, Net4, NoMemory};
+use net_types::{Ip4, Net4, NoMemory};
 use std::alloc::{AllocError, Global};
 use v4_options::code::{CLASSLESS_ROUTES, ROUTERS};
 use v4_options::{ClasslessRoute, addr_of, routes_of};
@@ -71,72 +72,83 @@ fn classless_of(alloc: Global, values: &[Value]) -> Result<Option<Vec<ClasslessR
 /// A classless route; where its gateway is 0 its destination is on the link (RFC 3442).
 fn push_classless(
     rows: &mut HostRows,
-    iface: IfIndex,
+    outlet: Outlet,
     net: Net4,
     route: ClasslessRoute,
 ) -> Result<(), AllocError>
-    requires index { IsInterface iface.number }
+    requires index { IsInterface outlet.iface.number }
     requires fit { HasDestination route }
-    ensures { OnOk result (rows.new ≡ rows.old ++ classless_rows iface net route) }
+    ensures { OnOk result (rows.new ≡ rows.old ++ classless_rows outlet net route) }
 {
     if route.via.number == 0 {
-        return push_route(rows, iface, route.dest, Via::OnLink);
+        return push_route(rows, outlet, route.dest, Via::OnLink);
     }
-    push_route(rows, iface, route.dest, Via::Gate4(route.via))?;
-    push_gateway(rows, iface, net, route.via)
+    push_route(rows, outlet, route.dest, Via::Gate4(route.via))?;
+    push_gateway(rows, outlet, net, route.via)
 }
 
 /// The classless routes, each after another.
 fn push_all_classless(
     rows: &mut HostRows,
-    iface: IfIndex,
+    outlet: Outlet,
     net: Net4,
     routes: &[ClasslessRoute],
 ) -> Result<(), AllocError>
-    requires index { IsInterface iface.number }
+    requires index { IsInterface outlet.iface.number }
     requires fit { AllByRecursion HasDestination routes.now }
-    ensures { OnOk result (rows.new ≡ rows.old ++ flat_map (classless_rows iface net) routes.now) }
+    ensures { OnOk result (rows.new ≡ rows.old ++ flat_map (classless_rows outlet net) routes.now) }
 {
     for route in routes {
-        push_classless(rows, iface, net, *route)?;
+        push_classless(rows, outlet, net, *route)?;
     }
     Ok(())
+}
+
+/// The router of the default route: a static one goes before those of a lease.
+fn router_for(fixed: Option<Ip4>, values: &[Value]) -> Option<Ip4>
+    ensures { result ≡ router_for fixed (values_content values.now) }
+{
+    match fixed {
+        Some(router) => Some(router),
+        None => router_of(values),
+    }
 }
 
 /// Classless routes take the place of routers (RFC 3442).
 fn push_lease_routes(
     alloc: Global,
     rows: &mut HostRows,
-    iface: IfIndex,
-    net: Net4,
-    values: &[Value],
+    outlet: Outlet,
+    fixed: Option<Ip4>,
+    lease: &Lease4,
 ) -> Result<(), NoMemory>
-    requires { IsInterface iface.number }
-    ensures { OnOk result (rows.new ≡ rows.old ++ lease_routes iface net (classless_in (values_content values.now)) (routers_in (values_content values.now))) }
+    requires { IsInterface outlet.iface.number }
+    ensures { OnOk result (rows.new ≡ rows.old ++ routes_by outlet fixed (lease_content lease.now)) }
 {
-    match classless_of(alloc, values)? {
-        Some(routes) => push_all_classless(rows, iface, net, &routes)?,
-        None => push_router(rows, iface, net, router_of(values))?,
+    match classless_of(alloc, &lease.values)? {
+        Some(routes) => push_all_classless(rows, outlet, lease.net, &routes)?,
+        None => push_router(rows, outlet, lease.net, router_for(fixed, &lease.values))?,
     }
     Ok(())
 }
 
-/// Appends the rows of a lease.
+/// Appends the rows of a lease. `fixed` is the interface's static router.
 pub fn push_lease(
     alloc: Global,
     rows: &mut HostRows,
-    iface: IfIndex,
+    outlet: Outlet,
+    fixed: Option<Ip4>,
     lease: Option<&Lease4>,
 ) -> Result<(), NoMemory>
-    requires index { IsInterface iface.number }
+    requires index { IsInterface outlet.iface.number }
     requires fits { IfSome (option_map (λ lease. lease_content lease.now) lease) FitsLease }
-    ensures { OnOk result (rows.new ≡ rows.old ++ lease_rows iface (option_map (λ lease. lease_content lease.now) lease.entry)) }
+    ensures { OnOk result (rows.new ≡ rows.old ++ lease_rows outlet fixed (option_map (λ lease. lease_content lease.now) lease.entry)) }
 {
     match lease {
         None => Ok(()),
         Some(lease) => {
-            push_address(rows, iface, lease.net)?;
-            push_lease_routes(alloc, rows, iface, lease.net, &lease.values)
+            push_address(rows, outlet, lease.net)?;
+            push_lease_routes(alloc, rows, outlet, fixed, lease)
         }
     }
 }

@@ -3,12 +3,10 @@
 
 mod address_rows;
 mod clients;
-mod host_rows;
 mod iface_rows;
+mod iface_tables;
 mod lease_rows;
-mod running;
 mod turning;
-mod wanting;
 
 pub use clients::{Core, Stepped, core_due, core_open, kept, rows, step};
 pub use iface_core::{Beginning, Outs, Sending, Turn, TurnInput, earlier_of};

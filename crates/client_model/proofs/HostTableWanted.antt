@@ -1,6 +1,6 @@
 -- The rows that are wanted can be wanted: they are in row order, and each is on the interface that gives it.
 use Rattle.std.proofs.Common.{◌≡◌, Bool, true, false, not, ◌&&◌, List, [], ◌∷◌, ◌++◌, map, Option, Some, None, nat_eq, refl}
-use Rattle.std.specs.Prelude.{filter, flat_map, nat_lt, All, option_and_then}
+use Rattle.std.specs.Prelude.{filter, flat_map, nat_lt, All}
 use Rattle.std.specs.List.{AllPass}
 use Rattle.std.proofs.lemmas.Bool.{cond_both, or_left, or_right, eq-eqb}
 use Rattle.std.proofs.lemmas.List.Elements.{All-nil, All-cons, All-head, All-tail, All-append, All-filter}
@@ -15,16 +15,14 @@ use Rattle.world.specs.declared.rows.Via.TheVariants.{OnLink, Gate4}
 use Rattle.world.specs.RowOrder.{row_iface, row_cmp, with_row, put_in_order}
 use Rattle.settings.specs.declared.interfaces.Managed.{Managed}
 use Rattle.ipv4ll.specs.Table.{held_in}
-use Rattle.v4_options.specs.declared.code.TheConstants.{CLASSLESS_ROUTES, ROUTERS}
 use Rattle.v4_options.specs.declared.routes.ClasslessRoute.{ClasslessRoute}
-use Rattle.v4_options.specs.Numbers.{addrs_in}
-use Rattle.v4_options.specs.Routes.{routes_in}
 use Rattle.lease_text.specs.Leases.{LeaseContent}
 use Rattle.v4_client.specs.Clients.{held_of}
-use Rattle.settings.specs.declared.interfaces.StaticLine.{StaticLine}
+use Rattle.client_model.specs.declared.outlet.Outlet.{Outlet}
 use Rattle.client_model.specs.declared.interfaces.Iface.{Iface}
 use Rattle.net_types.specs.Networks.{network_of, is_within}
-use Rattle.client_model.specs.WantedRows.{metric_of, is_kept, network_routes, gateway_routes, router_routes, address_rows, static_rows, value_in, classless_rows, preferred, lease_routes, lease_rows, local_net, local_rows, iface_rows, wanted_rows}
+use Rattle.host_tables.specs.Precedence.{is_kept}
+use Rattle.client_model.specs.WantedRows.{outlet_of, network_routes, gateway_routes, router_routes, address_rows, static_rows, classless_in, classless_rows, router_for, lease_routes, lease_rows, local_net, local_rows, iface_rows, wanted_rows}
 use Rattle.settings.specs.ManagedRows.{is_managed}
 use Rattle.host_model.specs.HostTable.{Wantable}
 use Rattle.host_model.proofs.HostTableRows.{in_order_sorted}
@@ -37,67 +35,70 @@ On index row = index.number ≡ row_iface row
 one_on : (index : IfIndex) (row : HostRow) → On index row → All (On index) (row ∷ [])
 one_on index row on = All-cons (On index) row [] on (All-nil (On index))
 
-network_on : (index : IfIndex) (net : Net4) → All (On index) (network_routes index net)
-network_on index net =
-    let route : HostRow = Route index (Family.V4 (network_of net)) OnLink (metric_of index) in
-    cond_both (nat_lt net.len 32) (route ∷ []) [] (All (On index)) (λ _. one_on index route refl) (λ _. All-nil (On index))
+network_on : (outlet : Outlet) (net : Net4) → All (On outlet.iface) (network_routes outlet net)
+network_on outlet net =
+    let route : HostRow = Route outlet.iface (Family.V4 (network_of net)) OnLink outlet.metric in
+    cond_both (nat_lt net.len 32) (route ∷ []) [] (All (On outlet.iface)) (λ _. one_on outlet.iface route refl) (λ _. All-nil (On outlet.iface))
 
-gateway_on : (index : IfIndex) (net : Net4) (router : Ip4) → All (On index) (gateway_routes index net router)
-gateway_on index net router =
-    let route : HostRow = Route index (Family.V4 (record { ip = router; len = 32 })) OnLink (metric_of index) in
-    cond_both (is_within router net) [] (route ∷ []) (All (On index)) (λ _. All-nil (On index)) (λ _. one_on index route refl)
+gateway_on : (outlet : Outlet) (net : Net4) (router : Ip4) → All (On outlet.iface) (gateway_routes outlet net router)
+gateway_on outlet net router =
+    let route : HostRow = Route outlet.iface (Family.V4 (record { ip = router; len = 32 })) OnLink outlet.metric in
+    cond_both (is_within router net) [] (route ∷ []) (All (On outlet.iface)) (λ _. All-nil (On outlet.iface)) (λ _. one_on outlet.iface route refl)
 
-router_on : (index : IfIndex) (net : Net4) (router : Option Ip4) → All (On index) (router_routes index net router)
-router_on index net None = All-nil (On index)
-router_on index net (Some router) =
-    let route : HostRow = Route index (Family.V4 (record { ip = record { number = 0 }; len = 0 })) (Gate4 router) (metric_of index) in
-    All-cons (On index) route (gateway_routes index net router) refl (gateway_on index net router)
+router_on : (outlet : Outlet) (net : Net4) (router : Option Ip4) → All (On outlet.iface) (router_routes outlet net router)
+router_on outlet net None = All-nil (On outlet.iface)
+router_on outlet net (Some router) =
+    let route : HostRow = Route outlet.iface (Family.V4 (record { ip = record { number = 0 }; len = 0 })) (Gate4 router) outlet.metric in
+    All-cons (On outlet.iface) route (gateway_routes outlet net router) refl (gateway_on outlet net router)
 
-address_on : (index : IfIndex) (net : Net4) → All (On index) (address_rows index net)
-address_on index net = All-cons (On index) (Addr index (Family.V4 net)) (network_routes index net) refl (network_on index net)
+address_on : (outlet : Outlet) (net : Net4) → All (On outlet.iface) (address_rows outlet net)
+address_on outlet net = All-cons (On outlet.iface) (Addr outlet.iface (Family.V4 net)) (network_routes outlet net) refl (network_on outlet net)
 
-static_on : (index : IfIndex) (up : Bool) (line : Option StaticLine) → All (On index) (static_rows index up line)
-static_on index false line = All-nil (On index)
-static_on index true None = All-nil (On index)
-static_on index true (Some line) =
-    All-append (On index) (address_rows index line.address) (router_routes index line.address line.router) (address_on index line.address) (router_on index line.address line.router)
+static_on : (outlet : Outlet) (in_force : Bool) (address : Option Net4) (router : Option Ip4) → All (On outlet.iface) (static_rows outlet in_force address router)
+static_on outlet false address router = All-nil (On outlet.iface)
+static_on outlet true None router = All-nil (On outlet.iface)
+static_on outlet true (Some net) router =
+    All-append (On outlet.iface) (address_rows outlet net) (router_routes outlet net router) (address_on outlet net) (router_on outlet net router)
 
-local_on : (index : IfIndex) (held : Option Ip4) → All (On index) (local_rows index held)
-local_on index None = All-nil (On index)
-local_on index (Some ip) = address_on index (local_net ip)
+local_on : (outlet : Outlet) (held : Option Ip4) → All (On outlet.iface) (local_rows outlet held)
+local_on outlet None = All-nil (On outlet.iface)
+local_on outlet (Some ip) = address_on outlet (local_net ip)
 
-classless_on : (index : IfIndex) (net : Net4) (route : ClasslessRoute) → All (On index) (classless_rows index net route)
-classless_on index net route =
-    let direct : HostRow = Route index (Family.V4 route.dest) OnLink (metric_of index) in
-    let gated : HostRow = Route index (Family.V4 route.dest) (Gate4 route.via) (metric_of index) in
-    cond_both (nat_eq route.via.number 0) (direct ∷ []) (gated ∷ gateway_routes index net route.via) (All (On index)) (λ _. one_on index direct refl)
-    (λ _. All-cons (On index) gated (gateway_routes index net route.via) refl (gateway_on index net route.via))
+classless_on : (outlet : Outlet) (net : Net4) (route : ClasslessRoute) → All (On outlet.iface) (classless_rows outlet net route)
+classless_on outlet net route =
+    let direct : HostRow = Route outlet.iface (Family.V4 route.dest) OnLink outlet.metric in
+    let gated : HostRow = Route outlet.iface (Family.V4 route.dest) (Gate4 route.via) outlet.metric in
+    cond_both (nat_eq route.via.number 0) (direct ∷ []) (gated ∷ gateway_routes outlet net route.via) (All (On outlet.iface)) (λ _. one_on outlet.iface direct refl)
+    (λ _. All-cons (On outlet.iface) gated (gateway_routes outlet net route.via) refl (gateway_on outlet net route.via))
 
-each_on : (index : IfIndex) (net : Net4) (routes : List ClasslessRoute) → All (On index) (flat_map (classless_rows index net) routes)
-each_on index net [] = All-nil (On index)
-each_on index net (route ∷ routes) =
-    All-append (On index) (classless_rows index net route) (flat_map (classless_rows index net) routes) (classless_on index net route) (each_on index net routes)
+each_on : (outlet : Outlet) (net : Net4) (routes : List ClasslessRoute) → All (On outlet.iface) (flat_map (classless_rows outlet net) routes)
+each_on outlet net [] = All-nil (On outlet.iface)
+each_on outlet net (route ∷ routes) =
+    All-append (On outlet.iface) (classless_rows outlet net route) (flat_map (classless_rows outlet net) routes) (classless_on outlet net route) (each_on outlet net routes)
 
-lease_routes_on : (index : IfIndex) (net : Net4) (routes : Option (List ClasslessRoute)) (routers : Option (List Ip4)) → All (On index) (lease_routes index net routes routers)
-lease_routes_on index net (Some routes) routers = each_on index net routes
-lease_routes_on index net None routers = router_on index net (option_and_then preferred routers)
+lease_routes_on : (outlet : Outlet) (net : Net4) (routes : Option (List ClasslessRoute)) (router : Option Ip4) → All (On outlet.iface) (lease_routes outlet net routes router)
+lease_routes_on outlet net (Some routes) router = each_on outlet net routes
+lease_routes_on outlet net None router = router_on outlet net router
 
-lease_on : (index : IfIndex) (held : Option LeaseContent) → All (On index) (lease_rows index held)
-lease_on index None = All-nil (On index)
-lease_on index (Some lease) =
-    let routes = option_and_then routes_in (value_in CLASSLESS_ROUTES lease.values) in
-    let routers = option_and_then addrs_in (value_in ROUTERS lease.values) in
-    All-append (On index) (address_rows index lease.net) (lease_routes index lease.net routes routers) (address_on index lease.net) (lease_routes_on index lease.net routes routers)
+lease_on : (outlet : Outlet) (router : Option Ip4) (held : Option LeaseContent) → All (On outlet.iface) (lease_rows outlet router held)
+lease_on outlet router None = All-nil (On outlet.iface)
+lease_on outlet router (Some lease) =
+    let routes = classless_in lease.values in
+    let chosen = router_for router lease.values in
+    All-append (On outlet.iface) (address_rows outlet lease.net) (lease_routes outlet lease.net routes chosen) (address_on outlet lease.net)
+    (lease_routes_on outlet lease.net routes chosen)
 
 own_rows : (iface : Iface) → All (On iface.managed.spec.index) (iface_rows iface)
 own_rows iface =
-    let index = iface.managed.spec.index in
-    let static = static_rows index (iface.up && not iface.stopped) iface.managed.conf.line in
-    let lease = lease_rows index (held_of iface.dhcp4) in
-    let local = local_rows index (held_in iface.local.state) in
-    All-append (On index) (static ++ lease) local
-    (All-append (On index) static lease (static_on index (iface.up && not iface.stopped) iface.managed.conf.line) (lease_on index (held_of iface.dhcp4)))
-    (local_on index (held_in iface.local.state))
+    let outlet = outlet_of iface.managed in
+    let conf = iface.managed.conf in
+    let static = static_rows outlet (iface.up && not iface.stopped) conf.address conf.router in
+    let lease = lease_rows outlet conf.router (held_of iface.dhcp4) in
+    let local = local_rows outlet (held_in iface.local.state) in
+    All-append (On outlet.iface) (static ++ lease) local
+    (All-append (On outlet.iface) static lease (static_on outlet (iface.up && not iface.stopped) conf.address conf.router)
+    (lease_on outlet conf.router (held_of iface.dhcp4)))
+    (local_on outlet (held_in iface.local.state))
 
 -- ---- those of all interfaces are on managed ones
 

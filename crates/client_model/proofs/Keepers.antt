@@ -1,25 +1,25 @@
 -- Of the routes with one destination, length and metric one is kept.
-use Rattle.std.proofs.Common.{ℕ, ◌≡◌, Bool, true, false, cond, not, ◌||◌, ◌&&◌, List, [], ◌∷◌, ◌⊎◌, inl, inr, nat_lt, nat_eq, refl, sym, ap, subst, ◌∙◌, arith}
+use Rattle.std.proofs.Common.{ℕ, ◌≡◌, Bool, true, false, not, ◌||◌, ◌&&◌, List, [], ◌∷◌, ◌⊎◌, inl, inr, nat_lt, nat_eq, refl, sym, ap, subst, ◌∙◌, arith}
 use Rattle.std.proofs.lemmas.Bool.Decides.{nat_tests}
-use Rattle.std.specs.Prelude.{filter, flat_map, ◌==◌, if◌then◌else◌}
+use Rattle.std.specs.Prelude.{filter, if◌then◌else◌}
 use Rattle.std.specs.List.{list_any}
 use Rattle.std.specs.declared.cmp.Ordering.{Ordering}
 use Rattle.std.specs.declared.cmp.Ordering.TheVariants.{Less, Equal, Greater}
 use Rattle.std.specs.Ordering.{ordering_reverse, is_eq, is_lt}
-use Rattle.std.specs.Cmp.{IsTotalOrder, Equal-is, tied_itself}
-use Rattle.std.specs.BTreeMap.{is_at}
+use Rattle.std.specs.Cmp.{Equal-is, tied_itself}
 use Rattle.std.proofs.lemmas.Bool.{false≢true}
 use Rattle.net_types.specs.declared.address.Net.{Net}
 use Rattle.net_types.specs.declared.interface.IfIndex.{IfIndex}
 use Rattle.world.specs.declared.rows.HostRow.{HostRow}
 use Rattle.world.specs.declared.rows.HostRow.TheVariants.{Addr, Route}
-use Rattle.world.specs.RowOrder.{family, net_number, net_len, row_iface, row_cmp, row_cmp_total, has_row, in_row_order}
+use Rattle.world.specs.RowOrder.{family, net_number, net_len, row_iface, row_cmp, row_cmp_total, has_row}
 use Rattle.world.proofs.ExactRows.{row_cmp_exact}
 use Rattle.world.proofs.RowLists.{in_order_has}
 use Rattle.host_model.proofs.HostTableRows.{has_filter}
 use Rattle.client_model.specs.declared.interfaces.Iface.{Iface}
-use Rattle.client_model.specs.WantedRows.{same_target, goes_before, outranks, is_kept, iface_rows, wanted_rows}
-use Rattle.client_model.specs.KeptRows.{given_rows, KeptUnlike, Keeper, DroppedHaveKeeper, AddressesStay}
+use Rattle.host_tables.specs.Precedence.{same_target, goes_before, outranks, is_kept}
+use Rattle.client_model.specs.WantedRows.{wanted_rows}
+use Rattle.client_model.specs.KeptRows.{given_rows, KeptUnlike, DroppedHaveKeeper, AddressesStay}
 
 -- ---- the order of rows by interface and row order
 

@@ -1,3 +1,5 @@
+pub mod AskFitting
+mod AskedOptions
 mod Apart
 mod Elsewhere
 mod OwnTurns

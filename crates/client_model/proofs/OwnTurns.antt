@@ -12,8 +12,8 @@ use Rattle.client_model.specs.IfaceSteps.{IfaceStep, index_of, then_step}
 use Rattle.client_model.specs.Interfaces.{restarted, ticked}
 use Rattle.client_model.specs.IfaceTurns.{Turn, input_step, iface_turned}
 use Rattle.client_model.specs.Clients.{Sending, sends_of}
-use Rattle.client_model.specs.Runs.{iface_run, iface_frames, NamesOther}
-use Rattle.client_model.specs.OwnInputs.{is_for, own_turn, IsOne, AreOne, RunAlike, OwnInputsCount}
+use Rattle.client_model.specs.Runs.{iface_run, NamesOther}
+use Rattle.client_model.specs.OwnInputs.{is_for, own_turn, IsOne, RunAlike, OwnInputsCount}
 use Rattle.client_model.proofs.Elsewhere.{elsewhere}
 use Rattle.client_model.proofs.SameInterfaces.{run_same}
 

@@ -8,20 +8,15 @@ use Rattle.machine.specs.Moment.{is_due}
 use Rattle.arp_acd.specs.declared.detection.Acd.{Acd}
 use Rattle.arp_acd.specs.declared.detection.AcdSays.{AcdSays}
 use Rattle.arp_acd.specs.declared.detection.AcdSays.TheVariants as says
-use Rattle.arp_acd.specs.declared.detection.ArpSay.{ArpSay}
 use Rattle.arp_acd.specs.Table as detection
-use Rattle.ipv4ll.specs.Table.{ll_hears, ll_tick}
 use Rattle.lease_text.specs.declared.lease.Terms4.{Terms4}
-use Rattle.lease_text.specs.Leases.{LeaseContent, ValueContent}
 use Rattle.v4_frames.specs.Heard.{HeardMessage, heard4_in}
 use Rattle.v4_client.specs.declared.moments.Backoff.TheVariants.{Four}
 use Rattle.v4_client.specs.declared.moments.TheConstants.{SECOND}
 use Rattle.v4_client.specs.declared.states.Answer4.{Answer4}
 use Rattle.v4_client.specs.declared.states.Answer4.TheVariants as answer
-use Rattle.v4_client.specs.declared.states.Carrier.TheVariants.{Up, Down}
 use Rattle.v4_client.specs.declared.states.Keep4.{Keep4}
 use Rattle.v4_client.specs.declared.states.Keep4.TheVariants.{Stays}
-use Rattle.v4_client.specs.declared.states.News4.{News4}
 use Rattle.v4_client.specs.declared.states.News4.TheVariants as news
 use Rattle.v4_client.specs.declared.states.Origin4.{Origin4}
 use Rattle.v4_client.specs.declared.states.Origin4.TheVariants.{Offered, Rebooted}
@@ -29,18 +24,15 @@ use Rattle.v4_client.specs.declared.states.Say4.{Say4}
 use Rattle.v4_client.specs.declared.states.State4.{State4}
 use Rattle.v4_client.specs.declared.states.State4.TheVariants.{Off, Init, Selecting, Requesting, Rebooting, Checking, Waiting, Bound, Renewing, Rebinding}
 use Rattle.v4_client.specs.declared.states.Step4.{Step4}
-use Rattle.v4_client.specs.declared.states.Tell.{Tell}
-use Rattle.v4_client.specs.declared.states.Tell.TheVariants.{Server, Nobody}
+use Rattle.v4_client.specs.declared.states.Tell.TheVariants.{Server}
 use Rattle.v4_client.specs.declared.states.Turn4.{Turn4}
-use Rattle.v4_client.specs.Calls.{answer_to, arp_step, brought, carrier_step, heard_step, rebind_step, release_step}
+use Rattle.v4_client.specs.Calls.{answer_to, arp_step, brought, heard_step, rebind_step}
 use Rattle.v4_client.specs.Clients.{ClientContent, kept_terms, turn_of}
 use Rattle.v4_client.specs.Detection.{checked, defended, with_acd}
 use Rattle.v4_client.specs.Due.{due_of}
 use Rattle.v4_client.specs.Hearing.{offered, granted, answered, renewed, heard_row, contested, arp_row}
 use Rattle.v4_client.specs.History.{tick_step}
-use Rattle.v4_client.specs.Inputs.{begins, begin_row, rebind_row, release_row}
-use Rattle.v4_client.specs.Inputs as lease
-use Rattle.v4_client.specs.Messages.{Arrival}
+use Rattle.v4_client.specs.Inputs.{begins, begin_row, rebind_row}
 use Rattle.v4_client.specs.Moments.{doubled, expiry, rebinding_at, renewal_at}
 use Rattle.v4_client.specs.Moves.{kept_after}
 use Rattle.v4_client.specs.Steps.{binds, discovers, expires, new_exchange, rebinding, rebooting, renewing, requesting, rests, to_init}
@@ -55,11 +47,11 @@ use Rattle.client_model.specs.declared.steps.Said.{Said}
 use Rattle.client_model.specs.declared.steps.Said.TheVariants.{Dhcp4}
 use Rattle.client_model.specs.IfaceSteps.{Report, IfaceStep, index_of, silent, then_step, with_news}
 use Rattle.client_model.specs.ClientSettings.{runs_dhcp4}
-use Rattle.client_model.specs.LocalSteps.{armed, local_hears, local_step, tick_local}
-use Rattle.client_model.specs.Dhcp4Steps.{arms, arrival_at, begin_dhcp4, dhcp4_packet, dhcp4_step, holds_lease, rebind_dhcp4, said_in, tick_dhcp4}
+use Rattle.client_model.specs.LocalSteps.{armed, local_hears, tick_local}
+use Rattle.client_model.specs.Dhcp4Steps.{arms, arrival_at, dhcp4_packet, dhcp4_step, holds_lease, rebind_dhcp4, tick_dhcp4}
 use Rattle.client_model.specs.Interfaces.{machines_drop, machines_rebind, machines_stop, restarted, unsent_in, ticked, carrier_comes, carrier_goes, carried, released, rebound, told_at_stop}
 use Rattle.client_model.specs.Interfaces as run
-use Rattle.client_model.specs.IfaceTurns.{Turn, arp_heard, hears, hears_either, hears_message, hears_packet, taken, input_step, iface_turned}
+use Rattle.client_model.specs.IfaceTurns.{arp_heard, hears, hears_either, hears_message, hears_packet, taken, input_step, iface_turned}
 use Rattle.client_model.specs.Runs.{KeepsInQuiet}
 use Rattle.client_model.proofs.QuietTurns.{none_first, none_next, no_lease_news}
 

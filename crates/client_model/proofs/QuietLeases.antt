@@ -1,5 +1,5 @@
 -- A step of a client without news leaves the lease that it holds.
-use Rattle.std.proofs.Common.{ℕ, ◌≡◌, ◌+◌, ◌*◌, ◌||◌, Bool, true, false, cond, List, Option, Some, None, nat_le, nat_eq, refl, sym, ap}
+use Rattle.std.proofs.Common.{ℕ, ◌≡◌, ◌+◌, ◌*◌, ◌||◌, Bool, cond, List, Option, Some, None, nat_le, nat_eq, refl, sym, ap}
 use Rattle.net_types.proofs.CaseLaws.{gated}
 use Rattle.net_types.specs.declared.address.Mac.{Mac}
 use Rattle.net_types.specs.declared.interface.Name.{Name}
@@ -15,7 +15,6 @@ use Rattle.v4_client.specs.declared.moments.Backoff.TheVariants.{Four}
 use Rattle.v4_client.specs.declared.states.Answer4.{Answer4}
 use Rattle.v4_client.specs.declared.states.Answer4.TheVariants as answer
 use Rattle.v4_client.specs.declared.states.Carrier.TheVariants.{Up}
-use Rattle.v4_client.specs.declared.states.News4.{News4}
 use Rattle.v4_client.specs.declared.states.News4.TheVariants as news
 use Rattle.v4_client.specs.declared.states.Origin4.{Origin4}
 use Rattle.v4_client.specs.declared.states.Origin4.TheVariants.{Offered, Rebooted}
@@ -23,7 +22,6 @@ use Rattle.v4_client.specs.declared.states.State4.{State4}
 use Rattle.v4_client.specs.declared.states.State4.TheVariants.{Off, Init, Selecting, Requesting, Rebooting, Checking, Waiting, Bound, Renewing, Rebinding}
 use Rattle.v4_client.specs.declared.states.Step4.{Step4}
 use Rattle.v4_client.specs.declared.states.Turn4.{Turn4}
-use Rattle.v4_client.specs.Answers.{answer_of}
 use Rattle.v4_client.specs.Calls.{answer_to, arp_step, brought, carrier_step, heard_step, rebind_step, unsent_step}
 use Rattle.v4_client.specs.Clients.{ClientContent, held_of, is_held, kept_terms, turn_of}
 use Rattle.v4_client.specs.Detection.{checked, defended, with_acd}
@@ -34,8 +32,8 @@ use Rattle.v4_client.specs.Inputs.{begins, begin_row, rebind_row, unsent_row}
 use Rattle.v4_client.specs.Messages.{Arrival}
 use Rattle.v4_client.specs.Moments.{doubled, expiry, rebinding_at, renewal_at}
 use Rattle.v4_client.specs.Moves.{kept_after, moved}
-use Rattle.v4_client.specs.Steps.{binds, discovers, expires, new_exchange, rebinding, rebooting, refused, renewing, requesting, rests, selecting, to_init}
-use Rattle.v4_client.specs.Ticks.{bound_tick, checking_tick, detects, is_longest, rebinding_tick, rebooting_tick, renewing_tick, requesting_tick, tick_row}
+use Rattle.v4_client.specs.Steps.{binds, discovers, expires, new_exchange, rebinding, rebooting, renewing, requesting, rests, to_init}
+use Rattle.v4_client.specs.Ticks.{detects, is_longest, tick_row}
 use Rattle.v4_client.specs.declared.moments.TheConstants.{SECOND}
 
 module _ (name : Name) (fresh : List ValueContent) (kept : Option LeaseContent) where

@@ -35,7 +35,6 @@ use Rattle.v4_client.specs.Moves.{moved}
 use Rattle.world.specs.declared.wakes.Event.{Event}
 use Rattle.world.specs.declared.wakes.Event.TheVariants.{Frame, Carrier, Duplicate, Release, Rebind, Stop, Quiet, End}
 use Rattle.settings.specs.declared.interfaces.IfConf.{IfConf}
-use Rattle.settings.specs.declared.interfaces.Managed.{Managed}
 use Rattle.script_model.specs.IfaceSets.{is_in}
 use Rattle.client_model.specs.declared.interfaces.Iface.{Iface}
 use Rattle.client_model.specs.declared.steps.News.{News}
@@ -46,7 +45,7 @@ use Rattle.client_model.specs.LocalSteps.{chooses_local, fallback_of, armed, arm
 use Rattle.client_model.specs.Dhcp4Steps.{arms, arrival_at, begin_dhcp4, dhcp4_packet, dhcp4_step, followed, holds_lease, lease_news, rebind_dhcp4, tick_dhcp4}
 use Rattle.client_model.specs.Interfaces.{begins, machines_drop, machines_rebind, machines_stop, restarted, unsent_in, ticked, carrier_comes, carrier_goes, carried, released, rebound, told_at_stop}
 use Rattle.client_model.specs.IfaceTurns.{Turn, arp_heard, hears, hears_either, hears_message, hears_packet, taken, input_step, iface_turned}
-use Rattle.client_model.specs.WantedRows.{static_rows, lease_rows, local_rows, iface_rows}
+use Rattle.client_model.specs.WantedRows.{outlet_of, static_rows, lease_rows, local_rows, iface_rows}
 use Rattle.client_model.proofs.QuietLeases.{Quietly, arp_quiet, begin_quiet, heard_quiet, rebind_quiet, tick_quiet, unsent_quiet}
 
 -- ---- the link-local machine
@@ -324,8 +323,8 @@ turn_quiet own turn iface e =
 
 same_rows : (old new : Iface) → SameSources old new → iface_rows new ≡ iface_rows old
 same_rows old new same =
-    λ i. static_rows (same.managed i).spec.index (same.up i && not (same.stopped i)) (same.managed i).conf.line
-    ++ lease_rows (same.managed i).spec.index (same.lease i) ++ local_rows (same.managed i).spec.index (same.held i)
+    λ i. static_rows (outlet_of (same.managed i)) (same.up i && not (same.stopped i)) (same.managed i).conf.address (same.managed i).conf.router
+    ++ lease_rows (outlet_of (same.managed i)) (same.managed i).conf.router (same.lease i) ++ local_rows (outlet_of (same.managed i)) (same.held i)
 
 pub quiet_rows : (own : List Mac) (turn : Turn) (iface : Iface) → (iface_turned own turn iface).reports ≡ []
     → iface_rows (iface_turned own turn iface).iface ≡ iface_rows iface

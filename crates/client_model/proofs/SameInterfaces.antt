@@ -1,5 +1,5 @@
 -- An interface stays the one that it is, and its client keeps its settings.
-use Rattle.std.proofs.Common.{ℕ, ◌≡◌, Bool, true, false, List, [], ◌∷◌, map, Option, Some, None, refl, ap, ap₂, ◌∙◌}
+use Rattle.std.proofs.Common.{ℕ, ◌≡◌, Bool, true, false, List, [], ◌∷◌, map, Option, Some, None, refl, ap₂, ◌∙◌}
 use Rattle.net_types.proofs.CaseLaws.{gated}
 use Rattle.net_types.specs.declared.address.Mac.{Mac}
 use Rattle.frame_link.specs.declared.arp.ArpView.{ArpView}
@@ -16,7 +16,7 @@ use Rattle.client_model.specs.Dhcp4Steps.{arms, begin_dhcp4, dhcp4_step, rebind_
 use Rattle.client_model.specs.IfaceSteps.{IfaceStep, index_of, silent, then_step}
 use Rattle.client_model.specs.LocalSteps.{armed}
 use Rattle.client_model.specs.KeptLeases.{Beginning}
-use Rattle.client_model.specs.Interfaces.{begins, machines_rebind, resting, carrier_comes, carrier_goes, opened, restarted, unsent_in, ticked, carried, released, rebound, halted}
+use Rattle.client_model.specs.Interfaces.{begins, machines_rebind, resting, carrier_comes, carrier_goes, opened, restarted, unsent_in, ticked, carried, released, rebound}
 use Rattle.client_model.specs.IfaceTurns.{Turn, arp_heard, hears, hears_either, hears_message, hears_packet, taken, input_step, iface_turned}
 use Rattle.client_model.specs.Runs.{iface_run}
 

@@ -1,26 +1,47 @@
 -- What the DHCPv4 client of an interface is told by the configuration, and whether it runs.
-use Rattle.std.specs.Prelude.{ℕ, Bool, not, ◌&&◌, List, [], ◌∷◌, is_none}
+use Rattle.std.specs.Prelude.{ℕ, Bool, not, ◌&&◌, if◌then◌else◌, List, [], ◌∷◌, ◌++◌, filter, take, is_none, unwrap_or}
 use Rattle.v4_message.specs.Requests.{AskContent}
 use Rattle.v4_client.specs.declared.settings.Site4.{Site4}
+use Rattle.v4_client.specs.Messages.{is_among}
 use Rattle.v4_client.specs.Settings.{SettingsContent}
 use Rattle.settings.specs.declared.interfaces.IfConf.{IfConf}
 use Rattle.settings.specs.declared.interfaces.Managed.{Managed}
 use Rattle.client_model.specs.declared.asking.TheConstants.{ETHERNET}
 use Rattle.v4_options.specs.declared.code.TheConstants.{SUBNET_MASK, CLASSLESS_ROUTES, ROUTERS, DOMAIN_NAME_SERVERS, DOMAIN_NAME, BROADCAST_ADDRESS, LEASE_TIME, SERVER_IDENTIFIER, RENEWAL_TIME, REBINDING_TIME, DOMAIN_SEARCH}
 
--- DHCPv4 runs where it isn't forbidden and no static line gives an address.
+-- DHCPv4 runs where it isn't forbidden and no static address is given.
 abbrev pub runs_dhcp4 : IfConf → Bool
-runs_dhcp4 conf = not conf.nodhcp && is_none conf.line
+runs_dhcp4 conf = not conf.nodhcp && not conf.ipv6only && is_none conf.address
 
--- the codes that a client asks for, in order (RFC 2132, section 9.8; RFC 3442 wants classless routes before routers)
+-- ---- what the client asks for
+
+-- the codes that every client asks for, in order (RFC 2132, section 9.8; RFC 3442 wants classless routes before routers)
 abbrev pub wanted_codes : List ℕ
 wanted_codes =
     SUBNET_MASK ∷ CLASSLESS_ROUTES ∷ ROUTERS ∷ DOMAIN_NAME_SERVERS ∷ DOMAIN_NAME ∷ BROADCAST_ADDRESS
     ∷ LEASE_TIME ∷ SERVER_IDENTIFIER ∷ RENEWAL_TIME ∷ REBINDING_TIME ∷ DOMAIN_SEARCH ∷ []
 
--- the client is known by its hardware address (RFC 2132, section 9.14)
+-- codes, each at its first place, without those that came before
+abbrev pub each_once : (before : List ℕ) → List ℕ → List ℕ
+each_once before [] = []
+each_once before (code ∷ codes) = if is_among before code then each_once before codes else code ∷ each_once (code ∷ before) codes
+
+-- the most codes that are asked for
+abbrev pub most_codes : ℕ
+most_codes = 64
+
+-- these, and those that are configured, without those that are refused
+unfoldable pub codes_of : (asked refused : List ℕ) → List ℕ
+codes_of asked refused = take most_codes (filter (λ code. not (is_among refused code)) (each_once [] (wanted_codes ++ asked)))
+
+-- where no identifier is configured, the client is known by its hardware address (RFC 2132, section 9.14)
 abbrev pub ask_of : Managed → AskContent
-ask_of managed = record { client_id = ETHERNET ∷ managed.spec.mac.bytes; vendor = []; host = []; list = wanted_codes }
+ask_of managed = record {
+  client_id = unwrap_or managed.conf.dhcp4.identifier (ETHERNET ∷ managed.spec.mac.bytes);
+  vendor = managed.conf.dhcp4.vendor;
+  host = managed.conf.dhcp4.host;
+  list = codes_of managed.conf.dhcp4.asked managed.conf.dhcp4.refused;
+}
 
 abbrev pub site_of : Managed → Site4
 site_of managed = record {
@@ -31,6 +52,11 @@ site_of managed = record {
   reboot = managed.conf.reboot;
 }
 
--- no option is required or refused, and every server is listened to
 abbrev pub settings_of : Managed → SettingsContent
-settings_of managed = record { site = site_of managed; ask = ask_of managed; required = []; refused = []; blacklist = [] }
+settings_of managed = record {
+  site = site_of managed;
+  ask = ask_of managed;
+  required = managed.conf.dhcp4.required;
+  refused = managed.conf.dhcp4.refused;
+  blacklist = managed.conf.dhcp4.blacklist;
+}

@@ -1,5 +1,5 @@
 -- What an interface's DHCPv4 client does in its steps, and what link-local makes of its news.
-use Rattle.std.specs.Prelude.{ℕ, Bool, true, false, if◌then◌else◌, List, [], ◌∷◌, ◌++◌, map, Option, Some, None, is_some, option_to_list}
+use Rattle.std.specs.Prelude.{ℕ, Bool, if◌then◌else◌, List, [], ◌∷◌, ◌++◌, map, is_some, option_to_list}
 use Rattle.net_types.specs.declared.address.Mac.{Mac}
 use Rattle.frame_link.specs.declared.arp.ArpView.{ArpView}
 use Rattle.ipv4ll.specs.declared.link_local.LinkLocal.{LinkLocal}
@@ -22,7 +22,7 @@ use Rattle.client_model.specs.declared.steps.Said.TheVariants.{Arp, Dhcp4}
 use Rattle.client_model.specs.declared.steps.News.{News}
 use Rattle.client_model.specs.declared.steps.News.TheVariants.{Lease4}
 use Rattle.client_model.specs.ClientSettings.{runs_dhcp4}
-use Rattle.client_model.specs.IfaceSteps.{Report, IfaceStep, silent}
+use Rattle.client_model.specs.IfaceSteps.{IfaceStep, silent}
 use Rattle.client_model.specs.LocalSteps.{armed}
 
 abbrev pub holds_lease : Iface → Bool

@@ -4,7 +4,10 @@ use Rattle.std.specs.List.{AllByRecursion}
 use Rattle.ipv4ll.specs.Choice.{IsChoice}
 use Rattle.ipv4ll.specs.Laws.{chosen_address}
 use Rattle.lease_text.specs.Bounds.{FitsLease}
+use Rattle.v4_message.specs.Requests.{AskFits}
+use Rattle.settings.specs.declared.interfaces.Managed.{Managed}
 use Rattle.settings.specs.Fitting.{FitsManaged}
+use Rattle.client_model.specs.ClientSettings.{ask_of}
 use Rattle.client_model.specs.declared.interfaces.Iface.{Iface}
 use Rattle.client_model.specs.KeptLeases.{Beginning}
 
@@ -23,3 +26,7 @@ pub record FitsIface (iface : Iface) : Type 0 where
 
 abbrev pub AreIfaces : List Iface → Type 0
 AreIfaces ifaces = AllByRecursion FitsIface ifaces
+
+-- What a client says of itself fits its options.
+abbrev pub AsksFit : Type 0
+AsksFit = (managed : Managed) → FitsManaged managed → AskFits (ask_of managed)

@@ -1,7 +1,6 @@
 -- The lease with which an interface begins: that of its file, where the file's text is a lease of this interface.
-use Rattle.std.specs.Prelude.{◌≡◌, ℕ, bytes_eq, ◌==◌, if◌then◌else◌, List, [], ◌∷◌, ◌++◌, Option, Some, None, option_map, option_and_then}
+use Rattle.std.specs.Prelude.{◌≡◌, ℕ, bytes_eq, ◌==◌, if◌then◌else◌, List, [], ◌∷◌, Option, Some, None, option_map, option_and_then}
 use Rattle.net_types.specs.declared.interface.Name.{Name}
-use Rattle.net_types.specs.Cutting.{guarded}
 use Rattle.net_types.specs.FirstBadLine.{IsSpelled}
 use Rattle.net_types.specs.LineReading.{run}
 use Rattle.net_types.specs.NameText.{name_text}

@@ -6,7 +6,8 @@ use Rattle.world.specs.RowOrder.{has_row}
 use Rattle.net_types.specs.declared.address.Net.{Net}
 use Rattle.net_types.specs.declared.interface.IfIndex.{IfIndex}
 use Rattle.client_model.specs.declared.interfaces.Iface.{Iface}
-use Rattle.client_model.specs.WantedRows.{same_target, outranks, iface_rows, wanted_rows}
+use Rattle.host_tables.specs.Precedence.{same_target, outranks}
+use Rattle.client_model.specs.WantedRows.{iface_rows, wanted_rows}
 
 abbrev pub given_rows : List Iface → List HostRow
 given_rows ifaces = flat_map iface_rows ifaces

@@ -11,3 +11,4 @@ pub mod Runs
 pub mod OwnInputs
 pub mod KeptRows
 pub mod Fitting
+pub mod AskedOptions

@@ -16,11 +16,11 @@ use Rattle.client_model.specs.declared.steps.Said.TheVariants.{Arp}
 use Rattle.client_model.specs.declared.steps.News.{News}
 use Rattle.client_model.specs.declared.steps.News.TheVariants.{Timeout, LocalGained, LocalLost}
 use Rattle.client_model.specs.ClientSettings.{runs_dhcp4}
-use Rattle.client_model.specs.IfaceSteps.{Report, IfaceStep, silent}
+use Rattle.client_model.specs.IfaceSteps.{IfaceStep, silent}
 
--- A link-local address is chosen where no static line gives an address, and it isn't forbidden.
+-- A link-local address is chosen where no static address is given, and it isn't forbidden.
 abbrev pub chooses_local : IfConf → Bool
-chooses_local conf = not conf.noipv4ll && is_none conf.line
+chooses_local conf = not conf.noipv4ll && not conf.ipv6only && is_none conf.address
 
 abbrev pub fallback_of : (chooses : Bool) → Fallback
 fallback_of true = Choose

@@ -1,9 +1,8 @@
 -- Runs over a list of turns, the newest first: that of one interface alone, and that of the client.
-use Rattle.std.specs.Prelude.{◌≡◌, ◌≢◌, ℕ, List, [], ◌∷◌, ◌++◌, map, flat_map}
+use Rattle.std.specs.Prelude.{◌≡◌, ◌≢◌, ℕ, List, [], ◌∷◌, map, flat_map}
 use Rattle.net_types.specs.declared.address.Mac.{Mac}
 use Rattle.world.specs.declared.wakes.Event.{Event}
 use Rattle.world.specs.declared.wakes.Event.TheVariants.{Frame, Carrier, Duplicate, Release, Rebind, Stop, Quiet, End}
-use Rattle.script_model.specs.IfaceSets.{is_in}
 use Rattle.client_model.specs.declared.interfaces.Iface.{Iface}
 use Rattle.client_model.specs.IfaceSteps.{index_of, news_of}
 use Rattle.client_model.specs.IfaceTurns.{Turn, iface_turned}

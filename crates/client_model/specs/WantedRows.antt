@@ -1,17 +1,15 @@
 -- The rows that the interfaces' addresses give, computed from scratch.
-use Rattle.std.specs.Prelude.{ℕ, ◌+◌, ◌-◌, ◌/◌, ◌%◌, ◌^◌, Bool, true, false, not, ◌&&◌, ◌||◌, ◌==◌, nat_lt, if◌then◌else◌, List, [], ◌∷◌, ◌++◌, filter, find, flat_map, Option, Some, None, option_map, option_and_then, slice_get}
-use Rattle.std.specs.List.{list_any}
-use Rattle.std.specs.Ordering.{is_lt}
+use Rattle.std.specs.Prelude.{ℕ, ◌+◌, Bool, true, false, not, ◌&&◌, ◌==◌, nat_lt, if◌then◌else◌, List, [], ◌∷◌, ◌++◌, find, flat_map, Option, Some, None, option_map, option_and_then, slice_get, unwrap_or}
+use Rattle.std.specs.Option.{option_or}
 use Rattle.net_types.specs.declared.address.Ip4.{Ip4}
 use Rattle.net_types.specs.declared.address.Net4.{Net4}
-use Rattle.net_types.specs.declared.address.Net.{Net}
 use Rattle.net_types.specs.declared.address.Net.TheVariants as Family
 use Rattle.net_types.specs.Networks.{network_of, is_within}
 use Rattle.net_types.specs.declared.interface.IfIndex.{IfIndex}
 use Rattle.world.specs.declared.rows.HostRow.{HostRow}
 use Rattle.world.specs.declared.rows.HostRow.TheVariants.{Addr, Route}
 use Rattle.world.specs.declared.rows.Via.TheVariants.{OnLink, Gate4}
-use Rattle.world.specs.RowOrder.{family, net_number, net_len, row_iface, row_cmp, in_row_order}
+use Rattle.host_tables.specs.Precedence.{unique_rows}
 use Rattle.ipv4ll.specs.Table.{held_in}
 use Rattle.v4_options.specs.declared.code.TheConstants.{CLASSLESS_ROUTES, ROUTERS}
 use Rattle.v4_options.specs.declared.routes.ClasslessRoute.{ClasslessRoute}
@@ -19,46 +17,51 @@ use Rattle.v4_options.specs.Numbers.{addrs_in}
 use Rattle.v4_options.specs.Routes.{routes_in}
 use Rattle.lease_text.specs.Leases.{ValueContent, LeaseContent}
 use Rattle.v4_client.specs.Clients.{held_of}
-use Rattle.settings.specs.declared.interfaces.StaticLine.{StaticLine}
+use Rattle.settings.specs.declared.interfaces.Managed.{Managed}
+use Rattle.client_model.specs.declared.outlet.Outlet.{Outlet}
 use Rattle.client_model.specs.declared.interfaces.Iface.{Iface}
 
--- the metric of an interface's routes
-abbrev pub metric_of : IfIndex → ℕ
-metric_of iface = 1000 + iface.number
+-- the metric of an interface's routes, where none is configured
+abbrev pub metric_by_index : IfIndex → ℕ
+metric_by_index iface = 1000 + iface.number
+
+abbrev pub metric_of : Managed → ℕ
+metric_of managed = unwrap_or managed.conf.metric (metric_by_index managed.spec.index)
+
+-- by where the rows of an interface lead
+abbrev pub outlet_of : Managed → Outlet
+outlet_of managed = record { iface = managed.spec.index; metric = metric_of managed }
 
 -- an address shorter than the whole width gives its network
-abbrev pub network_routes : IfIndex → Net4 → List HostRow
-network_routes iface net =
+abbrev pub network_routes : Outlet → Net4 → List HostRow
+network_routes outlet net =
     if nat_lt net.len 32
-    then Route iface (Family.V4 (network_of net)) OnLink (metric_of iface) ∷ []
+    then Route outlet.iface (Family.V4 (network_of net)) OnLink outlet.metric ∷ []
     else []
 
 -- a router outside the network is given on the link itself
-abbrev pub gateway_routes : IfIndex → Net4 → Ip4 → List HostRow
-gateway_routes iface net router =
+abbrev pub gateway_routes : Outlet → Net4 → Ip4 → List HostRow
+gateway_routes outlet net router =
     if is_within router net
     then []
-    else Route iface (Family.V4 (record { ip = router; len = 32 })) OnLink (metric_of iface) ∷ []
+    else Route outlet.iface (Family.V4 (record { ip = router; len = 32 })) OnLink outlet.metric ∷ []
 
 -- the default route, by the router
-abbrev pub router_routes : IfIndex → Net4 → Option Ip4 → List HostRow
-router_routes iface net None = []
-router_routes iface net (Some router) =
-    Route iface (Family.V4 (record { ip = record { number = 0 }; len = 0 })) (Gate4 router) (metric_of iface)
-    ∷ gateway_routes iface net router
+abbrev pub router_routes : Outlet → Net4 → Option Ip4 → List HostRow
+router_routes outlet net None = []
+router_routes outlet net (Some router) =
+    Route outlet.iface (Family.V4 (record { ip = record { number = 0 }; len = 0 })) (Gate4 router) outlet.metric
+    ∷ gateway_routes outlet net router
 
 -- an address with its network
-abbrev pub address_rows : IfIndex → Net4 → List HostRow
-address_rows iface net = Addr iface (Family.V4 net) ∷ network_routes iface net
+abbrev pub address_rows : Outlet → Net4 → List HostRow
+address_rows outlet net = Addr outlet.iface (Family.V4 net) ∷ network_routes outlet net
 
-abbrev pub line_rows : IfIndex → StaticLine → List HostRow
-line_rows iface line = address_rows iface line.address ++ router_routes iface line.address line.router
-
--- static lines are in force while the carrier is up and no stop came
-abbrev pub static_rows : IfIndex → Bool → Option StaticLine → List HostRow
-static_rows iface false line = []
-static_rows iface true None = []
-static_rows iface true (Some line) = line_rows iface line
+-- a static address is in force while the carrier is up and no stop came
+abbrev pub static_rows : Outlet → (in_force : Bool) → Option Net4 → (router : Option Ip4) → List HostRow
+static_rows outlet false address router = []
+static_rows outlet true None router = []
+static_rows outlet true (Some net) router = address_rows outlet net ++ router_routes outlet net router
 
 -- ---- a lease (RFC 2131, RFC 3442)
 
@@ -74,62 +77,44 @@ abbrev pub routers_in : List ValueContent → Option (List Ip4)
 routers_in values = option_and_then addrs_in (value_in ROUTERS values)
 
 -- a classless route; where its gateway is 0 its destination is on the link
-abbrev pub classless_rows : IfIndex → Net4 → ClasslessRoute → List HostRow
-classless_rows iface net route =
+abbrev pub classless_rows : Outlet → Net4 → ClasslessRoute → List HostRow
+classless_rows outlet net route =
     if route.via.number == 0
-    then Route iface (Family.V4 route.dest) OnLink (metric_of iface) ∷ []
-    else Route iface (Family.V4 route.dest) (Gate4 route.via) (metric_of iface) ∷ gateway_routes iface net route.via
+    then Route outlet.iface (Family.V4 route.dest) OnLink outlet.metric ∷ []
+    else Route outlet.iface (Family.V4 route.dest) (Gate4 route.via) outlet.metric ∷ gateway_routes outlet net route.via
 
 -- the preferred router comes first (RFC 2132, section 3.5)
 abbrev pub preferred : List Ip4 → Option Ip4
 preferred routers = slice_get routers 0
 
--- classless routes take the place of routers (RFC 3442)
-abbrev pub lease_routes : IfIndex → Net4 → Option (List ClasslessRoute) → (routers : Option (List Ip4)) → List HostRow
-lease_routes iface net (Some routes) routers = flat_map (classless_rows iface net) routes
-lease_routes iface net None routers = router_routes iface net (option_and_then preferred routers)
+-- a static router goes before the routers of a lease
+abbrev pub router_for : (static : Option Ip4) → List ValueContent → Option Ip4
+router_for static values = option_or static (option_and_then preferred (routers_in values))
 
-abbrev pub lease_rows : IfIndex → Option LeaseContent → List HostRow
-lease_rows iface None = []
-lease_rows iface (Some lease) =
-    address_rows iface lease.net ++ lease_routes iface lease.net (classless_in lease.values) (routers_in lease.values)
+-- classless routes take the place of routers (RFC 3442)
+abbrev pub lease_routes : Outlet → Net4 → Option (List ClasslessRoute) → (router : Option Ip4) → List HostRow
+lease_routes outlet net (Some routes) router = flat_map (classless_rows outlet net) routes
+lease_routes outlet net None router = router_routes outlet net router
+
+abbrev pub lease_rows : Outlet → (router : Option Ip4) → Option LeaseContent → List HostRow
+lease_rows outlet router None = []
+lease_rows outlet router (Some lease) =
+    address_rows outlet lease.net ++ lease_routes outlet lease.net (classless_in lease.values) (router_for router lease.values)
 
 -- a link-local address is one of 169.254/16 (RFC 3927, section 2.1)
 abbrev pub local_net : Ip4 → Net4
 local_net ip = record { ip = ip; len = 16 }
 
-abbrev pub local_rows : IfIndex → Option Ip4 → List HostRow
-local_rows iface None = []
-local_rows iface (Some ip) = address_rows iface (local_net ip)
+abbrev pub local_rows : Outlet → Option Ip4 → List HostRow
+local_rows outlet None = []
+local_rows outlet (Some ip) = address_rows outlet (local_net ip)
 
 abbrev pub iface_rows : Iface → List HostRow
 iface_rows iface =
-    static_rows iface.managed.spec.index (iface.up && not iface.stopped) iface.managed.conf.line
-    ++ lease_rows iface.managed.spec.index (held_of iface.dhcp4)
-    ++ local_rows iface.managed.spec.index (held_in iface.local.state)
-
-abbrev pub same_net : Net → Net → Bool
-same_net a b = (family a == family b) && ((net_number a == net_number b) && (net_len a == net_len b))
-
--- whether two routes have one destination, length and metric
-abbrev pub same_target : HostRow → HostRow → Bool
-same_target (Addr i a) b = false
-same_target (Route i a via_a m) (Addr j b) = false
-same_target (Route i a via_a m) (Route j b via_b n) = same_net a b && (m == n)
-
--- of such routes the one of the lowest interface is kept, then the first in row order
-abbrev pub goes_before : HostRow → HostRow → Bool
-goes_before a b =
-    nat_lt (row_iface a) (row_iface b) || ((row_iface a == row_iface b) && is_lt (row_cmp a b))
-
-unfoldable pub outranks : HostRow → HostRow → Bool
-outranks a b = same_target a b && goes_before a b
-
-abbrev pub is_kept : List HostRow → HostRow → Bool
-is_kept rows row = not (list_any (λ other. outranks other row) rows)
+    static_rows (outlet_of iface.managed) (iface.up && not iface.stopped) iface.managed.conf.address iface.managed.conf.router
+    ++ lease_rows (outlet_of iface.managed) iface.managed.conf.router (held_of iface.dhcp4)
+    ++ local_rows (outlet_of iface.managed) (held_in iface.local.state)
 
 -- the rows that are wanted, in row order
 abbrev pub wanted_rows : List Iface → List HostRow
-wanted_rows ifaces =
-    let rows = flat_map iface_rows ifaces in
-    in_row_order (filter (is_kept rows) rows)
+wanted_rows ifaces = unique_rows (flat_map iface_rows ifaces)

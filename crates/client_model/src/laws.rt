@@ -6,6 +6,8 @@ ghost use Rattle.host_model.specs.HostTable.{InRowOrder, Wantable};
 ghost use Rattle.client_model.specs.declared.interfaces.Iface.{Iface};
 ghost use Rattle.client_model.specs.IfaceTurns.{Turn};
 ghost use Rattle.client_model.specs.Clients.{Client};
+ghost use Rattle.client_model.specs.AskedOptions.{AsksRightly};
+ghost use Rattle.client_model.specs.Fitting.{AsksFit};
 ghost use Rattle.client_model.specs.KeptLeases.{IsReading};
 ghost use Rattle.client_model.specs.WantedRows.{wanted_rows};
 ghost use Rattle.client_model.specs.Runs.{RunsApart, IsQuietElsewhere, KeepsInQuiet};
@@ -26,6 +28,17 @@ pub fn other_inputs_are_quiet()
 /// that are for it, and which frames of its own failed.
 pub fn own_inputs_alone_count()
     ensures { OwnInputsCount }
+{}
+
+/// Law: what the client of a managed interface says of itself fits the options of its messages, however much is configured.
+pub fn what_is_asked_fits()
+    ensures { AsksFit }
+{}
+
+/// Law of the options that a client asks for (RFC 2132, section 9.8): every client's and those configured, each once, none that
+/// is refused; and all of these, where they are fewer than 64.
+pub fn options_are_asked_for_rightly()
+    ensures { (asked refused : List ℕ) → AsksRightly asked refused }
 {}
 
 /// Law of the rows that these laws speak of: those that the interfaces want are on them, in row order, each once; and so

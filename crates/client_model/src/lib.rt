@@ -4,13 +4,15 @@
 mod asking;
 mod interfaces;
 mod laws;
+mod outlet;
 mod steps;
 
 pub use asking::{ETHERNET, WANTED_CODES};
 pub use interfaces::Iface;
 pub use laws::{
     interfaces_run_apart, kept_leases_stay_in_quiet_turns, kept_rows_are_unlike,
-    kept_texts_are_leases, other_inputs_are_quiet, own_inputs_alone_count,
-    wanted_rows_can_be_wanted,
+    kept_texts_are_leases, options_are_asked_for_rightly, other_inputs_are_quiet,
+    own_inputs_alone_count, wanted_rows_can_be_wanted, what_is_asked_fits,
 };
+pub use outlet::Outlet;
 pub use steps::{News, Said, TimedMachine};

@@ -1,6 +1,14 @@
-mod WordLaws
-mod FlagLaws
-mod NumberLaws
-pub mod LineLaws
-pub mod ReadingLaws
-pub mod ManagedFit
+pub mod ListLaws
+pub mod ScopeLaws
+pub mod TakeLaws
+pub mod NameLaws
+pub mod SayingLaws
+pub mod CountLaws
+pub mod ResultLaws
+pub mod BlockLaws
+pub mod StepLaws
+pub mod OneLaws
+pub mod ReadLaws
+pub mod ManagedLaws
+pub mod SaidFits
+pub mod ConfFits

@@ -1,53 +1,45 @@
--- Directives of one word, which are on where they stand.
-use Rattle.std.specs.Prelude.{ℕ, Bool, true, false, ◌||◌, List, [], ◌∷◌, map, codes, Option}
-use Rattle.conf_text.specs.declared.flags.FlagName.{FlagName}
-use Rattle.conf_text.specs.declared.flags.FlagName.TheVariants.{NoDhcp, NoIpv4ll, NoDelay, NoArp, Broadcast, Release}
+-- Directives of one word, which are on where a line has them.
+use Rattle.std.specs.Prelude.{Bool, true, false, ◌||◌, List}
+use Rattle.std.specs.List.{list_any}
+use Rattle.conf_directives.specs.declared.names.FlagName.{FlagName}
+use Rattle.conf_directives.specs.declared.names.FlagName.TheVariants.{Ipv4Only, Ipv6Only, NoDhcp, NoDhcp6, NoIpv4ll, NoArp, NoDelay, Broadcast, Release}
 use Rattle.conf_text.specs.declared.flags.Flags.{Flags}
-use Rattle.conf_text.specs.Words.{Words, meaning}
 
-abbrev pub flag_text : FlagName → List ℕ
-flag_text NoDhcp = codes "nodhcp"
-flag_text NoIpv4ll = codes "noipv4ll"
-flag_text NoDelay = codes "nodelay"
-flag_text NoArp = codes "noarp"
-flag_text Broadcast = codes "broadcast"
-flag_text Release = codes "release"
+abbrev pub is_flag : FlagName → FlagName → Bool
+is_flag Ipv4Only Ipv4Only = true
+is_flag Ipv6Only Ipv6Only = true
+is_flag NoDhcp NoDhcp = true
+is_flag NoDhcp6 NoDhcp6 = true
+is_flag NoIpv4ll NoIpv4ll = true
+is_flag NoArp NoArp = true
+is_flag NoDelay NoDelay = true
+is_flag Broadcast Broadcast = true
+is_flag Release Release = true
+is_flag _ _ = false
 
-abbrev pub all_flags : List FlagName
-all_flags = NoDhcp ∷ NoIpv4ll ∷ NoDelay ∷ NoArp ∷ Broadcast ∷ Release ∷ []
-
-abbrev pub flags : Words FlagName
-flags = map (λ name. (flag_text name, name)) all_flags
-
-unfoldable pub flag_at : List ℕ → Option FlagName
-flag_at word = meaning flags word
-
-abbrev pub no_flags : Flags
-no_flags = record { nodhcp = false; noipv4ll = false; nodelay = false; noarp = false; broadcast = false; release = false }
-
-abbrev pub has_flag : FlagName → Flags → Bool
-has_flag NoDhcp on = on.nodhcp
-has_flag NoIpv4ll on = on.noipv4ll
-has_flag NoDelay on = on.nodelay
-has_flag NoArp on = on.noarp
-has_flag Broadcast on = on.broadcast
-has_flag Release on = on.release
-
-abbrev pub with_flag : FlagName → Flags → Flags
-with_flag NoDhcp on = record on { nodhcp = true }
-with_flag NoIpv4ll on = record on { noipv4ll = true }
-with_flag NoDelay on = record on { nodelay = true }
-with_flag NoArp on = record on { noarp = true }
-with_flag Broadcast on = record on { broadcast = true }
-with_flag Release on = record on { release = true }
+abbrev pub flags_of : List FlagName → Flags
+flags_of names = record {
+  ipv4only = list_any (is_flag Ipv4Only) names;
+  ipv6only = list_any (is_flag Ipv6Only) names;
+  nodhcp = list_any (is_flag NoDhcp) names;
+  nodhcp6 = list_any (is_flag NoDhcp6) names;
+  noipv4ll = list_any (is_flag NoIpv4ll) names;
+  noarp = list_any (is_flag NoArp) names;
+  nodelay = list_any (is_flag NoDelay) names;
+  broadcast = list_any (is_flag Broadcast) names;
+  release = list_any (is_flag Release) names;
+}
 
 -- on in either
 abbrev pub either : Flags → Flags → Flags
 either one other = record {
+  ipv4only = one.ipv4only || other.ipv4only;
+  ipv6only = one.ipv6only || other.ipv6only;
   nodhcp = one.nodhcp || other.nodhcp;
+  nodhcp6 = one.nodhcp6 || other.nodhcp6;
   noipv4ll = one.noipv4ll || other.noipv4ll;
-  nodelay = one.nodelay || other.nodelay;
   noarp = one.noarp || other.noarp;
+  nodelay = one.nodelay || other.nodelay;
   broadcast = one.broadcast || other.broadcast;
   release = one.release || other.release;
 }

@@ -1,64 +1,122 @@
--- What a configuration says of the interfaces of a run.
-use Rattle.std.specs.Prelude.{ℕ, ◌||◌, ◌==◌, if◌then◌else◌, List, length, map, find, Option, Some, None, unwrap_or, option_map}
+-- Which interfaces are managed, and what is in force for each of them.
+use Rattle.std.specs.Prelude.{◌≡◌, ℕ, Bool, true, false, not, ◌&&◌, ◌||◌, ◌==◌, nat_eq, List, [], ◌∷◌, ◌++◌, length, find, Option, Some, None, option_map, option_and_then, unwrap_or, codes, bytes_eq, if◌then◌else◌}
+use Rattle.std.specs.Option.{option_or}
+use Rattle.std.specs.List.{filter_map, list_any, starts_with}
+use Rattle.net_types.specs.declared.address.Ip4.{Ip4}
 use Rattle.net_types.specs.declared.interface.Name.{Name}
 use Rattle.net_types.specs.declared.interface.IfSpec.{IfSpec}
-use Rattle.settings.specs.declared.interfaces.StaticLine.{StaticLine}
+use Rattle.net_types.specs.NameText.{name_text}
 use Rattle.settings.specs.declared.interfaces.IfConf.{IfConf}
 use Rattle.settings.specs.declared.interfaces.Managed.{Managed}
-use Rattle.conf_text.specs.declared.conf.Globals.{Globals}
-use Rattle.conf_text.specs.declared.conf.Block.{Block}
-use Rattle.conf_text.specs.declared.conf.Conf.{Conf}
+use Rattle.settings.specs.Dhcp4Settings.{Dhcp4Settings}
+use Rattle.conf_directives.specs.declared.values.Pattern.{Pattern}
+use Rattle.conf_directives.specs.declared.values.Pattern.TheVariants.{Exactly, Any, Beginning}
+use Rattle.conf_directives.specs.Contents.{IdentifierContent, Bytes}
+use Rattle.conf_text.specs.declared.managing.TheConstants.{DEFAULT_TIMEOUT, DEFAULT_REBOOT}
+use Rattle.conf_text.specs.declared.managing.ManagedAnswer.{ManagedAnswer}
+use Rattle.conf_text.specs.declared.managing.ManagedAnswer.TheVariants.{NotBuilt, NoMemory}
 use Rattle.conf_text.specs.Flags.{either}
-use Rattle.conf_text.specs.Numbers.{said_first}
-use Rattle.conf_text.specs.ConfLines.{Said, blocks_of, is_block_of, empty_block}
+use Rattle.conf_text.specs.Places.{is_named}
+use Rattle.conf_text.specs.Scopes.{ScopeContent, scope_of}
+use Rattle.conf_text.specs.Configurations.{BlockContent, Configuration}
 
--- a configuration without where it lies in memory
-pub record Configuration : Type 0 where
-  pub globals : Globals
-  pub blocks : List Block
+-- ---- which are managed
 
-abbrev pub configuration : Conf → Configuration
-configuration conf = record { globals = conf.globals; blocks = conf.blocks.items }
+abbrev pub is_meant : Name → Pattern → Bool
+is_meant name (Exactly other) = is_named name other
+is_meant name Any = true
+is_meant name (Beginning front) = starts_with nat_eq (name_text name) (name_text front)
 
-abbrev pub configured : Said → Configuration
-configured said = record { globals = said.globals; blocks = blocks_of said }
+-- those that aren't denied, and where some are allowed, these alone
+abbrev pub is_managed : Configuration → Name → Bool
+is_managed conf name =
+    not (list_any (is_meant name) conf.denied)
+    && (length conf.allowed == 0 || list_any (is_meant name) conf.allowed)
+
+-- ---- what is in force
 
 -- an interface without a block has one that says nothing
-abbrev pub block_for : List Block → Name → Block
-block_for blocks name = unwrap_or (find (is_block_of name) blocks) (empty_block name)
+abbrev pub scope_for : List BlockContent → Name → ScopeContent
+scope_for blocks name = unwrap_or (option_map (λ block. block.scope) (find (λ block. is_named name block.name) blocks)) (scope_of [])
 
--- the static line of a block, where it has an address
-abbrev pub line_of : Block → Option StaticLine
-line_of block = option_map (λ address. record { address = address; router = block.router }) block.address
+-- the block before the global lines
+abbrev pub first_said : {X : Type 0} → (block global : Option X) → Option X
+first_said block global = option_or block global
 
--- where it isn't said, so many seconds
-abbrev pub default_timeout : ℕ
-default_timeout = 30
+abbrev pub text_or_none : (block global : Option (List ℕ)) → List ℕ
+text_or_none block global = unwrap_or (first_said block global) []
 
-abbrev pub default_reboot : ℕ
-default_reboot = 5
+abbrev pub identifier_bytes : IdentifierContent → Option (List ℕ)
+identifier_bytes (Bytes bytes) = Some bytes
+identifier_bytes _ = None
 
--- What is in force for an interface: flags that stand globally or in its block, and the block's numbers before the global ones.
-abbrev pub in_force : Globals → Block → IfConf
-in_force globals block =
-    let flags = either globals.flags block.flags in
-    let numbers = said_first block.numbers globals.numbers in
+abbrev pub first_router : List Ip4 → Option Ip4
+first_router [] = None
+first_router (router ∷ routers) = Some router
+
+-- lists go on after the global ones
+abbrev pub dhcp4_in_force : (global block : ScopeContent) → Dhcp4Settings
+dhcp4_in_force global block = record {
+  host = text_or_none block.host global.host;
+  vendor = text_or_none block.vendor global.vendor;
+  identifier = option_and_then identifier_bytes (first_said block.identifier global.identifier);
+  asked = global.asked.codes ++ block.asked.codes;
+  refused = global.refused.codes ++ block.refused.codes;
+  required = global.required.codes ++ block.required.codes;
+  blacklist = global.blacklist ++ block.blacklist;
+}
+
+-- single values are the block's, else the global ones; flags are on in either
+abbrev pub in_force : (global block : ScopeContent) → IfConf
+in_force global block =
+    let flags = either global.flags block.flags in
     record {
+      ipv4only = flags.ipv4only;
+      ipv6only = flags.ipv6only;
       nodhcp = flags.nodhcp;
+      nodhcp6 = flags.nodhcp6;
       noipv4ll = flags.noipv4ll;
       nodelay = flags.nodelay;
       noarp = flags.noarp;
       broadcast = flags.broadcast;
       release = flags.release;
-      timeout = unwrap_or numbers.timeout default_timeout;
-      reboot = unwrap_or numbers.reboot default_reboot;
-      line = line_of block;
+      timeout = unwrap_or (first_said block.timeout global.timeout) DEFAULT_TIMEOUT;
+      reboot = unwrap_or (first_said block.reboot global.reboot) DEFAULT_REBOOT;
+      metric = first_said block.metric global.metric;
+      address = first_said block.statics.address global.statics.address;
+      router = option_and_then first_router (first_said block.statics.routers global.statics.routers);
+      dhcp4 = dhcp4_in_force global block;
     }
 
-abbrev pub managed_one : Configuration → IfSpec → Managed
-managed_one conf spec = record { spec = spec; conf = in_force conf.globals (block_for conf.blocks spec.name) }
+abbrev pub settings_for : Configuration → Name → IfConf
+settings_for conf name = in_force conf.global (scope_for conf.blocks name)
 
--- hooks aren't built, so interfaces need a configuration without them
-abbrev pub managed_of : Configuration → List IfSpec → Option (List Managed)
-managed_of conf specs =
-    if conf.globals.no_script || length specs == 0 then Some (map (managed_one conf) specs) else None
+-- what is in force for an interface, where it is managed
+abbrev pub settings_of : Configuration → IfSpec → Option IfConf
+settings_of conf spec = if is_managed conf spec.name then Some (settings_for conf spec.name) else None
+
+abbrev pub managed_with : IfSpec → Option IfConf → Option Managed
+managed_with spec settings = option_map (λ conf. record { spec = spec; conf = conf }) settings
+
+-- those of the interfaces that are managed, in their order
+abbrev pub managed_of : Configuration → List IfSpec → List Managed
+managed_of conf specs = filter_map (λ spec. managed_with spec (settings_of conf spec)) specs
+
+-- ---- hooks
+
+-- `script /dev/null` turns hooks off, where it is the last such line
+abbrev pub no_hooks : List ℕ
+no_hooks = codes "/dev/null"
+
+abbrev pub is_path_of_none : Option (List ℕ) → Bool
+is_path_of_none None = false
+is_path_of_none (Some path) = bytes_eq path no_hooks
+
+abbrev pub turns_hooks_off : Configuration → Bool
+turns_hooks_off conf = is_path_of_none conf.script
+
+-- ---- what isn't built yet
+
+abbrev pub AnswersUnbuilt : Configuration → ManagedAnswer → Type 0
+AnswersUnbuilt conf (NotBuilt line) = conf.not_built ≡ Some line
+AnswersUnbuilt conf NoMemory = Unit {0}

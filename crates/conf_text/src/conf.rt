@@ -1,100 +1,212 @@
-ghost use Rattle.std.specs.Prelude.{◌≡◌};
-ghost use Rattle.conf_text.specs.ConfLines.{empty_block, once, block_after, globals_after};
+//! A configuration.
+ghost use Rattle.std.specs.Prelude.{◌≡◌, ◌∷◌, ◌++◌, [], map, OnOk};
+ghost use Rattle.conf_directives.specs.Contents.{directive_content};
+ghost use Rattle.conf_text.specs.Configurations.{configured, notice_of};
+ghost use Rattle.conf_text.specs.Contents.{block_content, configuration, notice_content, scope_content};
+ghost use Rattle.conf_text.specs.Scopes.{scope_of};
+ghost use Rattle.conf_text.specs.Settings.{turns_hooks_off};
+ghost use Rattle.conf_text.specs.Steps.{FitsWords, conf_counts, global_with, mark_with, notices_with};
+ghost use Rattle.conf_text.specs.Values.{is_unbuilt};
 
-use crate::flags::{FlagName, Flags};
-use crate::numbers::{NumberName, Numbers};
-use net_types::{Ip4, Name, Net4};
-use std::mem::replace;
+use crate::answers::line_number;
+use crate::counting::Counts;
+use crate::scope::Scope;
+use conf_directives::{Directive, Identifier, InterfaceList, Pattern, StaticValue};
+use net_types::{Name, NoMemory};
+use std::alloc::Global;
 
-/// A line of the configuration, as dhcpcd.conf(5) has them.
-#[derive(Clone, Copy, Debug, PartialEq, Eq)]
-pub enum ConfLine {
-    /// `script /dev/null`: no hook jobs are made.
-    NoScript,
-    /// A directive of one word.
-    Flag(FlagName),
-    /// A directive of a word and so many seconds.
-    Number(NumberName, u32),
-    /// `interface NAME` begins the block of an interface.
-    Interface(Name),
-    /// `static ip_address=ADDRESS/LEN`.
-    Address(Net4),
-    /// `static routers=ADDRESS`.
-    Router(Ip4),
+/// The path that turns hooks off.
+const NO_HOOKS: &[u8] = b"/dev/null";
+
+/// A word of a configuration that does nothing.
+#[derive(Debug, Drop)]
+pub struct Notice {
+    /// Its line, from 1.
+    pub line: u32,
+    pub word: String,
 }
 
-/// What the lines before the first block say.
-#[derive(Clone, Copy, Debug, PartialEq, Eq)]
-pub struct Globals {
-    /// Whether hook jobs are turned off.
-    pub no_script: bool,
-    pub flags: Flags,
-    pub numbers: Numbers,
-}
-
-/// What the block of an interface says.
-#[derive(Clone, Copy, Debug, PartialEq, Eq)]
+/// What the blocks of an interface say.
+#[derive(Debug, Drop)]
 pub struct Block {
     pub name: Name,
-    pub flags: Flags,
-    pub numbers: Numbers,
-    pub address: Option<Net4>,
-    pub router: Option<Ip4>,
-}
-
-/// A configuration.
-#[derive(Debug, Drop)]
-pub struct Conf {
-    pub globals: Globals,
-    pub blocks: Vec<Block>,
-}
-
-fn once<T: Copy>(is_said: bool, value: T) -> Option<T>
-    ensures { result ≡ once is_said value }
-{
-    if is_said { None } else { Some(value) }
-}
-
-impl Globals {
-    /// With one line more, where it is a global one that wasn't said.
-    pub fn after(mut self, line: ConfLine) -> Option<Globals>
-        ensures { result ≡ globals_after self line }
-    {
-        let is_said = match line {
-            ConfLine::NoScript => replace(&mut self.no_script, true),
-            ConfLine::Flag(name) => self.flags.turn_on(name),
-            ConfLine::Number(name, seconds) => self.numbers.say(name, seconds),
-            ConfLine::Interface(_) | ConfLine::Address(_) | ConfLine::Router(_) => return None,
-        };
-        once(is_said, self)
-    }
+    pub scope: Scope,
 }
 
 impl Block {
-    /// A block that says nothing.
-    pub fn empty(name: Name) -> Block
-        ensures { result ≡ empty_block name }
+    /// Nothing is said.
+    pub fn empty(alloc: Global, name: Name) -> Block
+        ensures { block_content result ≡ record { name = name; scope = scope_of [] } }
     {
-        Block {
-            name,
-            flags: Flags::none(),
-            numbers: Numbers::none(),
-            address: None,
-            router: None,
+        let scope = Scope::empty(alloc);
+        Block { name, scope }
+    }
+}
+
+/// A configuration without a fault.
+#[derive(Debug, Drop)]
+pub struct Conf {
+    /// What stands in front of all blocks.
+    pub(crate) global: Scope,
+    /// One for each interface that has blocks.
+    pub(crate) blocks: Vec<Block>,
+    /// Words of `allowinterfaces` and `denyinterfaces`.
+    pub(crate) allowed: Vec<Pattern>,
+    pub(crate) denied: Vec<Pattern>,
+    /// The path of the last `script` line.
+    pub(crate) script: Option<Vec<u8>>,
+    pub(crate) notices: Vec<Notice>,
+    /// The first line of what isn't built yet.
+    pub(crate) not_built: Option<u32>,
+}
+
+/// The words that do nothing, in the order of their places.
+pub fn notices(conf: &Conf) -> &[Notice]
+    ensures { map notice_content result.now ≡ (configuration conf.now).notices }
+{
+    &conf.notices
+}
+
+fn is_unbuilt(directive: &Directive) -> bool
+    ensures { result ≡ is_unbuilt (directive_content directive.now) }
+{
+    match directive {
+        Directive::Identifier(identifier) => match identifier {
+            Identifier::Duid => true,
+            Identifier::Hardware | Identifier::Bytes(_) => false,
+        },
+        Directive::Static(value) => match value {
+            StaticValue::Address6(_) => true,
+            StaticValue::Address(_)
+            | StaticValue::Routers(_)
+            | StaticValue::NameServers(_)
+            | StaticValue::DomainName(_)
+            | StaticValue::DomainSearch(_) => false,
+        },
+        Directive::Ia(_) => true,
+        Directive::Flag(_)
+        | Directive::Seconds(_, _)
+        | Directive::Metric(_)
+        | Directive::HostName(_)
+        | Directive::VendorClass(_)
+        | Directive::Codes(_, _)
+        | Directive::Env(_)
+        | Directive::Blacklist(_)
+        | Directive::Interfaces(_, _)
+        | Directive::Script(_) => false,
+    }
+}
+
+fn add_notice(
+    alloc: Global,
+    notices: &mut Vec<Notice>,
+    line: u32,
+    word: &[u8],
+) -> Result<(), NoMemory>
+    ensures { OnOk result (map notice_content notices.new.items ≡ map notice_content notices.old.items ++ notice_of line word.now ∷ []) }
+{
+    let word = String::from_utf8_lossy(alloc, word)?;
+    notices.push(Notice { line, word })?;
+    Ok(())
+}
+
+fn add_notices(
+    alloc: Global,
+    notices: &mut Vec<Notice>,
+    line: u32,
+    words: &[&[u8]],
+) -> Result<(), NoMemory>
+    ensures { OnOk result (map notice_content notices.new.items ≡ map notice_content notices.old.items ++ map (notice_of line) (map (λ word. word.now) words.now)) }
+{
+    for word in words {
+        add_notice(alloc, notices, line, word)?;
+    }
+    Ok(())
+}
+
+impl Conf {
+    /// The configuration of no lines.
+    #[tactic(auto, unfolding(crate::specs::Configurations::configured))]
+    pub(crate) fn empty(alloc: Global) -> Conf
+        ensures { configuration result ≡ configured [] }
+    {
+        Conf {
+            global: Scope::empty(alloc),
+            blocks: Vec::new(alloc),
+            allowed: Vec::new(alloc),
+            denied: Vec::new(alloc),
+            script: None,
+            notices: Vec::new(alloc),
+            not_built: None,
         }
     }
 
-    /// With one line more, where it is one of a block that wasn't said.
-    pub fn after(mut self, line: ConfLine) -> Option<Block>
-        ensures { result ≡ block_after self line }
+    /// The first line of what isn't built yet: `duid`, `ia_na`, `ia_pd` and `static ip6_address`, also in the block of an
+    /// interface that doesn't exist.
+    pub fn not_built(&self) -> Option<u32>
+        ensures { result ≡ (configuration self.now).not_built }
     {
-        let is_said = match line {
-            ConfLine::Flag(name) => self.flags.turn_on(name),
-            ConfLine::Number(name, seconds) => self.numbers.say(name, seconds),
-            ConfLine::Address(net) => self.address.replace(net).is_some(),
-            ConfLine::Router(ip) => self.router.replace(ip).is_some(),
-            ConfLine::NoScript | ConfLine::Interface(_) => return None,
-        };
-        once(is_said, self)
+        self.not_built
+    }
+
+    /// Whether the last `script` line is `script /dev/null`.
+    pub fn turns_hooks_off(&self) -> bool
+        ensures { result ≡ turns_hooks_off (configuration self.now) }
+    {
+        match &self.script {
+            Some(path) => path.as_slice() == NO_HOOKS,
+            None => false,
+        }
+    }
+
+    /// How much is said in front of all blocks.
+    pub(crate) fn counts(&self) -> Counts
+        ensures { result ≡ conf_counts (configuration self.now) }
+    {
+        Counts {
+            allowed: self.allowed.len(),
+            denied: self.denied.len(),
+            ..self.global.counts()
+        }
+    }
+
+    /// Notices words of a line.
+    pub(crate) fn notice(
+        &mut self,
+        alloc: Global,
+        number: usize,
+        words: &[&[u8]],
+    ) -> Result<(), NoMemory>
+        ensures { OnOk result (configuration self.new ≡ notices_with number (map (λ word. word.now) words.now) (configuration self.old)) }
+    {
+        add_notices(alloc, &mut self.notices, line_number(number), words)
+    }
+
+    /// Marks a line where it is the first of what isn't built.
+    pub(crate) fn mark(&mut self, number: usize, directive: &Directive)
+        ensures { configuration self.new ≡ mark_with number (directive_content directive.now) (configuration self.old) }
+    {
+        if self.not_built.is_none() && is_unbuilt(directive) {
+            self.not_built = Some(line_number(number));
+        }
+    }
+
+    /// Takes what one global line more says.
+    #[tactic(auto, unfolding(crate::specs::Steps::scope_with))]
+    pub(crate) fn say(&mut self, directive: Directive) -> Result<(), NoMemory>
+        requires { FitsWords (scope_content self.old.global) (directive_content directive) }
+        ensures { OnOk result (configuration self.new ≡ global_with (directive_content directive) (configuration self.old)) }
+    {
+        match directive {
+            Directive::Interfaces(InterfaceList::Allowed, patterns) => {
+                self.allowed.extend_from_slice(&patterns)?;
+            }
+            Directive::Interfaces(InterfaceList::Denied, patterns) => {
+                self.denied.extend_from_slice(&patterns)?;
+            }
+            Directive::Script(path) => self.script = Some(path),
+            said => self.global.say(said)?,
+        }
+        Ok(())
     }
 }

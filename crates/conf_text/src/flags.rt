@@ -1,64 +1,62 @@
-//! Directives of one word, which are on where they stand.
-ghost use Rattle.std.specs.Prelude.{◌≡◌};
-ghost use Rattle.conf_text.specs.Flags.{flag_at, no_flags, has_flag, with_flag, either};
+//! Directives of one word, which are on where a line has them.
+ghost use Rattle.std.specs.Prelude.{◌≡◌, ◌||◌, []};
+ghost use Rattle.conf_text.specs.Flags.{either, flags_of};
+ghost use Rattle.conf_text.specs.Steps.{with_flag};
 
-use std::mem::replace;
+use conf_directives::FlagName;
 
-/// A directive of one word.
-#[derive(Clone, Copy, Debug, PartialEq, Eq)]
-pub enum FlagName {
-    /// `nodhcp`: no DHCPv4 runs.
-    NoDhcp,
-    /// `noipv4ll`: no link-local address is chosen.
-    NoIpv4ll,
-    /// `nodelay`: the first DISCOVER goes out at once.
-    NoDelay,
-    /// `noarp`: a leased address is used without being probed first.
-    NoArp,
-    /// `broadcast`: servers are asked to answer by broadcast.
-    Broadcast,
-    /// `release`: the server of a held lease is told at a stop.
-    Release,
-}
-
-/// The flags that are on.
+/// Which of them are on.
 #[derive(Clone, Copy, Debug, PartialEq, Eq)]
 pub struct Flags {
+    pub ipv4only: bool,
+    pub ipv6only: bool,
     pub nodhcp: bool,
+    pub nodhcp6: bool,
     pub noipv4ll: bool,
-    pub nodelay: bool,
     pub noarp: bool,
+    pub nodelay: bool,
     pub broadcast: bool,
     pub release: bool,
+}
+
+fn is_either(one: bool, other: bool) -> bool
+    ensures { result ≡ (one || other) }
+{
+    one || other
 }
 
 impl Flags {
     /// None is on.
     pub fn none() -> Flags
-        ensures { result ≡ no_flags }
+        ensures { result ≡ flags_of [] }
     {
         Flags {
+            ipv4only: false,
+            ipv6only: false,
             nodhcp: false,
+            nodhcp6: false,
             noipv4ll: false,
-            nodelay: false,
             noarp: false,
+            nodelay: false,
             broadcast: false,
             release: false,
         }
     }
 
-    /// Turns a flag on, and says whether it was on before.
-    pub fn turn_on(&mut self, name: FlagName) -> bool
-        ensures was { result ≡ has_flag name self.old }
-        ensures now { self.new ≡ with_flag name self.old }
+    /// Turns one on.
+    pub fn turn_on(&mut self, name: FlagName)
+        ensures { self.new ≡ with_flag name self.old }
     {
         match name {
-            FlagName::NoDhcp => replace(&mut self.nodhcp, true),
-            FlagName::NoIpv4ll => replace(&mut self.noipv4ll, true),
-            FlagName::NoDelay => replace(&mut self.nodelay, true),
-            FlagName::NoArp => replace(&mut self.noarp, true),
-            FlagName::Broadcast => replace(&mut self.broadcast, true),
-            FlagName::Release => replace(&mut self.release, true),
+            FlagName::Ipv4Only => self.ipv4only = true,
+            FlagName::Ipv6Only => self.ipv6only = true,
+            FlagName::NoDhcp => self.nodhcp = true,
+            FlagName::NoDhcp6 => self.nodhcp6 = true,
+            FlagName::NoIpv4ll => self.noipv4ll = true,
+            FlagName::NoArp => self.noarp = true,
+            FlagName::NoDelay => self.nodelay = true,
+            FlagName::Broadcast => self.broadcast = true,
+            FlagName::Release => self.release = true,
         }
     }
 
@@ -67,34 +65,15 @@ impl Flags {
         ensures { result ≡ either self other }
     {
         Flags {
-            nodhcp: self.nodhcp || other.nodhcp,
-            noipv4ll: self.noipv4ll || other.noipv4ll,
-            nodelay: self.nodelay || other.nodelay,
-            noarp: self.noarp || other.noarp,
-            broadcast: self.broadcast || other.broadcast,
-            release: self.release || other.release,
+            ipv4only: is_either(self.ipv4only, other.ipv4only),
+            ipv6only: is_either(self.ipv6only, other.ipv6only),
+            nodhcp: is_either(self.nodhcp, other.nodhcp),
+            nodhcp6: is_either(self.nodhcp6, other.nodhcp6),
+            noipv4ll: is_either(self.noipv4ll, other.noipv4ll),
+            noarp: is_either(self.noarp, other.noarp),
+            nodelay: is_either(self.nodelay, other.nodelay),
+            broadcast: is_either(self.broadcast, other.broadcast),
+            release: is_either(self.release, other.release),
         }
-    }
-}
-
-/// The flag that a word names.
-#[tactic(auto, unfolding(crate::specs::Flags::flag_at))]
-pub fn flag_of(word: &[u8]) -> Option<FlagName>
-    ensures { result ≡ flag_at word.now }
-{
-    if word == b"nodhcp".as_slice() {
-        Some(FlagName::NoDhcp)
-    } else if word == b"noipv4ll".as_slice() {
-        Some(FlagName::NoIpv4ll)
-    } else if word == b"nodelay".as_slice() {
-        Some(FlagName::NoDelay)
-    } else if word == b"noarp".as_slice() {
-        Some(FlagName::NoArp)
-    } else if word == b"broadcast".as_slice() {
-        Some(FlagName::Broadcast)
-    } else if word == b"release".as_slice() {
-        Some(FlagName::Release)
-    } else {
-        None
     }
 }

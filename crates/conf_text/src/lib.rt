@@ -1,20 +1,23 @@
-//! The configuration: its lines, and what they say of an interface. So far the lines of static addresses are built, flags
-//! and numbers of seconds, and `script /dev/null`.
+//! A whole configuration (dhcpcd.conf(5)): what it says in front of all blocks and for each interface, its first fault, the
+//! words that do nothing, and what is in force for an interface.
+//!
+//! `read_conf` reads a text, in one pass. `settings` and `managed` say what it sets for interfaces.
 #![tactic(auto)]
 
+mod answers;
 mod conf;
+mod counting;
 mod flags;
-mod line;
 mod managing;
-mod numbers;
+mod reader;
 mod reading;
-mod saying;
+mod scope;
+mod statics;
 
-pub use conf::{Block, Conf, ConfLine, Globals};
-pub use flags::{FlagName, Flags};
-pub use managing::{ManagedAnswer, managed};
-pub use numbers::{NumberName, Numbers};
-pub use reading::{ConfAnswer, ConfCause, ConfFault, configuration_is_one, read_conf};
+pub use answers::{ConfAnswer, ConfCause, ConfFault};
+pub use conf::{Conf, Notice, notices};
+pub use managing::{ManagedAnswer, managed, settings, settings_fit};
+pub use reading::{configuration_is_one, read_conf};
 
 #[cfg(test)]
 mod tests;

@@ -1,78 +1,171 @@
-use crate::{Conf, ConfAnswer, managed, read_conf};
+use crate::{Conf, ConfAnswer, ConfCause, ConfFault, managed, notices, read_conf, settings};
 use net_types::{IfIndex, IfSpec, Mac, name_of};
 use settings::IfConf;
 use std::alloc::Global;
-use std::test::Fail;
+use std::test::*;
 
-/// The line at which the text is refused.
-fn bad_line(answer: Result<Conf, ConfAnswer>) -> Option<u32> {
+fn fault_of(answer: Result<Conf, ConfAnswer>) -> Option<ConfFault> {
     match answer {
-        Err(ConfAnswer::Bad(fault)) => Some(fault.line),
-        Err(ConfAnswer::NoMemory) => None,
-        Ok(_) => None,
+        Err(ConfAnswer::Bad(fault)) => Some(fault),
+        Err(ConfAnswer::NoMemory) | Ok(_) => None,
     }
 }
 
 #[test]
-fn what_is_not_built_is_refused(rt: HostRuntime) -> Result<(), Fail> {
-    let refused: [(&[u8], u32); 13] = [
-        // said twice in one place
-        (b"script /dev/null\nscript /dev/null\n", 2),
-        (b"interface eth0\nnoipv4ll\nnodhcp\nnoipv4ll\n", 4),
-        (b"interface eth0\ninterface eth1\ninterface eth0\n", 3),
-        (b"timeout 30\nreboot 5\ntimeout 30\n", 3),
+fn the_first_fault(rt: HostRuntime) -> Result<(), Fail> {
+    let none = None;
+    let readings: [(&[u8], Option<(u32, ConfCause)>); 18] = [
+        (b"", none),
+        (b"# a\r\n\n noarp yes\n", none),
+        (b"noarp\n#\xff\n", Some((2, ConfCause::NotText))),
+        // a fault of an earlier line comes first, whatever its cause
+        (b"metric x\n\x01\n", Some((1, ConfCause::BadArgument))),
+        // what is skipped need only be text
+        (b"profile\nmetric x\nssid a\n", none),
+        (b"profile\n\x07\n", Some((2, ConfCause::NotText))),
+        (
+            b"profile\ninterface eth0\nmetric x\n",
+            Some((3, ConfCause::BadArgument)),
+        ),
+        (b"interface eth0 eth1\n", Some((1, ConfCause::BadArgument))),
         // out of its place
-        (b"interface eth0\nscript /dev/null\n", 2),
-        (b"static routers=10.0.0.1\n", 1),
-        // of no form that is built
-        (b"interface  eth0\n", 1),
-        (b"interface eth0\nstatic ip_address=10.0.0.02/8\n", 2),
-        (b"nodhcp\n\n", 2),
-        (b"timeout 86401\n", 1),
-        (b"timeout 05\n", 1),
-        (b"reboot\n", 1),
-        // no line feed at the end
-        (b"nodhcp\ninterface eth0", 2),
+        (b"script\n", Some((1, ConfCause::BadArgument))),
+        (b"interface eth0\nscript\n", none),
+        // associations
+        (
+            b"ia_na 1\nia_pd 1\nia_na 1\n",
+            Some((3, ConfCause::Repeated)),
+        ),
+        (
+            b"ia_na 1\ninterface a\nia_na 1\n",
+            Some((3, ConfCause::Repeated)),
+        ),
+        (b"interface a\nia_na 1\ninterface b\nia_na 1\n", none),
+        (b"ia_na\nia_na\n", none),
+        (
+            b"ia_na\nia_na\nia_na 3\ninterface a\nia_na\nia_na\nia_na\nia_na\n",
+            Some((8, ConfCause::TooMany)),
+        ),
+        (
+            b"ia_na\nia_na\nia_na 3\ninterface a\nia_na\nia_na\nia_na\nia_na 3\n",
+            Some((8, ConfCause::Repeated)),
+        ),
+        (
+            b"static routers=1.1.1.1 1.1.1.1 1.1.1.1 1.1.1.1 1.1.1.1 1.1.1.1 1.1.1.1 1.1.1.1 \
+                1.1.1.1 1.1.1.1 1.1.1.1 1.1.1.1 1.1.1.1 1.1.1.1 1.1.1.1 1.1.1.1\n",
+            none,
+        ),
+        (
+            b"static routers=1.1.1.1 1.1.1.1 1.1.1.1 1.1.1.1 1.1.1.1 1.1.1.1 1.1.1.1 1.1.1.1 \
+                1.1.1.1 1.1.1.1 1.1.1.1 1.1.1.1 1.1.1.1 1.1.1.1 1.1.1.1 1.1.1.1 1.1.1.1\n",
+            Some((1, ConfCause::TooMany)),
+        ),
     ];
-    for (text, line) in refused {
-        assert_eq!(rt; bad_line(read_conf(rt.alloc(), text)), Some(line));
+    for (text, expected) in readings {
+        let expected = match expected {
+            Some((line, cause)) => Some(ConfFault { line, cause }),
+            None => None,
+        };
+        assert_eq!(rt; fault_of(read_conf(rt.alloc(), text)), expected);
     }
     Ok(())
 }
 
-/// The settings of `eth0`, alone, in a configuration.
-fn settings(alloc: Global, text: &[u8]) -> Option<IfConf> {
-    let conf = read_conf(alloc, text).ok()?;
-    let spec = IfSpec {
+/// So many copies of a line.
+fn copies(alloc: Global, line: &[u8], count: usize) -> Result<Vec<u8>, Fail> {
+    let mut text = Vec::new(alloc);
+    for _ in 0..count {
+        text.extend_from_slice(line)?;
+    }
+    Ok(text)
+}
+
+#[test]
+fn how_much_may_be_said(rt: HostRuntime) -> Result<(), Fail> {
+    let lines: [&[u8]; 4] = [
+        b"env A=b\n",
+        b"option a\n",
+        b"denyinterfaces a\n",
+        b"blacklist 1.1.1.1\n",
+    ];
+    for line in lines {
+        let most = copies(rt.alloc(), line, 64)?;
+        assert!(rt; read_conf(rt.alloc(), &most).is_ok());
+        let more = copies(rt.alloc(), line, 65)?;
+        let fault = ConfFault {
+            line: 65,
+            cause: ConfCause::TooMany,
+        };
+        assert_eq!(rt; fault_of(read_conf(rt.alloc(), &more)), Some(fault));
+    }
+    Ok(())
+}
+
+#[test]
+fn the_words_that_do_nothing(rt: HostRuntime) -> Result<(), Fail> {
+    // the directives of a configuration as distributions ship it
+    let text = b"hostname\nduid\npersistent\nvendorclassid\noption rapid_commit\n\
+        option domain_name_servers, domain_name, domain_search\noption classless_static_routes\noption interface_mtu\n\
+        require dhcp_server_identifier\nslaac private\nprofile a\nfoo\ninterface eth0\nscript /dev/null\nnooption 51,x\n";
+    let conf = read_conf(rt.alloc(), text).ok().ok_or("it has no fault")?;
+    let expected: [(u32, &str); 7] = [
+        (1, "hostname"),
+        (3, "persistent"),
+        (10, "slaac"),
+        (11, "profile"),
+        (14, "script"),
+        (15, "51"),
+        (15, "x"),
+    ];
+    assert_eq!(rt; notices(&conf).len(), expected.len());
+    for (notice, (line, word)) in notices(&conf).iter().zip(expected.iter()) {
+        assert_eq!(rt; notice.line, *line);
+        assert!(rt; notice.word.as_str() == *word);
+    }
+    assert_eq!(rt; conf.not_built(), Some(2));
+    assert!(rt; !conf.turns_hooks_off());
+    Ok(())
+}
+
+fn spec_of(name: &[u8]) -> Option<IfSpec> {
+    Some(IfSpec {
         index: IfIndex { number: 1 },
-        name: name_of(b"eth0")?,
+        name: name_of(name)?,
         mac: Mac {
             bytes: [2, 0, 0, 0, 0, 1],
         },
-    };
-    let all = managed(alloc, &conf, &[spec]).ok()?;
-    Some(all.first()?.conf)
+    })
+}
+
+fn refused_by(set: &IfConf) -> &[u8] {
+    &set.dhcp4.refused
 }
 
 #[test]
 fn what_is_in_force(rt: HostRuntime) -> Result<(), Fail> {
     let text =
-        b"script /dev/null\nnodelay\ntimeout 0\nreboot 86400\ninterface eth0\nrelease\ntimeout 10\n";
-    let in_force = IfConf {
-        nodhcp: false,
-        noipv4ll: false,
-        nodelay: true,
-        noarp: false,
-        broadcast: false,
-        release: true,
-        timeout: 10,
-        reboot: 86_400,
-        line: None,
-    };
-    assert_eq!(rt; settings(rt.alloc(), text), Some(in_force));
-    // hooks aren't built
-    assert_eq!(rt; settings(rt.alloc(), b"nodhcp\n"), None);
-    let unsaid = settings(rt.alloc(), b"script /dev/null\n").ok_or("memory is ample")?;
-    assert_eq!(rt; (unsaid.timeout, unsaid.reboot), (30, 5));
+        b"script /dev/null\nallowinterfaces eth*\ndenyinterfaces eth1\nmetric 5\nnooption 3\nnodelay\ninterface eth0\nmetric 6\nmetric 7\nrelease\nnooption 6\nstatic routers=10.0.0.1 10.0.0.2\n";
+    let conf = read_conf(rt.alloc(), text).ok().ok_or("it has no fault")?;
+    assert!(rt; conf.turns_hooks_off());
+    let eth0 = spec_of(b"eth0").ok_or("a name")?;
+    let eth1 = spec_of(b"eth1").ok_or("a name")?;
+    let eth2 = spec_of(b"eth2").ok_or("a name")?;
+    let set = settings(rt.alloc(), &conf, &eth0)
+        .ok()
+        .ok_or("memory")?
+        .ok_or("it is managed")?;
+    assert_eq!(rt;
+        (set.metric, set.nodelay, set.release),
+        (Some(7), true, true)
+    );
+    assert_eq!(rt; (set.timeout, set.reboot), (30, 5));
+    assert!(rt; refused_by(&set).starts_with(&[3, 6]));
+    let all = managed(rt.alloc(), &conf, &[eth0, eth1, eth2])
+        .ok()
+        .ok_or("it is built")?;
+    assert_eq!(rt; all.len(), 2);
+    if let Some(last) = all.last() {
+        assert_eq!(rt; last.conf.metric, Some(5));
+    }
     Ok(())
 }

@@ -7,6 +7,7 @@ pub mod OpeningSteps
 pub mod Bringing
 pub mod KeptFiles
 pub mod LoadedFiles
+pub mod StopMoments
 pub mod TurnSteps
 pub mod Waitings
 pub mod OneTurn

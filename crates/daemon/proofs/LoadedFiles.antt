@@ -66,11 +66,12 @@ loads_some managed runs name reading old new t u is some name_is did =
 drop_one : (managed : List Managed) (i : ℕ) (d : Managed) → i < length managed → drop i managed ≡ get_or managed i d ∷ drop (i + 1) managed
 drop_one managed i d lt = rw add-one (drop-cons managed i d lt)
 
-pub loading_more : (managed : List Managed) (i : ℕ) (d : Managed) (first : Loaded) (rest : List Loaded) (old mid new : Seen) (t u v : List ℕ) → i < length managed
-    → Does (loading_one (get_or managed i d)) first old mid t u → Does (loading (drop (i + 1) managed)) rest mid new u v → Does (loading (drop i managed)) (first ∷ rest) old new t v
-loading_more managed i d first rest old mid new t u v lt one more =
-    subst (λ (ms : List Managed). Does (loading ms) (first ∷ rest) old new t v) (sym (drop_one managed i d lt))
-    (does_after (loading_one (get_or managed i d)) (λ first. after (loading (drop (i + 1) managed)) (λ rest. Done (first ∷ rest))) first (first ∷ rest) old mid new t u v one
+pub loading_more : (managed : List Managed) (i : ℕ) (m : Managed) (first : Loaded) (rest : List Loaded) (old mid new : Seen) (t u v : List ℕ) → m ≡ get_or managed i m → i < length managed
+    → Does (loading_one m) first old mid t u → Does (loading (drop (i + 1) managed)) rest mid new u v → Does (loading (drop i managed)) (first ∷ rest) old new t v
+loading_more managed i m first rest old mid new t u v is lt one more =
+    subst (λ (ms : List Managed). Does (loading ms) (first ∷ rest) old new t v) (sym (drop_one managed i m lt))
+    (does_after (loading_one (get_or managed i m)) (λ first. after (loading (drop (i + 1) managed)) (λ rest. Done (first ∷ rest))) first (first ∷ rest) old mid new t u v
+    (subst (λ (here : Managed). Does (loading_one here) first old mid t u) is one)
     (does_after (loading (drop (i + 1) managed)) (λ rest. Done (first ∷ rest)) rest (first ∷ rest) mid new new u v v more (does_done (first ∷ rest) new v)))
 
 pub loading_end : (managed : List Managed) (i : ℕ) (seen : Seen) (text : List ℕ) → length managed ≤ i → Does (loading (drop i managed)) [] seen seen text text

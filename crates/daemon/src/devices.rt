@@ -168,7 +168,6 @@ fn settle_in<S: Store>(store: &mut S) -> Result<bool, NoMemory>
     }
 }
 
-#[tactic(auto, using(crate::proofs::Ones::one_offer, crate::proofs::Ones::one_list, crate::proofs::Ones::one_change, crate::proofs::Ones::one_asides, crate::proofs::Ones::one_read, crate::proofs::Ones::one_write, crate::proofs::Ones::one_sync, crate::proofs::Ones::one_rename, crate::proofs::Ones::one_remove, crate::proofs::Ones::one_settle, crate::proofs::Ones::link_stays, crate::proofs::Ones::host_stays, crate::proofs::Ones::store_stays))]
 impl<L: Link, S: Store, H: Host, K: Hooks> Outside for Devices<L, S, H, K> {
     ghost seen = { λ d. record {
       link = record { told = L.told d.link; failing = L.failing_sends d.link; faults = L.send_faults d.link };
@@ -186,42 +185,52 @@ impl<L: Link, S: Store, H: Host, K: Hooks> Outside for Devices<L, S, H, K> {
         self.link.wait(until, buf)
     }
 
+    #[tactic(auto, using(crate::proofs::Ones::one_offer, crate::proofs::Ones::link_stays))]
     fn offer(&mut self, iface: IfIndex, frame: &[u8]) -> Result<bool, NoMemory> {
         offer_to(&mut self.link, iface, frame)
     }
 
+    #[tactic(auto, using(crate::proofs::Ones::one_list, crate::proofs::Ones::host_stays))]
     fn list(&mut self, alloc: Global) -> Result<Option<Vec<HostRow>>, NoMemory> {
         list_of(alloc, &mut self.host)
     }
 
+    #[tactic(auto, using(crate::proofs::Ones::one_change, crate::proofs::Ones::host_stays))]
     fn change(&mut self, change: HostChange) -> Result<bool, NoMemory> {
         change_of(&mut self.host, change)
     }
 
+    #[tactic(auto, using(crate::proofs::Ones::one_asides, crate::proofs::Ones::store_stays))]
     fn list_asides(&mut self, alloc: Global) -> Result<Option<Vec<String>>, NoMemory> {
         asides_of(alloc, &mut self.store)
     }
 
+    #[tactic(auto, using(crate::proofs::Ones::one_read, crate::proofs::Ones::store_stays))]
     fn read(&mut self, alloc: Global, name: &str) -> Result<Got, NoMemory> {
         read_from(alloc, &mut self.store, name)
     }
 
+    #[tactic(auto, using(crate::proofs::Ones::one_write, crate::proofs::Ones::store_stays))]
     fn write_aside(&mut self, name: &str, bytes: &[u8]) -> Result<bool, NoMemory> {
         write_to(&mut self.store, name, bytes)
     }
 
+    #[tactic(auto, using(crate::proofs::Ones::one_sync, crate::proofs::Ones::store_stays))]
     fn sync_aside(&mut self, name: &str) -> Result<bool, NoMemory> {
         sync_in(&mut self.store, name)
     }
 
+    #[tactic(auto, using(crate::proofs::Ones::one_rename, crate::proofs::Ones::store_stays))]
     fn rename_aside(&mut self, name: &str) -> Result<bool, NoMemory> {
         rename_in(&mut self.store, name)
     }
 
+    #[tactic(auto, using(crate::proofs::Ones::one_remove, crate::proofs::Ones::store_stays))]
     fn remove(&mut self, name: &str) -> Result<bool, NoMemory> {
         remove_from(&mut self.store, name)
     }
 
+    #[tactic(auto, using(crate::proofs::Ones::one_settle, crate::proofs::Ones::store_stays))]
     fn settle(&mut self) -> Result<bool, NoMemory> {
         settle_in(&mut self.store)
     }

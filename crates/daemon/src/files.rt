@@ -138,7 +138,7 @@ fn found_by(alloc: Global, managed: &Managed, name: String, got: Got) -> Result<
     let kept = kept_by(alloc, &managed.spec.name, &got)?;
     Ok(Loaded {
         beginning: Beginning {
-            managed: *managed,
+            managed: managed.to_owned(alloc)?,
             kept,
         },
         file: Some(LeaseFile::new(managed.spec.index, name, known_by(got))),
@@ -160,7 +160,7 @@ fn load_one<W: Outside>(
     if !runs_dhcp4(&managed.conf) {
         return Ok(Loaded {
             beginning: Beginning {
-                managed: *managed,
+                managed: managed.to_owned(alloc)?,
                 kept: None,
             },
             file: None,

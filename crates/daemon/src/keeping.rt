@@ -7,9 +7,9 @@ ghost use Rattle.lease_text.specs.Leases.{lease_content};
 ghost use Rattle.client_model.specs.Clients.{kept_lease};
 ghost use Rattle.client_core.specs.Touched.{is_touched};
 ghost use Rattle.device_calls.specs.Does.{Does};
-ghost use Rattle.turn_model.specs.LeaseFiles.{same_content, is_settled, content_for, bringing, known_after, keeping_one, keeping, is_unknown};
+ghost use Rattle.turn_model.specs.LeaseFiles.{same_content, is_settled, content_for, bringing, known_after, keeping, is_unknown};
 ghost use Rattle.daemon.specs.Files.{content_of, known_of};
-ghost use Rattle.daemon.specs.Keeping.{is_among, IsKept, AreKept, AreKeptBut};
+ghost use Rattle.daemon.specs.Keeping.{is_among, IsKept, AreKept, AreKeptBut, KeepsFile};
 
 use crate::outside::Outside;
 use crate::stores::{remove, rename, settle, sync, write};
@@ -218,7 +218,7 @@ impl LeaseFile {
         outside: &mut W,
         text: &mut Vec<u8>,
     ) -> Result<(), NoMemory>
-        ensures does { OnOk result (Does (keeping_one (content_for (option_map (λ lease. lease_content lease.now) lease.entry)) self.old) self.new (W.seen outside.old) (W.seen outside.new) text.old.items text.new.items) }
+        ensures does { OnOk result (KeepsFile (option_map (λ lease. lease_content lease.now) lease.entry) self.old self.new (W.seen outside.old) (W.seen outside.new) text.old.items text.new.items) }
         ensures waiting { (W.seen outside.new).waiting ≡ (W.seen outside.old).waiting }
     {
         let wanted = content_for(alloc, lease)?;
@@ -241,7 +241,7 @@ fn keep_one<W: Outside>(
     text: &mut Vec<u8>,
 ) -> Result<(), NoMemory>
     requires { is_among file.old.iface touched ≡ false → IsKept core.now.ifaces file.old }
-    ensures does { OnOk result (Does (keeping_one (content_for (kept_lease file.old.iface core.now.ifaces)) file.old) file.new (W.seen outside.old) (W.seen outside.new) text.old.items text.new.items) }
+    ensures does { OnOk result (KeepsFile (kept_lease file.old.iface core.now.ifaces) file.old file.new (W.seen outside.old) (W.seen outside.new) text.old.items text.new.items) }
     ensures waiting { (W.seen outside.new).waiting ≡ (W.seen outside.old).waiting }
 {
     if !file.is_due(touched) {

@@ -1,49 +1,119 @@
 -- What the answers of the top call come to.
-use Rattle.std.proofs.Common.{ℕ, ◌≡◌, ◌≤◌, List, [], length, Option, Some, None, inr, sym, subst, arith, ◌∙◌}
-use Rattle.settings.specs.declared.interfaces.Managed.{Managed}
+use Rattle.std.proofs.Common.{ℕ, ◌≡◌, ◌≤◌, List, [], length, Option, Some, None, Ok, Err, inl, inr, sym, subst, arith, ◌∙◌}
 use Rattle.script_model.specs.ScriptTexts.{ScriptLines}
-use Rattle.daemon.specs.Streams.{WritesFront}
+use Rattle.conf_text.specs.Configurations.{Configuration, IsConfOf}
+use Rattle.conf_text.specs.declared.answers.ConfFault.{ConfFault}
+use Rattle.daemon.specs.Streams.{WritesFront, WritesSome}
 use Rattle.dhcpcd.specs.declared.status.Status.{Status}
 use Rattle.dhcpcd.specs.declared.status.Status.TheVariants as status
+use Rattle.dhcpcd.specs.Checks.{IsCheckStopped, IsCheckAnswer, TellsConfiguration, check_text}
 use Rattle.dhcpcd.specs.Input.{limit, IsInput, IsTooLong}
+use Rattle.dhcpcd.specs.Refusals.{IsNoScript, IsRefused, IsConfRefused}
 use Rattle.dhcpcd.specs.Replays.{IsScript, transcript}
-use Rattle.dhcpcd.specs.Statuses.{IsNoScript, SpellsScript, IsStopped, IsAnswer, HasStatusCause, StopsWriting, CompletesScript}
+use Rattle.dhcpcd.specs.Statuses.{TellsScript, IsStopped, IsAnswer, HasStatusCause, StopsWriting, Completes}
+use Rattle.conf_text.proofs.OneLaws.{configuration_one}
+use Rattle.dhcpcd.proofs.OneReading.{fault_refuses, conf_fault_refuses}
 
--- writing stopped before its end
-pub stopped_answer : (answer : Status) (input old new : Option (List ℕ)) (bytes : List ℕ) (script : ScriptLines) (managed : List Managed) → IsInput input bytes → length bytes ≤ limit → IsScript bytes script managed
-    → WritesFront old new [] (transcript managed script) → StopsWriting answer → IsAnswer answer input old new
-stopped_answer answer input old new bytes script managed read within is front stops = answers answer stops
+-- ---- writing stopped before its end
+
+pub stopped_answer : (answer : Status) (input old new : Option (List ℕ)) (bytes : List ℕ) (script : ScriptLines) (conf : Configuration) → IsInput input bytes → length bytes ≤ limit → IsScript bytes script conf
+    → WritesFront old new [] (transcript script conf) → StopsWriting answer → IsAnswer answer input old new
+stopped_answer answer input old new bytes script conf read within is front stops = answers answer stops
   where
     stopped : IsStopped input old new
-    stopped = record { bytes = bytes; script = script; managed = managed; read = read; in_limit = within; is_script = is; written = front }
+    stopped = record { bytes = bytes; script = script; conf = conf; read = read; in_limit = within; is_script = is; written = front }
 
     answers : (answer : Status) → StopsWriting answer → IsAnswer answer input old new
     answers status.Done stops = absurd stops
     answers status.Usage stops = absurd stops
     answers (status.Script fault) stops = absurd stops
+    answers (status.Conf fault) stops = absurd stops
     answers status.ReadFault stops = absurd stops
     answers status.WriteFault stops = stopped
     answers status.TooLong stops = absurd stops
     answers status.NoMemory stops = inr stopped
 
+pub stopped_check : (answer : Status) (input old new : Option (List ℕ)) (bytes : List ℕ) (conf : Configuration) → IsInput input bytes → length bytes ≤ limit → IsConfOf bytes (Ok conf)
+    → WritesSome old new (check_text conf) → StopsWriting answer → IsCheckAnswer answer input old new
+stopped_check answer input old new bytes conf read within is some stops = answers answer stops
+  where
+    stopped : IsCheckStopped input old new
+    stopped = record { bytes = bytes; conf = conf; read = read; in_limit = within; configured = is; written = some }
+
+    answers : (answer : Status) → StopsWriting answer → IsCheckAnswer answer input old new
+    answers status.Done stops = absurd stops
+    answers status.Usage stops = absurd stops
+    answers (status.Script fault) stops = absurd stops
+    answers (status.Conf fault) stops = absurd stops
+    answers status.ReadFault stops = absurd stops
+    answers status.WriteFault stops = stopped
+    answers status.TooLong stops = absurd stops
+    answers status.NoMemory stops = inr stopped
+
+-- ---- nothing was written
+
+pub refused_answer : (answer : Status) (input old new : Option (List ℕ)) (bytes : List ℕ) → IsInput input bytes → length bytes ≤ limit → new ≡ old → IsRefused bytes answer → IsAnswer answer input old new
+refused_answer status.Done input old new bytes read within same refused = absurd refused
+refused_answer status.Usage input old new bytes read within same refused = absurd refused
+refused_answer (status.Script fault) input old new bytes read within same refused = record { bytes = bytes; read = read; in_limit = within; why = refused; unwritten = same }
+refused_answer (status.Conf fault) input old new bytes read within same refused = record { bytes = bytes; read = read; in_limit = within; why = refused; unwritten = same }
+refused_answer status.ReadFault input old new bytes read within same refused = absurd refused
+refused_answer status.WriteFault input old new bytes read within same refused = absurd refused
+refused_answer status.TooLong input old new bytes read within same refused = absurd refused
+refused_answer status.NoMemory input old new bytes read within same refused = inl same
+
+pub refused_check : (answer : Status) (input old new : Option (List ℕ)) (bytes : List ℕ) → IsInput input bytes → length bytes ≤ limit → new ≡ old → IsConfRefused bytes answer → IsCheckAnswer answer input old new
+refused_check status.Done input old new bytes read within same refused = absurd refused
+refused_check status.Usage input old new bytes read within same refused = absurd refused
+refused_check (status.Script fault) input old new bytes read within same refused = absurd refused
+refused_check (status.Conf fault) input old new bytes read within same refused = record { bytes = bytes; read = read; in_limit = within; why = refused; unwritten = same }
+refused_check status.ReadFault input old new bytes read within same refused = absurd refused
+refused_check status.WriteFault input old new bytes read within same refused = absurd refused
+refused_check status.TooLong input old new bytes read within same refused = absurd refused
+refused_check status.NoMemory input old new bytes read within same refused = inl same
+
+-- ---- a good input is refused by nothing
+
 some_is : {A : Type 0} {a b : A} → Some a ≡ Some b → a ≡ b
 some_is e = cc
 
-not_refused : (input : Option (List ℕ)) (bytes : List ℕ) → SpellsScript input → IsInput input bytes → IsNoScript bytes → ⊥
-not_refused None bytes spells read none = let never : ⊥ = cc in never
-not_refused (Some input) bytes spells read none =
-    none spells.script spells.managed (subst (λ (b : List ℕ). IsScript b spells.script spells.managed) (sym (some_is spells.told) ∙ read) spells.is_script)
+read_is : (input : Option (List ℕ)) (told read : List ℕ) → input ≡ Some told → IsInput input read → told ≡ read
+read_is None told read is h = let never : ⊥ = cc in absurd never
+read_is (Some input) told read is h = sym (some_is is) ∙ h
 
-not_too_long : (input : Option (List ℕ)) → SpellsScript input → IsTooLong input → ⊥
-not_too_long None spells long = let never : ⊥ = cc in never
-not_too_long (Some input) spells long = omega (arith, long, subst (λ (b : List ℕ). length b ≤ limit) (sym (some_is spells.told)) spells.in_limit)
+not_refused : (input : Option (List ℕ)) (bytes : List ℕ) → TellsScript input → IsInput input bytes → IsNoScript bytes → ⊥
+not_refused input bytes tells read none =
+    none tells.script tells.conf (subst (λ (b : List ℕ). IsScript b tells.script tells.conf) (read_is input tells.bytes bytes tells.told read) tells.is_script)
+
+err_ok : {A B : Type 0} {a : A} {b : B} → Err b ≡ Ok a → ⊥
+err_ok e = cc
+
+configured : (input : Option (List ℕ)) (bytes : List ℕ) (fault : ConfFault) → TellsConfiguration input → IsInput input bytes → IsConfOf bytes (Err fault) → ⊥
+configured input bytes fault tells read bad =
+    err_ok (configuration_one bytes (Err fault) (Ok tells.conf) bad (subst (λ (b : List ℕ). IsConfOf b (Ok tells.conf)) (read_is input tells.bytes bytes tells.told read) tells.configured))
+
+not_too_long : (input : Option (List ℕ)) (bytes : List ℕ) → input ≡ Some bytes → length bytes ≤ limit → IsTooLong input → ⊥
+not_too_long None bytes told within long = let never : ⊥ = cc in never
+not_too_long (Some input) bytes told within long = omega (arith, long, subst (λ (b : List ℕ). length b ≤ limit) (sym (some_is told)) within)
 
 -- a script over streams that didn't fail was replayed, or memory was wanted
-pub completes : (answer : Status) (input old new : Option (List ℕ)) (a b p q : ℕ) → SpellsScript input → b ≡ a → q ≡ p → IsAnswer answer input old new → HasStatusCause answer a b p q → CompletesScript answer
-completes status.Done input old new a b p q spells read wrote answer cause = tt
-completes status.Usage input old new a b p q spells read wrote answer cause = absurd answer
-completes (status.Script fault) input old new a b p q spells read wrote answer cause = absurd (not_refused input answer.bytes spells answer.read answer.none)
-completes status.ReadFault input old new a b p q spells read wrote answer cause = absurd (omega (arith, read, cause.0))
-completes status.WriteFault input old new a b p q spells read wrote answer cause = absurd (omega (arith, wrote, cause.1))
-completes status.TooLong input old new a b p q spells read wrote answer cause = absurd (not_too_long input spells answer.0)
-completes status.NoMemory input old new a b p q spells read wrote answer cause = tt
+pub completes : (answer : Status) (input old new : Option (List ℕ)) (a b p q : ℕ) → TellsScript input → b ≡ a → q ≡ p → IsAnswer answer input old new → HasStatusCause answer a b p q → Completes answer
+completes status.Done input old new a b p q tells read wrote answer cause = tt
+completes status.Usage input old new a b p q tells read wrote answer cause = absurd answer
+completes (status.Script fault) input old new a b p q tells read wrote answer cause = not_refused input answer.bytes tells answer.read (fault_refuses answer.bytes fault answer.why)
+completes (status.Conf fault) input old new a b p q tells read wrote answer cause = not_refused input answer.bytes tells answer.read (conf_fault_refuses answer.bytes fault answer.why)
+completes status.ReadFault input old new a b p q tells read wrote answer cause = absurd (omega (arith, read, cause.0))
+completes status.WriteFault input old new a b p q tells read wrote answer cause = absurd (omega (arith, wrote, cause.1))
+completes status.TooLong input old new a b p q tells read wrote answer cause = absurd (not_too_long input tells.bytes tells.told tells.in_limit answer.0)
+completes status.NoMemory input old new a b p q tells read wrote answer cause = tt
+
+-- a configuration over such streams was checked, or memory was wanted
+pub check_completes : (answer : Status) (input old new : Option (List ℕ)) (a b p q : ℕ) → TellsConfiguration input → b ≡ a → q ≡ p → IsCheckAnswer answer input old new → HasStatusCause answer a b p q → Completes answer
+check_completes status.Done input old new a b p q tells read wrote answer cause = tt
+check_completes status.Usage input old new a b p q tells read wrote answer cause = absurd answer
+check_completes (status.Script fault) input old new a b p q tells read wrote answer cause = absurd answer
+check_completes (status.Conf fault) input old new a b p q tells read wrote answer cause = configured input answer.bytes fault tells answer.read answer.why
+check_completes status.ReadFault input old new a b p q tells read wrote answer cause = absurd (omega (arith, read, cause.0))
+check_completes status.WriteFault input old new a b p q tells read wrote answer cause = absurd (omega (arith, wrote, cause.1))
+check_completes status.TooLong input old new a b p q tells read wrote answer cause = absurd (not_too_long input tells.bytes tells.told tells.in_limit answer.0)
+check_completes status.NoMemory input old new a b p q tells read wrote answer cause = tt

@@ -13,16 +13,16 @@ use Rattle.world_mem.specs.declared.crashes.Pick.TheVariants.{Old, New}
 use Rattle.settings.specs.declared.interfaces.Managed.{Managed}
 use Rattle.script_model.specs.Crashes.{CrashScript}
 use Rattle.script_model.specs.ScriptTexts.{ScriptLines, LifeScript}
-use Rattle.script_model.specs.Scripts.{Unlike}
-use Rattle.conf_text.proofs.ManagedFit.{managed_specs}
+use Rattle.conf_text.specs.Configurations.{Configuration}
 use Rattle.turn_model.specs.FilesInLife.{AreNamedApart}
 use Rattle.turn_model.specs.Foretold.{foretold_life}
 use Rattle.turn_model.proofs.FilesInLifeTurns.{opening_files, turn_files}
 use Rattle.turn_model.proofs.FilesInOrder.{files_left_in_order}
 use Rattle.turn_model.proofs.UnlikeNames.{named_apart}
 use Rattle.dhcpcd.specs.FilesHeld.{AllKeepRightly}
-use Rattle.dhcpcd.specs.Replays.{IsScript, Failing, Between, failing_in, at_first, pick_of, store_left, world_in, after_life}
-use Rattle.dhcpcd.proofs.Refusals.{settled_fit}
+use Rattle.dhcpcd.specs.Replays.{IsScript, managed_in, Failing, Between, failing_in, at_first, pick_of, store_left, world_in, after_life}
+use Rattle.dhcpcd.proofs.ManagedApart.{managed_unlike}
+use Rattle.dhcpcd.proofs.Refusals.{spelled_fits, managed_fit}
 
 -- ---- the files of a store stand in order
 
@@ -51,12 +51,15 @@ crashed_in_order (Some crash) told order = picked_in_order (pick_of crash.kind) 
 
 -- ---- lives
 
-module _ (bytes : List ℕ) (script : ScriptLines) (managed : List Managed) (is : IsScript bytes script managed) where
-  -- the managed interfaces are those of the script, whose names are unlike
+module _ (bytes : List ℕ) (script : ScriptLines) (conf : Configuration) (is : IsScript bytes script conf) where
+  abbrev managed : List Managed
+  managed = managed_in script conf
+
+  -- the managed interfaces are some of the script's, whose names are unlike
   apart : AreNamedApart managed
   apart =
-      named_apart managed (settled_fit bytes script managed is)
-      (subst (AllPairs Unlike) (sym (managed_specs is.conf script.ifaces managed is.settings)) is.fits.ifaces.unlike)
+      let fits = spelled_fits bytes script is.spelled in
+      named_apart managed (managed_fit bytes script conf is) (managed_unlike conf script.ifaces fits.ifaces.unlike)
 
   -- in each life, whatever those before it left
   keeps_on : (failing : Failing) (between : Between) → InOrder between.store.files → (lives : List LifeScript) → AllKeepRightly managed script.ifaces failing between lives

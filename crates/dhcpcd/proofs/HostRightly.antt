@@ -1,6 +1,5 @@
 -- The host holds what it shall in the lives of a script.
 use Rattle.std.proofs.Common.{ℕ, suc, ◌≡◌, ◌+◌, ◌<◌, List, [], ◌∷◌, ◌++◌, length, take, refl, sym, ap, subst, ◌∙◌, arith}
-use Rattle.std.specs.Prelude.{map}
 use Rattle.std.specs.List.{AllByRecursion}
 use Rattle.std.proofs.lemmas.List.Elements.{recursion_from_All}
 use Rattle.net_types.proofs.AllLaws.{all_map}
@@ -13,7 +12,7 @@ use Rattle.std.proofs.lemmas.List.{length-append}
 use Rattle.world.specs.LinkCalls.{Given}
 use Rattle.settings.specs.declared.interfaces.Managed.{Managed}
 use Rattle.script_model.specs.ScriptTexts.{ScriptLines, LifeScript}
-use Rattle.script_model.specs.Scripts.{CountsFrom, FitsBytes, FitsGiven, FitsLife}
+use Rattle.script_model.specs.Scripts.{FitsScript, FitsBytes, FitsGiven, FitsLife}
 use Rattle.turn_model.specs.Lives.{Met}
 use Rattle.device_calls.specs.Worlds.{World}
 use Rattle.device_calls.proofs.Running.{run_coming}
@@ -23,17 +22,17 @@ use Rattle.turn_model.specs.HostInLife.{Running, running_turned, running_after}
 use Rattle.host_model.specs.HostTable.{InRowOrder}
 use Rattle.host_model.proofs.HostTableRows.{in_order_sorted}
 use Rattle.turn_model.proofs.HostInLifeTurns.{opening_holds, turn_in_life}
-use Rattle.conf_text.proofs.ManagedFit.{managed_specs}
+use Rattle.conf_text.specs.Configurations.{Configuration}
 use Rattle.evidence.specs.Laws.{AreNumbered}
 use Rattle.evidence.specs.HeldAddresses.{mets_of, RestOnEvidence}
 use Rattle.lease_evidence.proofs.Joining.{LeaseRelation}
 use Rattle.evidence.proofs.Leasing.{leases_based}
 use Rattle.evidence.proofs.HostRests.{opening_rests, turns_rest}
-use Rattle.evidence.proofs.Numbered.{counted}
 use Rattle.evidence.proofs.Foretold.{foretold}
-use Rattle.dhcpcd.specs.Replays.{IsScript, failing_in, at_first, opening_in, opened_in, mets_in, Failing, Between, world_in, after_life}
+use Rattle.dhcpcd.specs.Replays.{IsScript, managed_in, failing_in, at_first, opening_in, opened_in, mets_in, Failing, Between, world_in, after_life}
 use Rattle.dhcpcd.proofs.LifeLeft.{left_in_order}
-use Rattle.dhcpcd.proofs.Refusals.{settled_fit}
+use Rattle.dhcpcd.proofs.ManagedApart.{managed_numbered}
+use Rattle.dhcpcd.proofs.Refusals.{spelled_fits, managed_fit}
 use Rattle.dhcpcd.specs.HostHeld.{lived_on, IsTurn, HoldsRightly, AllHoldRightly}
 
 -- ---- what came in is octets
@@ -69,16 +68,18 @@ life_octets : (count : ℕ) (life : LifeScript) → FitsLife count life → AllB
 life_octets count life fits =
     all_map (FitsGiven count) IsOctets (given_octets count) life.turns (recursion_from_All (FitsGiven count) life.turns fits.turns)
 
-module _ (bytes : List ℕ) (script : ScriptLines) (managed : List Managed) (is : IsScript bytes script managed) where
-  -- the managed interfaces are those of the script
-  specs_are : map (λ (m : Managed). m.spec) managed ≡ script.ifaces
-  specs_are = managed_specs is.conf script.ifaces managed is.settings
+module _ (bytes : List ℕ) (script : ScriptLines) (conf : Configuration) (is : IsScript bytes script conf) where
+  abbrev managed : List Managed
+  managed = managed_in script conf
+
+  script_fits : FitsScript script
+  script_fits = spelled_fits bytes script is.spelled
 
   numbered : AreNumbered managed
-  numbered = counted 1 managed (subst (CountsFrom 1) (sym specs_are) is.fits.ifaces.counted)
+  numbered = let fits = script_fits.ifaces in managed_numbered conf script.ifaces fits.counted
 
   fit : AreManaged managed
-  fit = settled_fit bytes script managed is
+  fit = managed_fit bytes script conf is
 
   module _ (failing : Failing) (between : Between) (sorted : InRowOrder between.host.rows) (life : LifeScript) (life_fits : FitsLife (length script.ifaces) life) where
     abbrev world : World
@@ -131,5 +132,5 @@ module _ (bytes : List ℕ) (script : ScriptLines) (managed : List Managed) (is 
 
   pub holds_rightly : AllHoldRightly managed script.ifaces (failing_in script.fails) (at_first script.rows script.files) script.lives
   holds_rightly =
-      let fits = is.fits in
+      let fits = script_fits in
       holds_on (failing_in script.fails) (at_first script.rows script.files) (in_order_sorted script.rows) script.lives (recursion_from_All (FitsLife (length script.ifaces)) script.lives fits.lives)

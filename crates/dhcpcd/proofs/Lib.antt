@@ -1,11 +1,17 @@
+pub mod OneReading
 pub mod Endings
 pub mod HeadLines
 pub mod Inputs
 pub mod OneWord
+pub mod AskedApart
+pub mod LineCounts
+pub mod CheckTexts
 pub mod Refusals
+pub mod ManagedApart
 pub mod WholeLife
 pub mod LifeLeft
 pub mod Joined
 pub mod FirstNames
 pub mod HostRightly
 pub mod FilesRightly
+pub mod Replayed

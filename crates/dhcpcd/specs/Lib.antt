@@ -4,5 +4,9 @@ pub mod Replays
 pub mod Carried
 pub mod HostHeld
 pub mod FilesHeld
+pub mod Refusals
+pub mod Settling
 pub mod Statuses
+pub mod Checks
 pub mod Words
+pub mod Asked

@@ -1,5 +1,7 @@
 -- The transcript of a script: its head, and its lives one after another.
-use Rattle.std.specs.Prelude.{ℕ, ◌≡◌, ◌+◌, List, [], ◌∷◌, ◌++◌, map, flat_map, length, Option, Some, None}
+use Rattle.std.specs.Prelude.{ℕ, ◌≡◌, ◌+◌, Bool, not, ◌||◌, ◌==◌, if◌then◌else◌, List, [], ◌∷◌, ◌++◌, map, flat_map, length, Option, Some, None, option_map, Ok}
+use Rattle.std.specs.Option.{option_or}
+use Rattle.net_types.specs.FirstBadLine.{IsSpelled}
 use Rattle.net_types.specs.declared.interface.IfSpec.{IfSpec}
 use Rattle.settings.specs.declared.interfaces.Managed.{Managed}
 use Rattle.world.specs.HostCalls.{HostTold}
@@ -17,8 +19,7 @@ use Rattle.world_mem.specs.declared.crashes.Pick.{Pick}
 use Rattle.world_mem.specs.declared.crashes.Pick.TheVariants as pick
 use Rattle.world_mem.specs.CrashRecord.{after_crash}
 use Rattle.world_mem.specs.Fuse.{first_stopped}
-use Rattle.script_model.specs.ScriptTexts.{ScriptLines, LifeScript, script_text, ended}
-use Rattle.script_model.specs.Scripts.{FitsScript}
+use Rattle.script_model.specs.ScriptTexts.{ScriptLines, LifeScript, ended}
 use Rattle.script_model.specs.Lines.{Line}
 use Rattle.script_model.specs.Lines as lines
 use Rattle.device_calls.specs.Worlds.{World}
@@ -26,8 +27,9 @@ use Rattle.turn_model.specs.Lives.{OpeningMet, Met, life_lines}
 use Rattle.turn_model.specs.Foretold.{opening_of, foretold_life}
 use Rattle.turn_model.specs.HostInLife.{Running, running_opened}
 use Rattle.dhcpcd.specs.Memory.{link_told, first_host, first_store}
-use Rattle.conf_text.specs.Settings.{Configuration, managed_of}
-use Rattle.conf_text.specs.Reading.{IsConfigurationOf}
+use Rattle.replay_text.specs.LinesInOrder.{SpellsScript}
+use Rattle.conf_text.specs.Configurations.{Configuration, NoticeContent, IsConfOf}
+use Rattle.conf_text.specs.Settings.{managed_of, turns_hooks_off}
 
 -- the calls that fail, counted over all lives
 pub record Failing : Type 0 where
@@ -110,19 +112,55 @@ lives_lines managed specs failing between [] = []
 lives_lines managed specs failing between (life ∷ lives) =
     life_in managed specs failing between life ++ lives_lines managed specs failing (after_life managed specs failing between life) lives
 
-unfoldable pub head_lines : ScriptLines → List Line
-head_lines script = lines.Head ∷ (map lines.Conf script.conf ++ map lines.Interface script.ifaces)
+-- ---- the transcript
 
+-- a word of the configuration that does nothing
+abbrev pub notice_line : NoticeContent → Line
+notice_line notice = lines.Notice notice.line notice.word
+
+unfoldable pub head_lines : ScriptLines → List NoticeContent → List Line
+head_lines script notices = lines.Head ∷ (map lines.Conf script.conf ++ (map notice_line notices ++ map lines.Interface script.ifaces))
+
+-- the lives with these managed interfaces; others are told of, and left alone
 abbrev pub lives_of_script : List Managed → ScriptLines → List Line
 lives_of_script managed script = lives_lines managed script.ifaces (failing_in script.fails) (at_first script.rows script.files) script.lives
 
-abbrev pub transcript : List Managed → ScriptLines → List Line
-transcript managed script = head_lines script ++ lives_of_script managed script
+abbrev pub managed_in : ScriptLines → Configuration → List Managed
+managed_in script conf = managed_of conf script.ifaces
 
--- the bytes spell this script, and its configuration is built for each of its interfaces
-pub record IsScript (bytes : List ℕ) (script : ScriptLines) (managed : List Managed) : Type 0 where
-  pub spelled : bytes ≡ script_text script
-  pub fits : FitsScript script
-  pub conf : Configuration
-  pub configured : IsConfigurationOf (flat_map ended script.conf) conf
-  pub settings : managed_of conf script.ifaces ≡ Some managed
+abbrev pub transcript : ScriptLines → Configuration → List Line
+transcript script conf = head_lines script conf.notices ++ lives_of_script (managed_in script conf) script
+
+-- ---- which scripts are replayed
+
+-- the bytes spell this script
+abbrev pub Spells : List ℕ → ScriptLines → Type 0
+Spells bytes script = IsSpelled SpellsScript bytes script
+
+-- the text of its configuration
+abbrev pub configuration_text : ScriptLines → List ℕ
+configuration_text script = flat_map ended script.conf
+
+-- Lines of the configuration stand behind the first line of a script, and those of interfaces behind them.
+abbrev pub script_line : (line : ℕ) → ℕ
+script_line line = line + 1
+
+abbrev pub first_interface : ScriptLines → ℕ
+first_interface script = length script.conf + 2
+
+-- an interface has hooks, which aren't built, unless they are turned off
+abbrev pub has_hooks : ScriptLines → Configuration → Bool
+has_hooks script conf = not (length script.ifaces == 0 || turns_hooks_off conf)
+
+abbrev pub unbuilt_hooks : ScriptLines → Configuration → Option ℕ
+unbuilt_hooks script conf = if has_hooks script conf then Some (first_interface script) else None
+
+-- the line of the script that asks first for what isn't built: a line of its configuration, or that of its first interface
+abbrev pub unbuilt_line : ScriptLines → Configuration → Option ℕ
+unbuilt_line script conf = option_or (option_map script_line conf.not_built) (unbuilt_hooks script conf)
+
+-- the bytes spell this script, it has this configuration, and all of it is built
+pub record IsScript (bytes : List ℕ) (script : ScriptLines) (conf : Configuration) : Type 0 where
+  pub spelled : Spells bytes script
+  pub configured : IsConfOf (configuration_text script) (Ok conf)
+  pub built : unbuilt_line script conf ≡ None

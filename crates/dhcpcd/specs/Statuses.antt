@@ -1,17 +1,13 @@
 -- What the answers of the top call mean.
-use Rattle.std.specs.Prelude.{ℕ, ◌≡◌, ◌≢◌, ◌<◌, ◌≤◌, ◌+◌, ◌⊎◌, List, [], length, Option, Some}
-use Rattle.settings.specs.declared.interfaces.Managed.{Managed}
-use Rattle.script_model.specs.ScriptTexts.{ScriptLines, script_text}
-use Rattle.script_model.specs.Scripts.{FitsScript}
-use Rattle.script_model.specs.LineNumbers.{line_feeds}
-use Rattle.replay_text.specs.declared.script.ScriptCause.TheVariants.{NotBuilt}
-use Rattle.replay_text.specs.declared.script.ScriptFault.{ScriptFault}
-use Rattle.daemon.specs.Streams.{WritesLines}
-use Rattle.daemon.specs.Streams.{WritesFront}
+use Rattle.std.specs.Prelude.{ℕ, ◌≡◌, ◌<◌, ◌≤◌, ◌⊎◌, List, [], length, Option, Some}
+use Rattle.script_model.specs.ScriptTexts.{ScriptLines}
+use Rattle.conf_text.specs.Configurations.{Configuration}
+use Rattle.daemon.specs.Streams.{WritesLines, WritesFront}
 use Rattle.dhcpcd.specs.declared.status.Status.{Status}
 use Rattle.dhcpcd.specs.declared.status.Status.TheVariants as status
 use Rattle.dhcpcd.specs.Input.{limit, IsInput, IsTooLong}
-use Rattle.dhcpcd.specs.Replays.{IsScript, failing_in, at_first, transcript}
+use Rattle.dhcpcd.specs.Replays.{IsScript, managed_in, failing_in, at_first, transcript}
+use Rattle.dhcpcd.specs.Refusals.{IsScriptFault, IsConfFault, IsRefusal}
 use Rattle.dhcpcd.specs.HostHeld.{AllHoldRightly}
 use Rattle.dhcpcd.specs.FilesHeld.{AllKeepRightly}
 
@@ -20,6 +16,7 @@ abbrev pub status_number : Status → ℕ
 status_number status.Done = 0
 status_number status.Usage = 2
 status_number (status.Script fault) = 3
+status_number (status.Conf fault) = 4
 status_number status.ReadFault = 5
 status_number status.WriteFault = 6
 status_number status.TooLong = 9
@@ -29,67 +26,49 @@ status_number status.NoMemory = 10
 pub record IsReplayed (input : Option (List ℕ)) (old new : Option (List ℕ)) : Type 0 where
   pub bytes : List ℕ
   pub script : ScriptLines
-  pub managed : List Managed
+  pub conf : Configuration
   pub read : IsInput input bytes
   pub in_limit : length bytes ≤ limit
-  pub is_script : IsScript bytes script managed
-  pub written : WritesLines old new (transcript managed script)
-  pub host : AllHoldRightly managed script.ifaces (failing_in script.fails) (at_first script.rows script.files) script.lives
-  pub files : AllKeepRightly managed script.ifaces (failing_in script.fails) (at_first script.rows script.files) script.lives
+  pub is_script : IsScript bytes script conf
+  pub written : WritesLines old new (transcript script conf)
+  pub host : AllHoldRightly (managed_in script conf) script.ifaces (failing_in script.fails) (at_first script.rows script.files) script.lives
+  pub files : AllKeepRightly (managed_in script conf) script.ifaces (failing_in script.fails) (at_first script.rows script.files) script.lives
 
 -- the input was a script, and a front of the bytes of its transcript was written
 pub record IsStopped (input : Option (List ℕ)) (old new : Option (List ℕ)) : Type 0 where
   pub bytes : List ℕ
   pub script : ScriptLines
-  pub managed : List Managed
+  pub conf : Configuration
   pub read : IsInput input bytes
   pub in_limit : length bytes ≤ limit
-  pub is_script : IsScript bytes script managed
-  pub written : WritesFront old new [] (transcript managed script)
+  pub is_script : IsScript bytes script conf
+  pub written : WritesFront old new [] (transcript script conf)
 
 -- the input is told, and it is a script within the limit
-pub record SpellsScript (input : Option (List ℕ)) : Type 0 where
+pub record TellsScript (input : Option (List ℕ)) : Type 0 where
   pub bytes : List ℕ
   pub script : ScriptLines
-  pub managed : List Managed
+  pub conf : Configuration
   pub told : input ≡ Some bytes
   pub in_limit : length bytes ≤ limit
-  pub is_script : IsScript bytes script managed
-
--- no script spells the bytes
-abbrev pub IsNoScript : List ℕ → Type 0
-IsNoScript bytes = (script : ScriptLines) (managed : List Managed) → IsScript bytes script managed → ⊥
-
--- one of so many lines, and why it is bad: so far it isn't built
-pub record NamesLine (lines : ℕ) (fault : ScriptFault) : Type 0 where
-  pub first : 1 ≤ fault.line
-  pub last : fault.line ≤ lines
-  pub cause : fault.cause ≡ NotBuilt
-
--- the input was no script, one of its lines is named, and nothing was written
-pub record IsRefusal (input : Option (List ℕ)) (fault : ScriptFault) (old new : Option (List ℕ)) : Type 0 where
-  pub bytes : List ℕ
-  pub read : IsInput input bytes
-  pub in_limit : length bytes ≤ limit
-  pub none : IsNoScript bytes
-  pub line : NamesLine (line_feeds bytes + 1) fault
-  pub unwritten : new ≡ old
+  pub is_script : IsScript bytes script conf
 
 -- what replay answers, by the input and by what is written before and after
 abbrev pub IsAnswer : Status → Option (List ℕ) → Option (List ℕ) → Option (List ℕ) → Type 0
 IsAnswer status.Done input old new = IsReplayed input old new
 IsAnswer status.Usage input old new = ⊥
-IsAnswer (status.Script fault) input old new = IsRefusal input fault old new
+IsAnswer (status.Script fault) input old new = IsRefusal (λ bytes. IsScriptFault bytes fault) input old new
+IsAnswer (status.Conf fault) input old new = IsRefusal (λ bytes. IsConfFault bytes fault) input old new
 IsAnswer status.ReadFault input old new = new ≡ old
 IsAnswer status.WriteFault input old new = IsStopped input old new
 IsAnswer status.TooLong input old new = IsTooLong input × (new ≡ old)
 IsAnswer status.NoMemory input old new = (new ≡ old) ⊎ IsStopped input old new
 
--- the answers to a script over streams that don't fail
-abbrev pub CompletesScript : Status → Type 0
-CompletesScript status.Done = Unit {0}
-CompletesScript status.NoMemory = Unit {0}
-CompletesScript other = ⊥
+-- the answers to a good input over streams that don't fail
+abbrev pub Completes : Status → Type 0
+Completes status.Done = Unit {0}
+Completes status.NoMemory = Unit {0}
+Completes other = ⊥
 
 -- faults come only where the count of that stream rose
 abbrev pub HasStatusCause : Status → ℕ → ℕ → ℕ → ℕ → Type 0
@@ -109,13 +88,3 @@ abbrev pub StopsWriting : Status → Type 0
 StopsWriting status.WriteFault = Unit {0}
 StopsWriting status.NoMemory = Unit {0}
 StopsWriting other = ⊥
-
--- no fitting lines of a script spell the bytes
-abbrev pub IsUnspelled : List ℕ → Type 0
-IsUnspelled bytes = (script : ScriptLines) → FitsScript script → bytes ≢ script_text script
-
--- a refusal of a text of so many lines, and why; want of memory is free
-abbrev pub IsRefused : ℕ → Status → Type 0 → Type 0
-IsRefused lines (status.Script fault) why = why × NamesLine lines fault
-IsRefused lines status.NoMemory why = Unit {0}
-IsRefused lines other why = ⊥

@@ -3,8 +3,10 @@ ghost use Rattle.script_model.specs.Lines as lines;
 ghost use Rattle.replay_text.specs.ScriptContent.{conf_lines, script_of};
 ghost use Rattle.transcript_text.specs.Printed.{line_of};
 ghost use Rattle.device_calls.specs.Printing.{Prints};
-ghost use Rattle.dhcpcd.specs.Replays.{head_lines};
+ghost use Rattle.conf_text.specs.Contents.{notice_content};
+ghost use Rattle.dhcpcd.specs.Replays.{head_lines, notice_line};
 
+use conf_text::Notice;
 use net_types::{IfSpec, split_at_byte};
 use replay_text::Script;
 use transcript_text::{TranscriptLine, print_line};
@@ -42,13 +44,31 @@ fn say_interfaces(ifaces: &[IfSpec], text: &mut Vec<u8>) -> Result<(), NoMemory>
     Ok(())
 }
 
+/// Appends a line for each word of the configuration that does nothing.
+pub fn say_notices(notices: &[Notice], text: &mut Vec<u8>) -> Result<(), NoMemory>
+    ensures { OnOk result (Prints text.old.items text.new.items (map notice_line (map notice_content notices.now))) }
+{
+    for notice in notices {
+        let Notice { line, word } = notice;
+        say(
+            &TranscriptLine::Notice {
+                line: *line,
+                word: word.as_str(),
+            },
+            text,
+        )?;
+    }
+    Ok(())
+}
+
 /// Appends the lines before the first life.
 #[tactic(auto, using(device_calls::proofs::Printings::prints_then), unfolding(crate::specs::Replays::head_lines))]
-pub fn say_head(script: &Script, text: &mut Vec<u8>) -> Result<(), NoMemory>
-    ensures { OnOk result (Prints text.old.items text.new.items (head_lines (script_of script.now))) }
+pub fn say_head(script: &Script, notices: &[Notice], text: &mut Vec<u8>) -> Result<(), NoMemory>
+    ensures { OnOk result (Prints text.old.items text.new.items (head_lines (script_of script.now) (map notice_content notices.now))) }
 {
     say(&TranscriptLine::Head, text)?;
     say_configuration(&script.conf, text)?;
+    say_notices(notices, text)?;
     say_interfaces(&script.ifaces, text)?;
     Ok(())
 }

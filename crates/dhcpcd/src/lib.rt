@@ -1,6 +1,7 @@
 //! The top call: what the words of the program ask for.
 #![tactic(auto)]
 
+mod checking;
 mod heads;
 mod input;
 mod lives;
@@ -11,8 +12,10 @@ mod settling;
 mod status;
 #[cfg(test)]
 mod tests;
+mod words;
 mod writing;
 
-pub use running::{is_alone, run};
+pub use running::run;
 pub use status::Status;
+pub use words::is_alone;
 pub use writing::write_text;

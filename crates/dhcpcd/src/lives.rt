@@ -4,8 +4,8 @@ ghost use Rattle.settings.specs.Fitting.{AreManaged};
 ghost use Rattle.script_model.specs.Scripts.{FitsScript};
 ghost use Rattle.replay_text.specs.ScriptContent as content;
 ghost use Rattle.daemon.specs.Streams.{WritesFront, WritesLines};
-ghost use Rattle.dhcpcd.specs.Carried.{between_in, failing_with};
-ghost use Rattle.dhcpcd.specs.Replays.{after_life, life_in, lines_in, lives_of_script};
+ghost use Rattle.dhcpcd.specs.Carried.{between_in, failing_with, life_over};
+ghost use Rattle.dhcpcd.specs.Replays.{after_life, lines_in, lives_of_script};
 ghost use Rattle.dhcpcd.specs.Statuses.{HasStatusCause, StopsWriting};
 
 use crate::memory::{Between, Memory, at_first, devices, left, numbers_of};
@@ -32,10 +32,10 @@ fn replay_life<O: Sink>(
 ) -> Result<Between, Status>
     requires managed { AreManaged managed.now }
     requires few { between.lives + 1 < 2 ^ 64 }
-    ensures ok { IfOk result (λ _. (O.faults out.old ≤ O.faults out.new) × WritesLines (O.written out.old) (O.written out.new) (life_in managed.now specs.now (failing_with sends.now between) (between_in between) (content.life_of life))) }
+    ensures ok { IfOk result (λ _. (O.faults out.old ≤ O.faults out.new) × WritesLines (O.written out.old) (O.written out.new) (life_over managed.now specs.now sends.now between (content.life_of life))) }
     ensures left { IfOk result (λ next. between_in next ≡ after_life managed.now specs.now (failing_with sends.now between) (between_in between) (content.life_of life)) }
     ensures failing { IfOk result (λ next. failing_with sends.now next ≡ failing_with sends.now between) }
-    ensures front { IfErr result (λ _. WritesFront (O.written out.old) (O.written out.new) [] (life_in managed.now specs.now (failing_with sends.now between) (between_in between) (content.life_of life))) }
+    ensures front { IfErr result (λ _. WritesFront (O.written out.old) (O.written out.new) [] (life_over managed.now specs.now sends.now between (content.life_of life))) }
     ensures cause { IfErr result (λ status. HasStatusCause status 0 0 (O.faults out.old) (O.faults out.new) × StopsWriting status) }
     ensures steady { O.never_fails out.old ≡ true → O.faults out.new ≡ O.faults out.old }
     ensures stays { O.never_fails out.new ≡ O.never_fails out.old }

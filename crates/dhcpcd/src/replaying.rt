@@ -1,17 +1,20 @@
 ghost use Rattle.std.specs.Prelude.{◌≡◌, ◌≢◌, ◌≤◌, [], true, Err, IfOk, IfErr};
 ghost use Rattle.settings.specs.Fitting.{AreManaged};
+ghost use Rattle.conf_text.specs.Contents.{configuration};
 ghost use Rattle.script_model.specs.Scripts.{FitsScript};
 ghost use Rattle.replay_text.specs.ScriptContent as content;
 ghost use Rattle.daemon.specs.Streams.{WritesFront, WritesLines};
 ghost use Rattle.dhcpcd.specs.Input.{ReadsWithin, input_told};
-ghost use Rattle.dhcpcd.specs.Replays.{transcript};
-ghost use Rattle.dhcpcd.specs.Statuses.{HasStatusCause, StopsWriting, IsReplayed, IsAnswer};
+ghost use Rattle.dhcpcd.specs.Replays.{managed_in, transcript};
+ghost use Rattle.dhcpcd.specs.Settling.{IsSettled};
+ghost use Rattle.dhcpcd.specs.Statuses.{HasStatusCause, StopsWriting, IsReplayed, IsAnswer, TellsScript, Completes};
 
 use crate::input::read_all;
 use crate::lives::replay_lives;
 use crate::settling::{Settled, settle};
 use crate::status::Status;
 use crate::writing::write_head;
+use conf_text::notices;
 use std::alloc::Global;
 use world::{Sink, Source};
 
@@ -20,21 +23,26 @@ use world::{Sink, Source};
 fn write_transcript<O: Sink>(alloc: Global, settled: Settled, out: &mut O) -> Result<(), Status>
     requires managed { AreManaged settled.managed.items }
     requires fits { FitsScript (content.script_of settled.script) }
-    ensures ok { IfOk result (λ _. (O.faults out.old ≤ O.faults out.new) × WritesLines (O.written out.old) (O.written out.new) (transcript settled.managed.items (content.script_of settled.script))) }
-    ensures front { IfErr result (λ _. WritesFront (O.written out.old) (O.written out.new) [] (transcript settled.managed.items (content.script_of settled.script))) }
+    requires manages { settled.managed.items ≡ managed_in (content.script_of settled.script) (configuration settled.conf) }
+    ensures ok { IfOk result (λ _. (O.faults out.old ≤ O.faults out.new) × WritesLines (O.written out.old) (O.written out.new) (transcript (content.script_of settled.script) (configuration settled.conf))) }
+    ensures front { IfErr result (λ _. WritesFront (O.written out.old) (O.written out.new) [] (transcript (content.script_of settled.script) (configuration settled.conf))) }
     ensures cause { IfErr result (λ status. HasStatusCause status 0 0 (O.faults out.old) (O.faults out.new) × StopsWriting status) }
     ensures steady { O.never_fails out.old ≡ true → O.faults out.new ≡ O.faults out.old }
     ensures stays { O.never_fails out.new ≡ O.never_fails out.old }
 {
-    let Settled { script, managed } = settled;
-    write_head(alloc, &script, out)?;
+    let Settled {
+        script,
+        conf,
+        managed,
+    } = settled;
+    write_head(alloc, &script, notices(&conf), out)?;
     replay_lives(alloc, &managed, script, out)?;
     Ok(())
 }
 
-/// Replays the script that the input spells, and writes its transcript.
-#[tactic(auto, using(crate::proofs::Refusals::settled_fit, crate::proofs::Refusals::refused_answer, crate::proofs::Endings::stopped_answer, crate::proofs::HostRightly::holds_rightly, crate::proofs::FilesRightly::keeps_rightly))]
-pub fn replay<I: Source, O: Sink>(alloc: Global, input: &mut I, out: &mut O) -> Result<(), Status>
+/// Replays the script that the input spells.
+#[tactic(auto, using(crate::proofs::Refusals::settled_fit, crate::proofs::Endings::refused_answer, crate::proofs::Endings::stopped_answer, crate::proofs::Replayed::replayed))]
+fn replay_input<I: Source, O: Sink>(alloc: Global, input: &mut I, out: &mut O) -> Result<(), Status>
     ensures ok { IfOk result (λ _. IsReplayed (I.left input.old) (O.written out.old) (O.written out.new) × (I.faults input.old ≤ I.faults input.new) × (O.faults out.old ≤ O.faults out.new)) }
     ensures err { IfErr result (λ status. IsAnswer status (I.left input.old) (O.written out.old) (O.written out.new)) }
     ensures cause { IfErr result (λ status. HasStatusCause status (I.faults input.old) (I.faults input.new) (O.faults out.old) (O.faults out.new)) }
@@ -47,4 +55,18 @@ pub fn replay<I: Source, O: Sink>(alloc: Global, input: &mut I, out: &mut O) -> 
     let settled = settle(alloc, &bytes)?;
     write_transcript(alloc, settled, out)?;
     Ok(())
+}
+
+/// Replays the script that the input spells, and writes its transcript.
+pub fn replay<I: Source, O: Sink>(alloc: Global, input: &mut I, out: &mut O) -> Status
+    ensures answer { IsAnswer result (I.left input.old) (O.written out.old) (O.written out.new) }
+    ensures cause { HasStatusCause result (I.faults input.old) (I.faults input.new) (O.faults out.old) (O.faults out.new) }
+    ensures complete { TellsScript (I.left input.old) → I.faults input.new ≡ I.faults input.old → O.faults out.new ≡ O.faults out.old → Completes result }
+    ensures replays { TellsScript (I.left input.old) → I.never_fails input.old ≡ true → O.never_fails out.old ≡ true → Completes result }
+    ensures reads { ReadsWithin (input_told (I.left input.old) (I.taken input.old) (I.reads input.old)) (input_told (I.left input.new) (I.taken input.new) (I.reads input.new)) }
+{
+    match replay_input(alloc, input, out) {
+        Ok(()) => Status::Done,
+        Err(status) => status,
+    }
 }

@@ -1,6 +1,7 @@
 ghost use Rattle.std.specs.Prelude.{◌≡◌};
 ghost use Rattle.dhcpcd.specs.Statuses.{status_number};
 
+use conf_text::ConfFault;
 use replay_text::ScriptFault;
 use world::NoMemory;
 
@@ -11,8 +12,10 @@ pub enum Status {
     Done,
     /// The words are of no form.
     Usage,
-    /// The input is no script.
+    /// The input is no script, or asks for what isn't built.
     Script(ScriptFault),
+    /// The configuration has a bad line, counted within it.
+    Conf(ConfFault),
     ReadFault,
     WriteFault,
     /// The input is longer than its limit.
@@ -39,6 +42,7 @@ impl Status {
             Status::Done => 0,
             Status::Usage => 2,
             Status::Script(_) => 3,
+            Status::Conf(_) => 4,
             Status::ReadFault => 5,
             Status::WriteFault => 6,
             Status::TooLong => 9,

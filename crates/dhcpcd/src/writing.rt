@@ -1,5 +1,6 @@
 //! Writing to a stream, a few lines in one call.
-ghost use Rattle.std.specs.Prelude.{◌≡◌, ◌≤◌, [], ◌∷◌, true, IfOk, IfErr};
+ghost use Rattle.std.specs.Prelude.{◌≡◌, ◌≤◌, [], ◌∷◌, true, map, IfOk, IfErr};
+ghost use Rattle.conf_text.specs.Contents.{notice_content};
 ghost use Rattle.script_model.specs.Lines as lines;
 ghost use Rattle.replay_text.specs.ScriptContent as content;
 ghost use Rattle.daemon.specs.Streams.{WritesFront};
@@ -10,6 +11,7 @@ ghost use Rattle.dhcpcd.specs.Statuses.{HasStatusCause, StopsWriting};
 
 use crate::heads::{say, say_head};
 use crate::status::Status;
+use conf_text::Notice;
 use replay_text::Script;
 use std::alloc::Global;
 use transcript_text::TranscriptLine;
@@ -32,15 +34,20 @@ pub fn write_text<O: Sink>(out: &mut O, text: &[u8]) -> Result<(), Status>
 
 /// Writes the head of a script's transcript.
 #[tactic(auto, using(crate::proofs::WholeLife::head_written, crate::proofs::WholeLife::front_of_head, daemon::proofs::CutOffs::front_none))]
-pub fn write_head<O: Sink>(alloc: Global, script: &Script, out: &mut O) -> Result<(), Status>
-    ensures ok { IfOk result (λ _. (O.faults out.old ≤ O.faults out.new) × WritesLines (O.written out.old) (O.written out.new) (head_lines (content.script_of script.now))) }
-    ensures front { IfErr result (λ _. WritesFront (O.written out.old) (O.written out.new) [] (head_lines (content.script_of script.now))) }
+pub fn write_head<O: Sink>(
+    alloc: Global,
+    script: &Script,
+    notices: &[Notice],
+    out: &mut O,
+) -> Result<(), Status>
+    ensures ok { IfOk result (λ _. (O.faults out.old ≤ O.faults out.new) × WritesLines (O.written out.old) (O.written out.new) (head_lines (content.script_of script.now) (map notice_content notices.now))) }
+    ensures front { IfErr result (λ _. WritesFront (O.written out.old) (O.written out.new) [] (head_lines (content.script_of script.now) (map notice_content notices.now))) }
     ensures cause { IfErr result (λ status. HasStatusCause status 0 0 (O.faults out.old) (O.faults out.new) × StopsWriting status) }
     ensures steady { O.never_fails out.old ≡ true → O.faults out.new ≡ O.faults out.old }
     ensures stays { O.never_fails out.new ≡ O.never_fails out.old }
 {
     let mut text = Vec::new(alloc);
-    say_head(script, &mut text)?;
+    say_head(script, notices, &mut text)?;
     write_text(out, &text)?;
     Ok(())
 }

@@ -1,3 +1,4 @@
+use conf_text::ConfFault;
 use dhcpcd::Status;
 use replay_text::ScriptFault;
 use std::io::Result;
@@ -10,6 +11,9 @@ fn line(rt: &HostRuntime, status: Status) -> Result<()> {
         ),
         Status::Script(ScriptFault { line, cause }) => {
             eprintln!(rt; "dhcpcd: script line {line}: {cause:?}")
+        }
+        Status::Conf(ConfFault { line, cause }) => {
+            eprintln!(rt; "dhcpcd: configuration line {line}: {cause:?}")
         }
         Status::ReadFault => eprintln!(rt; "dhcpcd: read failed"),
         Status::WriteFault => eprintln!(rt; "dhcpcd: write failed"),

@@ -8,17 +8,21 @@ use world::Sink;
 pub const HELP: &str = "dhcpcd: a DHCP client daemon; so far it replays event scripts
 
 usage: dhcpcd replay < SCRIPT > TRANSCRIPT
+       dhcpcd check < CONFIGURATION
        dhcpcd --help
        dhcpcd --version
 
-replay reads a script from standard input, at most 16777216 bytes, lives it over
-devices in memory, and writes the transcript of every call to standard output.
-The words `check` and `live PORT PEER DIR SCRIPT IFACE..` aren't built yet.
+replay reads a script from standard input, lives it over devices in memory, and
+writes the transcript of every call to standard output. check reads a
+configuration, writes a line for each word of it that does nothing, and then ok.
+An input has at most 16777216 bytes.
+The words `live PORT PEER DIR SCRIPT IFACE..` aren't built yet.
 
 exit status, with a line on standard error for each but 0:
    0  all was read and written
    2  the words are of no form
-   3  the input is no script, or asks for what isn't built
+   3  the input is no script, or asks for what isn't built; its line is told
+   4  the configuration has a bad line; it is told, counted within it
    5  standard input can't be read
    6  standard output can't be written
    9  the input is too long

@@ -1,6 +1,6 @@
 -- Which interface an address row comes from, and the basis that it has there.
 use Rattle.std.proofs.Common.{ℕ, ◌≡◌, Bool, true, false, cond, not, ◌&&◌, ◌||◌, List, [], ◌∷◌, ◌++◌, ◌⊎◌, inl, inr, Option, Some, None, refl, sym, ap, subst, ◌∙◌}
-use Rattle.std.specs.Prelude.{filter, flat_map, nat_lt, ◌==◌, option_and_then}
+use Rattle.std.specs.Prelude.{filter, flat_map, nat_lt, ◌==◌}
 use Rattle.std.specs.List.{AllByRecursion}
 use Rattle.std.proofs.lemmas.List.Folds.{list_any-append}
 use Rattle.std.specs.BTreeMap.{is_at}
@@ -18,10 +18,7 @@ use Rattle.ipv4ll.specs.declared.link_local.State.{State}
 use Rattle.ipv4ll.specs.declared.link_local.State.TheVariants.{Off, Armed, Chosen, Waiting}
 use Rattle.ipv4ll.specs.Choice.{IsChoice}
 use Rattle.ipv4ll.specs.Table.{held_in}
-use Rattle.v4_options.specs.declared.code.TheConstants.{CLASSLESS_ROUTES, ROUTERS}
 use Rattle.v4_options.specs.declared.routes.ClasslessRoute.{ClasslessRoute}
-use Rattle.v4_options.specs.Numbers.{addrs_in}
-use Rattle.v4_options.specs.Routes.{routes_in}
 use Rattle.lease_text.specs.Leases.{LeaseContent}
 use Rattle.v4_client.specs.Clients.{held_of}
 use Rattle.world.specs.declared.rows.HostRow.{HostRow}
@@ -30,11 +27,13 @@ use Rattle.world.specs.declared.rows.Via.TheVariants.{OnLink, Gate4}
 use Rattle.world.specs.RowOrder.{row_iface, row_net, row_cmp, has_row}
 use Rattle.world.proofs.ExactRows.{row_cmp_exact}
 use Rattle.world.proofs.RowLists.{in_order_has}
-use Rattle.settings.specs.declared.interfaces.StaticLine.{StaticLine}
+use Rattle.settings.specs.declared.interfaces.IfConf.{IfConf}
+use Rattle.client_model.specs.declared.outlet.Outlet.{Outlet}
 use Rattle.client_model.specs.declared.interfaces.Iface.{Iface}
 use Rattle.net_types.specs.Networks.{network_of, is_within}
 use Rattle.client_model.specs.Clients.{Client, rows_of}
-use Rattle.client_model.specs.WantedRows.{metric_of, is_kept, gateway_routes, router_routes, address_rows, static_rows, value_in, classless_rows, preferred, lease_routes, lease_rows, local_net, local_rows, iface_rows}
+use Rattle.host_tables.specs.Precedence.{is_kept}
+use Rattle.client_model.specs.WantedRows.{outlet_of, gateway_routes, router_routes, address_rows, static_rows, classless_in, classless_rows, router_for, lease_routes, lease_rows, local_net, local_rows, iface_rows}
 use Rattle.host_model.proofs.HostTableRows.{has_filter}
 use Rattle.evidence_words.specs.Entries.{Entry}
 use Rattle.evidence_words.specs.Inputs.{Site}
@@ -87,84 +86,84 @@ module _ (index : IfIndex) (net : Net) where
   no_gateway true iface dest metric = refl
   no_gateway false iface dest metric = refl
 
-  no_router : (iface : IfIndex) (address : Net4) (router : Option Ip4) → has_row (router_routes iface address router) (Addr index net) ≡ false
-  no_router iface address None = refl
-  no_router iface address (Some router) = no_gateway (is_within router address) iface (Family.V4 (record { ip = router; len = 32 })) (metric_of iface)
+  no_router : (outlet : Outlet) (address : Net4) (router : Option Ip4) → has_row (router_routes outlet address router) (Addr index net) ≡ false
+  no_router outlet address None = refl
+  no_router outlet address (Some router) = no_gateway (is_within router address) outlet.iface (Family.V4 (record { ip = router; len = 32 })) outlet.metric
 
-  no_classless : (on_link : Bool) (iface : IfIndex) (address : Net4) (route : ClasslessRoute)
-      → has_row (cond on_link (Route iface (Family.V4 route.dest) OnLink (metric_of iface) ∷ [])
-      (Route iface (Family.V4 route.dest) (Gate4 route.via) (metric_of iface) ∷ gateway_routes iface address route.via)) (Addr index net) ≡ false
-  no_classless true iface address route = refl
-  no_classless false iface address route =
-      no_gateway (is_within route.via address) iface (Family.V4 (record { ip = route.via; len = 32 })) (metric_of iface)
+  no_classless : (on_link : Bool) (outlet : Outlet) (address : Net4) (route : ClasslessRoute)
+      → has_row (cond on_link (Route outlet.iface (Family.V4 route.dest) OnLink outlet.metric ∷ [])
+      (Route outlet.iface (Family.V4 route.dest) (Gate4 route.via) outlet.metric ∷ gateway_routes outlet address route.via)) (Addr index net) ≡ false
+  no_classless true outlet address route = refl
+  no_classless false outlet address route =
+      no_gateway (is_within route.via address) outlet.iface (Family.V4 (record { ip = route.via; len = 32 })) outlet.metric
 
   neither : (a b : Bool) → a ≡ false → b ≡ false → (a || b) ≡ false
   neither true b p q = absurd cc
   neither false b p q = q
 
-  no_routes : (iface : IfIndex) (address : Net4) (routes : List ClasslessRoute) → has_row (flat_map (classless_rows iface address) routes) (Addr index net) ≡ false
-  no_routes iface address [] = refl
-  no_routes iface address (route ∷ routes) =
-      list_any-append (is_at (row_cmp (Addr index net))) (classless_rows iface address route) (flat_map (classless_rows iface address) routes)
-      ∙ neither _ _ (no_classless (route.via.number == 0) iface address route) (no_routes iface address routes)
+  no_routes : (outlet : Outlet) (address : Net4) (routes : List ClasslessRoute) → has_row (flat_map (classless_rows outlet address) routes) (Addr index net) ≡ false
+  no_routes outlet address [] = refl
+  no_routes outlet address (route ∷ routes) =
+      list_any-append (is_at (row_cmp (Addr index net))) (classless_rows outlet address route) (flat_map (classless_rows outlet address) routes)
+      ∙ neither _ _ (no_classless (route.via.number == 0) outlet address route) (no_routes outlet address routes)
 
-  no_lease_routes : (iface : IfIndex) (address : Net4) (routes : Option (List ClasslessRoute)) (routers : Option (List Ip4))
-      → has_row (lease_routes iface address routes routers) (Addr index net) ≡ false
-  no_lease_routes iface address (Some routes) routers = no_routes iface address routes
-  no_lease_routes iface address None routers = no_router iface address (option_and_then preferred routers)
+  no_lease_routes : (outlet : Outlet) (address : Net4) (routes : Option (List ClasslessRoute)) (router : Option Ip4)
+      → has_row (lease_routes outlet address routes router) (Addr index net) ≡ false
+  no_lease_routes outlet address (Some routes) router = no_routes outlet address routes
+  no_lease_routes outlet address None router = no_router outlet address router
 
   or_none : (a b : Bool) → b ≡ false → (a || b) ≡ true → a ≡ true
   or_none true b none e = refl
   or_none false b none e = sym none ∙ e
 
   -- an address with its network gives this address alone
-  of_address : (iface : IfIndex) (address : Net4) → has_row (address_rows iface address) (Addr index net) ≡ true → Addr index net ≡ Addr iface (Family.V4 address)
-  of_address iface address has =
-      row_cmp_exact (Addr index net) (Addr iface (Family.V4 address))
-      ((Equal-is (row_cmp (Addr index net) (Addr iface (Family.V4 address)))).0 (or_none _ _ (no_network (nat_lt address.len 32) iface (Family.V4 (network_of address)) (metric_of iface)) has))
+  of_address : (outlet : Outlet) (address : Net4) → has_row (address_rows outlet address) (Addr index net) ≡ true → Addr index net ≡ Addr outlet.iface (Family.V4 address)
+  of_address outlet address has =
+      row_cmp_exact (Addr index net) (Addr outlet.iface (Family.V4 address))
+      ((Equal-is (row_cmp (Addr index net) (Addr outlet.iface (Family.V4 address)))).0 (or_none _ _ (no_network (nat_lt address.len 32) outlet.iface (Family.V4 (network_of address)) outlet.metric) has))
 
   -- ---- the basis
 
-  record OfLine (iface : IfIndex) (line : Option StaticLine) : Type 0 where
-    the_line : StaticLine
-    is_line : line ≡ Some the_line
-    same : Addr index net ≡ Addr iface (Family.V4 the_line.address)
+  record OfStatic (outlet : Outlet) (static : Option Net4) : Type 0 where
+    address : Net4
+    is_static : static ≡ Some address
+    same : Addr index net ≡ Addr outlet.iface (Family.V4 address)
 
-  of_line : (iface : IfIndex) (up : Bool) (line : Option StaticLine) → has_row (static_rows iface up line) (Addr index net) ≡ true
-      → (up ≡ true) × OfLine iface line
-  of_line iface false line has = cc
-  of_line iface true None has = cc
-  of_line iface true (Some line) has = (
+  of_static : (outlet : Outlet) (in_force : Bool) (static : Option Net4) (router : Option Ip4) → has_row (static_rows outlet in_force static router) (Addr index net) ≡ true
+      → (in_force ≡ true) × OfStatic outlet static
+  of_static outlet false static router has = cc
+  of_static outlet true None router has = cc
+  of_static outlet true (Some address) router has = (
     refl,
     record {
-      the_line = line;
-      is_line = refl;
-      same = of_address iface line.address (or_none _ _ (no_router iface line.address line.router)
-          (sym (list_any-append (is_at (row_cmp (Addr index net))) (address_rows iface line.address) (router_routes iface line.address line.router)) ∙ has));
+      address = address;
+      is_static = refl;
+      same = of_address outlet address (or_none _ _ (no_router outlet address router)
+          (sym (list_any-append (is_at (row_cmp (Addr index net))) (address_rows outlet address) (router_routes outlet address router)) ∙ has));
     },
   )
 
-  record OfLease (iface : IfIndex) (held : Option LeaseContent) : Type 0 where
+  record OfLease (outlet : Outlet) (held : Option LeaseContent) : Type 0 where
     lease : LeaseContent
     is_held : held ≡ Some lease
-    same : Addr index net ≡ Addr iface (Family.V4 lease.net)
+    same : Addr index net ≡ Addr outlet.iface (Family.V4 lease.net)
 
-  of_lease : (iface : IfIndex) (held : Option LeaseContent) → has_row (lease_rows iface held) (Addr index net) ≡ true → OfLease iface held
-  of_lease iface None has = cc
-  of_lease iface (Some lease) has =
-      let classless : Option (List ClasslessRoute) = option_and_then routes_in (value_in CLASSLESS_ROUTES lease.values) in
-      let routers : Option (List Ip4) = option_and_then addrs_in (value_in ROUTERS lease.values) in
+  of_lease : (outlet : Outlet) (router : Option Ip4) (held : Option LeaseContent) → has_row (lease_rows outlet router held) (Addr index net) ≡ true → OfLease outlet held
+  of_lease outlet router None has = cc
+  of_lease outlet router (Some lease) has =
+      let classless : Option (List ClasslessRoute) = classless_in lease.values in
+      let chosen : Option Ip4 = router_for router lease.values in
       record {
         lease = lease;
         is_held = refl;
-        same = of_address iface lease.net (or_none _ _ (no_lease_routes iface lease.net classless routers)
-            (sym (list_any-append (is_at (row_cmp (Addr index net))) (address_rows iface lease.net) (lease_routes iface lease.net classless routers)) ∙ has));
+        same = of_address outlet lease.net (or_none _ _ (no_lease_routes outlet lease.net classless chosen)
+            (sym (list_any-append (is_at (row_cmp (Addr index net))) (address_rows outlet lease.net) (lease_routes outlet lease.net classless chosen)) ∙ has));
       }
 
-  of_local : (iface : IfIndex) (held : Option Ip4) → has_row (local_rows iface held) (Addr index net) ≡ true
-      → (addr : Ip4) × (held ≡ Some addr) × (Addr index net ≡ Addr iface (Family.V4 (local_net addr)))
-  of_local iface None has = cc
-  of_local iface (Some addr) has = (addr, refl, of_address iface (local_net addr) has)
+  of_local : (outlet : Outlet) (held : Option Ip4) → has_row (local_rows outlet held) (Addr index net) ≡ true
+      → (addr : Ip4) × (held ≡ Some addr) × (Addr index net ≡ Addr outlet.iface (Family.V4 (local_net addr)))
+  of_local outlet None has = cc
+  of_local outlet (Some addr) has = (addr, refl, of_address outlet (local_net addr) has)
 
   same_index : (iface : IfIndex) (other : Net) → Addr index net ≡ Addr iface other → index ≡ iface
   same_index iface other same = λ i. record { number = row_iface (same i) }
@@ -208,14 +207,20 @@ module _ (index : IfIndex) (net : Net) where
     abbrev here : IfIndex
     here = iface.managed.spec.index
 
-    abbrev line_rows : List HostRow
-    line_rows = static_rows here (iface.up && not iface.stopped) iface.managed.conf.line
+    abbrev outlet : Outlet
+    outlet = outlet_of iface.managed
+
+    abbrev conf : IfConf
+    conf = iface.managed.conf
+
+    abbrev configured_rows : List HostRow
+    configured_rows = static_rows outlet (iface.up && not iface.stopped) conf.address conf.router
 
     abbrev leased_rows : List HostRow
-    leased_rows = lease_rows here (held_of iface.dhcp4)
+    leased_rows = lease_rows outlet conf.router (held_of iface.dhcp4)
 
     abbrev own_rows : List HostRow
-    own_rows = local_rows here (held_in iface.local.state)
+    own_rows = local_rows outlet (held_in iface.local.state)
 
     abbrev HasRow : List HostRow → Type 0
     HasRow rows = has_row rows (Addr index net) ≡ true
@@ -223,15 +228,15 @@ module _ (index : IfIndex) (net : Net) where
     abbrev Found : Type 0
     Found = (index ≡ here) × (StaticBasis site net past ⊎ (StrongBasis site net past ⊎ Lease net))
 
-    by_line : Keeps site clean iface past → HasRow line_rows → Found
-    by_line k h =
-        let g = of_line here (iface.up && not iface.stopped) iface.managed.conf.line h in
+    by_conf : Keeps site clean iface past → HasRow configured_rows → Found
+    by_conf k h =
+        let g = of_static outlet (iface.up && not iface.stopped) conf.address conf.router h in
         let on : (iface.up ≡ true) × (iface.stopped ≡ false) = both_up iface.up iface.stopped g.0 in (
-          same_index here (Family.V4 g.1.the_line.address) g.1.same,
+          same_index here (Family.V4 g.1.address) g.1.same,
           inl (record {
-            line = g.1.the_line;
-            of_line = g.1.is_line;
-            gives = same_net here (Family.V4 g.1.the_line.address) g.1.same;
+            address = g.1.address;
+            configured = g.1.is_static;
+            gives = same_net here (Family.V4 g.1.address) g.1.same;
             up = sym (k.carrier on.1) ∙ on.0;
             running = sym k.stopped ∙ on.1;
           }),
@@ -239,7 +244,7 @@ module _ (index : IfIndex) (net : Net) where
 
     by_choice : Keeps site clean iface past → HasRow own_rows → Found
     by_choice k h =
-        let g = of_local here (held_in iface.local.state) h in (
+        let g = of_local outlet (held_in iface.local.state) h in (
           same_index here (Family.V4 (local_net g.0)) g.2,
           inr (inl (state_basis site clean past g.0 iface.local.state g.1 (same_net here (Family.V4 (local_net g.0)) g.2) k.bears)),
         )
@@ -250,17 +255,17 @@ module _ (index : IfIndex) (net : Net) where
 
     by_lease : Leases → HasRow leased_rows → Found
     by_lease leases h =
-        let g = of_lease here (held_of iface.dhcp4) h in (
+        let g = of_lease outlet conf.router (held_of iface.dhcp4) h in (
           same_index here (Family.V4 g.lease.net) g.same,
           inr (inr (subst Lease (sym (same_net here (Family.V4 g.lease.net) g.same)) (leases g.lease g.is_held))),
         )
 
     pub iface_basis : Keeps site clean iface past → Leases → HasRow (iface_rows iface) → Found
     iface_basis k leases has =
-        elim (either _ _ (sym (list_any-append (is_at (row_cmp (Addr index net))) (line_rows ++ leased_rows) own_rows) ∙ has)) [
+        elim (either _ _ (sym (list_any-append (is_at (row_cmp (Addr index net))) (configured_rows ++ leased_rows) own_rows) ∙ has)) [
           | inl other ↦
-              elim (either _ _ (sym (list_any-append (is_at (row_cmp (Addr index net))) line_rows leased_rows) ∙ other)) [
-                | inl line ↦ by_line k line
+              elim (either _ _ (sym (list_any-append (is_at (row_cmp (Addr index net))) configured_rows leased_rows) ∙ other)) [
+                | inl configured ↦ by_conf k configured
                 | inr leased ↦ by_lease leases leased
               ]
           | inr choice ↦ by_choice k choice

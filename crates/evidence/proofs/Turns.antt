@@ -191,7 +191,7 @@ pub opened_own : (managed : List Managed) (specs : List IfSpec) (opening : Openi
     → opening.life.client.own ≡ map (λ spec. spec.mac) specs
 opened_own managed specs opening is = ap (λ (client : Client). client.own) (opening_shows managed specs opening.begin opening.calls opening.life is).shown.client
 
--- ---- what an interface carries of static lines and of link-local addresses
+-- ---- what an interface carries of static addresses and of link-local addresses
 
 abbrev pub KeepsRelation : Relation
 KeepsRelation site clean f past = Keeps site clean f past

@@ -26,7 +26,7 @@ use Rattle.lease_evidence.specs.LeaseBasis.{LeaseBasis, now_in}
 abbrev pub LeasedBasis : Site → Net → List Entry → Type 0
 LeasedBasis site net past = LeaseBasis site net (now_in past) past
 
--- Why an address may be held, in what was shown: by a static line, as a link-local address, or for a lease.
+-- Why an address may be held, in what was shown: as a static address, as a link-local one, or for a lease.
 abbrev pub Basis : Site → Net → List Entry → Type 0
 Basis site net past = StaticBasis site net past ⊎ (LinkLocalBasis site net past ⊎ LeasedBasis site net past)
 

@@ -1,4 +1,4 @@
--- An example: an interface without static line chooses 169.254.1.1 by itself, and another host uses the address later.
+-- An example: an interface without static address chooses 169.254.1.1 by itself, and another host uses the address later.
 use Rattle.std.specs.Prelude.{ℕ, true, false, List, [], ◌∷◌, None}
 use Rattle.net_types.specs.declared.address.Ip4.{Ip4}
 use Rattle.net_types.specs.declared.address.Mac.{Mac}
@@ -40,7 +40,10 @@ interface = record {
     mac = client_mac;
   };
   conf = record {
+    ipv4only = false;
+    ipv6only = false;
     nodhcp = true;
+    nodhcp6 = false;
     noipv4ll = false;
     nodelay = false;
     noarp = false;
@@ -48,7 +51,10 @@ interface = record {
     release = false;
     timeout = 30;
     reboot = 5;
-    line = None;
+    metric = None;
+    address = None;
+    router = None;
+    dhcp4 = record { host = []; vendor = []; identifier = None; asked = []; refused = []; required = []; blacklist = [] };
   };
 }
 

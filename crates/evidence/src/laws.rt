@@ -10,7 +10,7 @@ ghost use Rattle.local_evidence.specs.LinkLocalBasis.{LinkLocalBasis};
 ghost use Rattle.evidence.specs.SevenTurns.{chosen_net, interface, opens, seven_shown, seven_turns};
 
 /// Law: over every list of turns and outcomes, each address that the client wants has its basis in what the life showed
-/// of its interface: a static line, a choice that passed its probes (RFC 3927, sections 2.2.1 and 2.5), or a lease that a
+/// of its interface: a static address, a choice that passed its probes (RFC 3927, sections 2.2.1 and 2.5), or a lease that a
 /// server granted (RFC 2131, section 4.4). Where DHCPv4 doesn't run it is one of the first two.
 pub fn addresses_have_a_basis()
     ensures each { AddressesHaveBasis }

@@ -1,2 +1,3 @@
-pub mod Staying
+pub mod AskedCodes
 pub mod Following
+pub mod Staying

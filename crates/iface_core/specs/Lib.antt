@@ -1,3 +1,4 @@
 pub mod Beginnings
+pub mod CodeSets
 pub mod Inputs
 pub mod Outcomes

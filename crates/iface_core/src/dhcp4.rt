@@ -1,21 +1,23 @@
 //! The DHCPv4 client of an interface, and what link-local makes of its news.
-ghost use Rattle.std.specs.Prelude.{◌≡◌, ◌<◌, ◌^◌, true, is_some, option_map, IfOk, IfSome, OnOk};
-ghost use Rattle.net_types.specs.NameText.{FitsName};
+ghost use Rattle.std.specs.Prelude.{◌≡◌, ◌<◌, ◌^◌, ◌∷◌, true, is_some, option_map, IfOk, IfSome, OnOk};
 ghost use Rattle.lease_text.specs.Bounds.{FitsLease};
 ghost use Rattle.lease_text.specs.Leases.{lease_content};
 ghost use Rattle.machine.specs.Moment.{is_due};
+ghost use Rattle.settings.specs.Fitting.{FitsManaged};
 ghost use Rattle.v4_frames.specs.Heard.{heard_shown};
-ghost use Rattle.v4_message.specs.Requests.{AskFits, ask_content};
+ghost use Rattle.v4_message.specs.Requests.{ask_content};
 ghost use Rattle.v4_client.specs.Clients.{client_made, held_of, out_content};
 ghost use Rattle.v4_client.specs.Due.{due_of};
 ghost use Rattle.v4_client.specs.Settings.{settings_content};
+ghost use Rattle.client_model.specs.declared.asking.TheConstants.{ETHERNET};
 ghost use Rattle.client_model.specs.ClientSettings.{ask_of, runs_dhcp4, settings_of};
 ghost use Rattle.client_model.specs.Dhcp4Steps as run;
 ghost use Rattle.iface_core.specs.Outcomes.{Follows, Goes, asked_in};
 
+use crate::codes::codes_of;
 use crate::local::{arm, drop_local};
 use crate::outs::Outs;
-use client_model::{ETHERNET, Iface, WANTED_CODES};
+use client_model::{ETHERNET, Iface};
 use frame_link::ArpView;
 use lease_text::Lease4;
 use machine::Machine;
@@ -29,43 +31,60 @@ use v4_client::{
 use v4_frames::Heard4;
 use v4_message::Ask4;
 
-/// DHCPv4 runs where it isn't forbidden and no static line gives an address.
+/// DHCPv4 runs where it isn't forbidden and no static address is given.
 pub fn runs_dhcp4(conf: &IfConf) -> bool
     ensures { result ≡ runs_dhcp4 conf.now }
 {
-    !conf.nodhcp && conf.line.is_none()
+    !conf.nodhcp && !conf.ipv6only && conf.address.is_none()
 }
 
-/// What a client says of itself: it is known by its hardware address.
-fn ask_of(alloc: Global, managed: &Managed) -> Result<Ask4, AllocError>
-    ensures value { IfOk result (λ ask. ask_content ask ≡ ask_of managed.now) }
-    ensures fits { IfOk result (λ ask. AskFits (ask_content ask)) }
+/// A client is known by its hardware address, where no identifier is configured (RFC 2132, section 9.14).
+fn hardware_identifier(alloc: Global, mac: Mac) -> Result<Vec<u8>, AllocError>
+    ensures { IfOk result (λ identifier. identifier.items ≡ ETHERNET ∷ mac.bytes) }
 {
-    let mut client_id = Vec::new(alloc);
-    client_id.push(ETHERNET)?;
-    client_id.extend_from_slice(&managed.spec.mac.bytes)?;
+    let mut identifier = Vec::new(alloc);
+    identifier.push(ETHERNET)?;
+    identifier.extend_from_slice(&mac.bytes)?;
+    Ok(identifier)
+}
+
+/// By what a client is known.
+fn identifier_of(alloc: Global, managed: &Managed) -> Result<Vec<u8>, AllocError>
+    ensures { IfOk result (λ identifier. identifier.items ≡ (ask_of managed.now).client_id) }
+{
+    match &managed.conf.dhcp4.identifier {
+        Some(identifier) => identifier.to_vec(alloc),
+        None => hardware_identifier(alloc, managed.spec.mac),
+    }
+}
+
+/// What a client says of itself.
+fn ask_of(alloc: Global, managed: &Managed) -> Result<Ask4, AllocError>
+    ensures { IfOk result (λ ask. ask_content ask ≡ ask_of managed.now) }
+{
+    let conf = &managed.conf.dhcp4;
     Ok(Ask4 {
-        client_id,
-        vendor: Vec::new(alloc),
-        host: Vec::new(alloc),
-        list: WANTED_CODES.to_vec(alloc)?,
+        client_id: identifier_of(alloc, managed)?,
+        vendor: conf.vendor.to_vec(alloc)?,
+        host: conf.host.to_vec(alloc)?,
+        list: codes_of(alloc, &conf.asked, &conf.refused)?,
     })
 }
 
 fn settings_of(alloc: Global, managed: &Managed) -> Result<Set4, AllocError>
-    ensures value { IfOk result (λ set. settings_content set ≡ settings_of managed.now) }
-    ensures fits { IfOk result (λ set. AskFits (ask_content set.ask)) }
+    ensures { IfOk result (λ set. settings_content set ≡ settings_of managed.now) }
 {
+    let conf = &managed.conf;
     Ok(Set4 {
         iface: managed.spec,
         ask: ask_of(alloc, managed)?,
-        nodelay: managed.conf.nodelay,
-        noarp: managed.conf.noarp,
-        broadcast: managed.conf.broadcast,
-        reboot: managed.conf.reboot,
-        required: Vec::new(alloc),
-        refused: Vec::new(alloc),
-        blacklist: Vec::new(alloc),
+        nodelay: conf.nodelay,
+        noarp: conf.noarp,
+        broadcast: conf.broadcast,
+        reboot: conf.reboot,
+        required: conf.dhcp4.required.to_vec(alloc)?,
+        refused: conf.dhcp4.refused.to_vec(alloc)?,
+        blacklist: conf.dhcp4.blacklist.to_vec(alloc)?,
     })
 }
 
@@ -75,7 +94,7 @@ pub fn client_of(
     managed: &Managed,
     kept: Option<Lease4>,
 ) -> Result<Client4, AllocError>
-    requires name { FitsName managed.now.spec.name }
+    requires managed { FitsManaged managed.now }
     requires kept { IfSome (option_map lease_content kept) FitsLease }
     ensures { IfOk result (λ client. client ≡ client_made (settings_of managed.now) (option_map lease_content kept)) }
 {

@@ -59,12 +59,14 @@ fn rest(alloc: Global, beginning: Beginning) -> Result<Iface, AllocError>
     ensures { IfOk result (λ iface. iface ≡ run.resting (beginning_of beginning)) }
 {
     let Beginning { managed, kept } = beginning;
+    let dhcp4 = client_of(alloc, &managed, kept)?;
+    let local = ll_off(managed.spec.index);
     Ok(Iface {
         managed,
         up: false,
         stopped: false,
-        dhcp4: client_of(alloc, &managed, kept)?,
-        local: ll_off(managed.spec.index),
+        dhcp4,
+        local,
     })
 }
 

@@ -4,6 +4,7 @@
 #![tactic(auto)]
 
 mod beginnings;
+mod codes;
 mod dhcp4;
 mod inputs;
 mod interfaces;

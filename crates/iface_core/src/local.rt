@@ -19,11 +19,11 @@ use settings::IfConf;
 /// The milliseconds of a second.
 const SECOND: u64 = 1000;
 
-/// A link-local address is chosen where no static line gives an address, and it isn't forbidden.
+/// A link-local address is chosen where no static address is given, and it isn't forbidden.
 fn chooses_local(conf: &IfConf) -> bool
     ensures { result ≡ run.chooses_local conf.now }
 {
-    !conf.noipv4ll && conf.line.is_none()
+    !conf.noipv4ll && !conf.ipv6only && conf.address.is_none()
 }
 
 /// What follows where no lease comes in time.

@@ -1,5 +1,5 @@
 -- After the opening no lease is held, whatever was kept.
-use Rattle.std.proofs.Common.{◌≡◌, ℕ, ◌+◌, ◌*◌, Bool, true, false, not, ◌&&◌, ◌||◌, ◌++◌, nat_eq, [], Option, Some, None, refl, sym, subst, ◌∙◌, append-nil}
+use Rattle.std.proofs.Common.{List, ◌≡◌, ℕ, ◌+◌, ◌*◌, Bool, true, false, not, ◌&&◌, ◌||◌, ◌++◌, nat_eq, [], Option, Some, None, refl, sym, subst, ◌∙◌, append-nil}
 use Rattle.std.specs.Prelude.{if◌then◌else◌}
 use Rattle.machine.specs.Moment.{is_due}
 use Rattle.net_types.proofs.CaseLaws.{gated}
@@ -26,7 +26,8 @@ use Rattle.client_model.specs.IfaceSteps.{IfaceStep, silent}
 use Rattle.client_model.specs.Interfaces.{resting, carrier_comes}
 use Rattle.client_model.specs.KeptLeases.{Beginning}
 use Rattle.client_model.specs.LocalSteps.{armed, armed_for_lease, chooses_local, fallback_of}
-use Rattle.client_model.specs.WantedRows.{iface_rows, static_rows, lease_rows, local_rows}
+use Rattle.world.specs.declared.rows.HostRow.{HostRow}
+use Rattle.client_model.specs.WantedRows.{outlet_of, iface_rows, static_rows, lease_rows, local_rows}
 use Rattle.lease_evidence.specs.HeldLeases.{Opening, opens, BeginsWithoutLease}
 
 -- ---- link-local that is armed holds nothing
@@ -67,10 +68,15 @@ module _ (b : Beginning) (up : Bool) where
         no_local = subst (λ (local : LinkLocal). HoldsNone (armed f.managed.conf at local)) (sym still.still) (armed_none f.managed.conf at b.managed.spec.index);
       })
 
-  rows_static : (f : Iface) → HoldsNothing f → iface_rows f ≡ static_rows b.managed.spec.index up b.managed.conf.line
+  abbrev statics : List HostRow
+  statics = static_rows (outlet_of b.managed) up b.managed.conf.address b.managed.conf.router
+
+  rows_static : (f : Iface) → HoldsNothing f → iface_rows f ≡ statics
   rows_static f h =
-      (λ i. (static_rows (h.managed_is i).spec.index (h.up_is i) (h.managed_is i).conf.line ++ lease_rows (h.managed_is i).spec.index (h.none i)) ++ local_rows (h.managed_is i).spec.index (h.no_local i))
-      ∙ append-nil (static_rows b.managed.spec.index up b.managed.conf.line ++ []) ∙ append-nil (static_rows b.managed.spec.index up b.managed.conf.line)
+      (λ i. (static_rows (outlet_of (h.managed_is i)) (h.up_is i) (h.managed_is i).conf.address (h.managed_is i).conf.router
+      ++ lease_rows (outlet_of (h.managed_is i)) (h.managed_is i).conf.router (h.none i))
+      ++ local_rows (outlet_of (h.managed_is i)) (h.no_local i))
+      ∙ append-nil (statics ++ []) ∙ append-nil statics
 
 -- ---- the opening
 

@@ -1,5 +1,5 @@
 -- Each turn of an interface, and its opening, keep what it carries for its lease.
-use Rattle.std.proofs.Common.{◌≡◌, ℕ, ◌<◌, ◌^◌, Bool, true, false, List, [], ◌∷◌, map, length, Option, refl, sym, ap, subst, ◌∙◌, arith, lit<, if◌then◌else◌}
+use Rattle.std.proofs.Common.{◌≡◌, ℕ, ◌<◌, ◌^◌, Bool, true, false, List, [], ◌∷◌, map, Option, refl, sym, ap, subst, ◌∙◌, lit<, if◌then◌else◌}
 use Rattle.std.specs.Prelude.{IfSome, option_to_list}
 use Rattle.machine.specs.Moment.{is_due}
 use Rattle.net_types.specs.Marks.{AreBytes}
@@ -23,6 +23,7 @@ use Rattle.v4_client.specs.Steps.{rests}
 use Rattle.v4_client.specs.Ticks.{tick_row}
 use Rattle.world.specs.declared.wakes.Event.TheVariants.{Quiet}
 use Rattle.settings.specs.Fitting.{FitsManaged}
+use Rattle.client_model.proofs.AskFitting.{ask_fits}
 use Rattle.settings.specs.declared.interfaces.Managed.{Managed}
 use Rattle.script_model.specs.IfaceSets.{is_in}
 use Rattle.client_model.specs.declared.interfaces.Iface.{Iface}
@@ -117,15 +118,12 @@ module _ (site : Site) (fits : FitsManaged site.managed) (clean : Type 0) (salt 
 made_sound : (m : Managed) (kept : Option LeaseContent) → FitsManaged m → IfSome kept FitsLease → IsSound (client_made (settings_of m) kept)
 made_sound m kept fits within = record {
   name = fits.name;
-  ask = record { client_id = client_id; vendor = lit< tt; host = lit< tt; list = lit< tt };
+  ask = ask_fits m fits;
   state = tt;
   kept = within;
   held = tt;
   fresh = record { each = tt; rising = tt };
 }
-  where
-    client_id : length (1 ∷ m.spec.mac.bytes) < 256
-    client_id = let six : length m.spec.mac.bytes ≡ 6 = fits.mac.six in omega arith
 
 module _ (own : List Mac) (clean : Type 0) (at salt : ℕ) (early : at < 10 ^ 15) (offers : List Offer) (b : Beginning) (fits : FitsManaged b.managed) (within : IfSome b.kept FitsLease) where
   abbrev m : Managed

@@ -220,7 +220,10 @@ interface_fits = record {
   index = (lit≤ tt, lit≤ tt);
   name = record { spelled = refl; within = lit≤ tt; fifteen = refl; padded = refl };
   mac = record { six = refl; range = all_bytes client_mac.bytes (all_small client_mac.bytes refl) };
-  line = tt;
+  metric = tt;
+  address = tt;
+  router = tt;
+  dhcp4 = record { host = lit< tt; vendor = lit< tt; identifier = tt };
 }
 
 pub beginning_fits : FitsBeginning beginning

@@ -17,7 +17,7 @@ use Rattle.client_model.specs.Fitting.{FitsBeginning}
 use Rattle.client_model.specs.Interfaces.{opened}
 use Rattle.client_model.specs.KeptLeases.{Beginning}
 use Rattle.client_model.specs.IfaceTurns.{Turn, iface_turned}
-use Rattle.client_model.specs.WantedRows.{static_rows, iface_rows}
+use Rattle.client_model.specs.WantedRows.{outlet_of, static_rows, iface_rows}
 use Rattle.evidence_words.specs.Entries.{Entry, Offer}
 use Rattle.evidence_words.specs.Inputs.{Site, offers_at}
 use Rattle.lease_evidence.specs.LeaseBasis.{LeaseBasis, now_in}
@@ -88,8 +88,9 @@ HeldLeasesHaveBasis = (own : List Mac) (beginning : Beginning) (opening : Openin
     → FitsBeginning beginning → IsLived own beginning opening mets → held_of (iface_after own beginning opening mets).dhcp4 ≡ Some lease
     → LeaseBasis (site_of own beginning.managed opening) (V4 lease.net) (now_in (shown opening mets)) (shown opening mets)
 
--- After the opening an interface holds no lease, whatever was kept: its rows are those of a static line alone.
+-- After the opening an interface holds no lease, whatever was kept: its rows are those of a static address alone.
 pub record BeginsWithoutLease (beginning : Beginning) (opening : Opening) : Type 0 where
   pub none_held : held_of (opens beginning opening).iface.dhcp4 ≡ None
   pub static_rows_alone : iface_rows (opens beginning opening).iface
-      ≡ static_rows beginning.managed.spec.index (is_up opening.up beginning.managed.spec.index.number) beginning.managed.conf.line
+      ≡ static_rows (outlet_of beginning.managed) (is_up opening.up beginning.managed.spec.index.number)
+      beginning.managed.conf.address beginning.managed.conf.router

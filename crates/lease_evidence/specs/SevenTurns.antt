@@ -39,7 +39,10 @@ interface = record {
     mac = client_mac;
   };
   conf = record {
+    ipv4only = false;
+    ipv6only = false;
     nodhcp = false;
+    nodhcp6 = false;
     noipv4ll = true;
     nodelay = true;
     noarp = false;
@@ -47,7 +50,10 @@ interface = record {
     release = false;
     timeout = 0;
     reboot = 0;
-    line = None;
+    metric = None;
+    address = None;
+    router = None;
+    dhcp4 = record { host = []; vendor = []; identifier = None; asked = []; refused = []; required = []; blacklist = [] };
   };
 }
 

@@ -53,7 +53,7 @@ Undisturbed site e past = GoesOn true (index_at site) e.event
 abbrev pub StrongBasis : Site → Net → List Entry → Type 0
 StrongBasis site net past = LocalChoice (Undisturbed site) (Undisturbed site) site net past
 
--- An address for which fewer than three probes were taken has no basis but a static line.
+-- An address for which fewer than three probes were taken has no basis but as a static one.
 abbrev pub NeedsThreeProbes : Type 0
 NeedsThreeProbes = (site : Site) (addr : Ip4) (past : List Entry) → probes_taken site addr past < 3
     → LinkLocalBasis site (V4 (local_net addr)) past → ⊥

@@ -8,12 +8,12 @@ use Rattle.std.proofs.lemmas.Slice.Eq.{bytes_eq-Decides}
 use Rattle.std.proofs.Math.Nat.{div-div-eq-div-mul, pow-suc}
 use Rattle.net_types.specs.declared.interface.IfIndex.{IfIndex}
 use Rattle.net_types.specs.Reads.{Reads}
-use Rattle.net_types.specs.Marks.{Lacks}
+use Rattle.net_types.specs.Marks.{Lacks, IsPrintable, is_printable}
 use Rattle.net_types.specs.Cutting.{pair_at, after_word, list_at, list_text, FitsList}
 use Rattle.net_types.specs.Numbers.{number_at, is_numeral}
 use Rattle.net_types.proofs.ReadsLaws.{some_same, passed, mapped, steps_assoc, same_reader, word_reads, pair_reads, map_reads}
 use Rattle.net_types.proofs.ListLaws.{list_reads}
-use Rattle.net_types.proofs.MarkLaws.{decimal_lacks, lacks-append}
+use Rattle.net_types.proofs.MarkLaws.{decimal_lacks, decimal_printable, only-append}
 use Rattle.world.specs.declared.wakes.Begin.{Begin}
 use Rattle.script_model.specs.IfaceSets.{is_up}
 use Rattle.script_model.specs.Lines as lines
@@ -22,7 +22,8 @@ use Rattle.replay_text.specs.declared.carriers.Listed.{Listed}
 use Rattle.replay_text.specs.RowReading.{iface_at}
 use Rattle.replay_text.specs.LineReading.{moment_at, salt_at}
 use Rattle.replay_text.specs.Carriers.{listed_at, list_of_listed_at, bits_at, up_at, begin_at}
-use Rattle.replay_text.proofs.RowLaws.{FitsIface, iface_reads, decimal_line, joined_line}
+use Rattle.replay_text.proofs.RowLaws.{FitsIface, iface_reads}
+use Rattle.replay_text.proofs.Printables.{joined_printable}
 use Rattle.replay_text.proofs.LineLaws.{moment_reads, moment_lacks, salt_reads, salt_lacks}
 
 -- ---- bits
@@ -324,29 +325,29 @@ begin_reads count few =
 pub begin_spelled : (begin : Begin) → start_text begin ≡ codes "start " ++ begin_words begin
 begin_spelled begin = simp append_assoc
 
--- ---- no line feed
+-- ---- printable
 
-join_line : (ls : List Listed) → AllByRecursion FitsListed ls → Lacks 10 (join_with_byte 44 (map decimal (listed_numbers ls)))
-join_line [] fits = refl
-join_line (l ∷ []) fits = let within : l.iface.number ≤ 64 = fits.0.1 in decimal_line l.iface.number (omega arith)
-join_line (l ∷ next ∷ ls) fits =
+join_printable : (ls : List Listed) → AllByRecursion FitsListed ls → IsPrintable (join_with_byte 44 (map decimal (listed_numbers ls)))
+join_printable [] fits = refl
+join_printable (l ∷ []) fits = let within : l.iface.number ≤ 64 = fits.0.1 in decimal_printable l.iface.number (omega arith)
+join_printable (l ∷ next ∷ ls) fits =
     let within : l.iface.number ≤ 64 = fits.0.1 in
-    lacks-append 10 (decimal l.iface.number) (44 ∷ join_with_byte 44 (map decimal (listed_numbers (next ∷ ls)))) (decimal_line l.iface.number (omega arith))
-    (lacks-append 10 (codes ",") (join_with_byte 44 (map decimal (listed_numbers (next ∷ ls)))) refl (join_line (next ∷ ls) fits.1))
+    only-append is_printable (decimal l.iface.number) (44 ∷ join_with_byte 44 (map decimal (listed_numbers (next ∷ ls)))) (decimal_printable l.iface.number (omega arith))
+    (only-append is_printable (codes ",") (join_with_byte 44 (map decimal (listed_numbers (next ∷ ls)))) refl (join_printable (next ∷ ls) fits.1))
 
-list_line : (ls : List Listed) → AllByRecursion FitsListed ls → Lacks 10 (lines.list_text (listed_numbers ls))
-list_line [] fits = refl
-list_line (l ∷ ls) fits = join_line (l ∷ ls) fits
+list_printable : (ls : List Listed) → AllByRecursion FitsListed ls → IsPrintable (lines.list_text (listed_numbers ls))
+list_printable [] fits = refl
+list_printable (l ∷ ls) fits = join_printable (l ∷ ls) fits
 
-up_line : (count up : ℕ) → count ≤ 64 → up < 2 ^ count → Lacks 10 (up_text up)
+up_printable : (count up : ℕ) → count ≤ 64 → up < 2 ^ count → IsPrintable (up_text up)
 unfolding listed_ups up_text
-up_line count up few small =
+up_printable count up few small =
     let numbers : listed_numbers (listed_ups 1 count up) ≡ ups 1 count up = same_numbers (ups 1 count up) in
     let spelled : lines.list_text (listed_numbers (listed_ups 1 count up)) ≡ up_text up = ap lines.list_text (numbers ∙ sym (up_list_is up count few small)) in
-    subst (Lacks 10) spelled (list_line (listed_ups 1 count up) (ups_fit count 1 up (omega arith) (omega arith)))
+    subst (IsPrintable) spelled (list_printable (listed_ups 1 count up) (ups_fit count 1 up (omega arith) (omega arith)))
 
-pub begin_line : (count : ℕ) (begin : Begin) → count ≤ 64 → FitsBegin count begin → Lacks 10 (begin_words begin)
-begin_line count begin few fits =
-    joined_line (decimal begin.at) (decimal begin.salt ++ 32 ∷ (codes "up " ++ up_text begin.up)) (let small = fits.at in decimal_line begin.at (omega arith))
-    (joined_line (decimal begin.salt) (codes "up " ++ up_text begin.up) (decimal_line begin.salt fits.salt)
-    (lacks-append 10 (codes "up ") (up_text begin.up) refl (up_line count begin.up few fits.up)))
+pub begin_printable : (count : ℕ) (begin : Begin) → count ≤ 64 → FitsBegin count begin → IsPrintable (begin_words begin)
+begin_printable count begin few fits =
+    joined_printable (decimal begin.at) (decimal begin.salt ++ 32 ∷ (codes "up " ++ up_text begin.up)) (let small = fits.at in decimal_printable begin.at (omega arith))
+    (joined_printable (decimal begin.salt) (codes "up " ++ up_text begin.up) (decimal_printable begin.salt fits.salt)
+    (only-append is_printable (codes "up ") (up_text begin.up) refl (up_printable count begin.up few fits.up)))

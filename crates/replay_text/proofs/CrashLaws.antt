@@ -5,16 +5,16 @@ use Rattle.std.specs.Fmt.{decimal}
 use Rattle.std.proofs.lemmas.List.{append_assoc}
 use Rattle.std.proofs.lemmas.Slice.Eq.{bytes_eq-Decides}
 use Rattle.net_types.specs.Reads.{Reads}
-use Rattle.net_types.specs.Marks.{Lacks}
+use Rattle.net_types.specs.Marks.{Lacks, IsPrintable}
 use Rattle.net_types.specs.Numbers.{number_at, is_numeral}
 use Rattle.net_types.proofs.ReadsLaws.{some_same, mapped, pair_reads, map_reads}
 use Rattle.net_types.proofs.NumberLaws.{number_reads}
-use Rattle.net_types.proofs.MarkLaws.{decimal_lacks}
+use Rattle.net_types.proofs.MarkLaws.{decimal_lacks, decimal_printable}
 use Rattle.script_model.specs.declared.crashing.CrashKind.{CrashKind}
 use Rattle.script_model.specs.declared.crashing.CrashKind.TheVariants.{Old, New}
 use Rattle.script_model.specs.Crashes.{CrashScript, calls_text, kind_text, crash_text, FitsCrash}
 use Rattle.replay_text.specs.CrashReading.{calls_at, kind_at, crash_at}
-use Rattle.replay_text.proofs.RowLaws.{joined_line}
+use Rattle.replay_text.proofs.Printables.{joined_printable}
 
 -- ---- how many calls pass
 
@@ -62,9 +62,9 @@ calls_lack : (calls : Option ℕ) → FitsCalls calls → Lacks 32 (calls_text c
 calls_lack None fits = refl
 calls_lack (Some n) fits = decimal_lacks n 32 fits refl
 
-calls_line : (calls : Option ℕ) → FitsCalls calls → Lacks 10 (calls_text calls)
-calls_line None fits = refl
-calls_line (Some n) fits = decimal_lacks n 10 fits refl
+calls_printable : (calls : Option ℕ) → FitsCalls calls → IsPrintable (calls_text calls)
+calls_printable None fits = refl
+calls_printable (Some n) fits = decimal_printable n fits
 
 -- ---- what is left
 
@@ -91,9 +91,9 @@ kind_whole New = refl
 kind_reads : Reads kind_text (λ kind. Unit {0}) kind_at
 kind_reads = record { sound = λ text kind e. (kind_sound text kind e, tt); whole = λ kind fits. kind_whole kind }
 
-kind_line : (kind : CrashKind) → Lacks 10 (kind_text kind)
-kind_line Old = refl
-kind_line New = refl
+kind_printable : (kind : CrashKind) → IsPrintable (kind_text kind)
+kind_printable Old = refl
+kind_printable New = refl
 
 -- ---- crashes
 
@@ -116,5 +116,5 @@ crash_reads =
 pub crash_spelled : (crash : CrashScript) → crash_text crash ≡ codes "crash " ++ crash_words crash
 crash_spelled crash = simp append_assoc
 
-pub crash_free : (crash : CrashScript) → FitsCrash crash → Lacks 10 (crash_words crash)
-crash_free crash fits = joined_line (calls_text crash.calls) (kind_text crash.kind) (calls_line crash.calls fits) (kind_line crash.kind)
+pub crash_printable : (crash : CrashScript) → FitsCrash crash → IsPrintable (crash_words crash)
+crash_printable crash fits = joined_printable (calls_text crash.calls) (kind_text crash.kind) (calls_printable crash.calls fits) (kind_printable crash.kind)

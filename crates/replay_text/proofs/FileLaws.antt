@@ -1,39 +1,35 @@
 -- The line `file`: what is read is spelled so, and what is spelled so is read. Which names are unlike.
-use Rattle.std.proofs.Common.{◌≡◌, ℕ, zero, suc, ◌+◌, ◌≤◌, ◌<◌, Bool, true, false, cond, eqb, leb, List, [], ◌∷◌, ◌++◌, length, drop, map, get_or, Some, refl, sym, ap, ◌∙◌, subst, arith, codes, bytes_eq, IsTrue, drop-cons, add-one, Bor}
-use Rattle.std.specs.Prelude.{◌||◌}
-use Rattle.std.specs.declared.cmp.Ordering.{Ordering}
+use Rattle.std.proofs.Common.{◌≡◌, ℕ, zero, suc, ◌<◌, Bool, true, false, cond, leb, List, [], ◌∷◌, ◌++◌, length, map, get_or, Some, refl, sym, ap, ◌∙◌, arith, codes, bytes_eq, IsTrue}
+use Rattle.std.specs.Prelude.{◌||◌, String}
+use Rattle.std.specs.Global.{Global}
+use Rattle.std.proofs.lemmas.List.{map_push}
+use Rattle.std.proofs.lemmas.List.Folds.{list_any-append}
 use Rattle.std.specs.Cmp.{IsEquivalence}
-use Rattle.std.specs.List.{AllByRecursion, AllPairs, IsDistinct, list_all, list_any}
-use Rattle.std.specs.List.Sorted.{IsStrictlySortedBy}
-use Rattle.std.specs.Ordering.{is_eq, eq_by_cmp}
-use Rattle.std.specs.Set.{is_member, distinct_count}
+use Rattle.std.specs.List.{AllByRecursion, list_all, list_any}
+use Rattle.std.specs.Set.{is_member}
 use Rattle.std.specs.Str.{IsUtf8}
 use Rattle.std.specs.String.{string_bytes}
-use Rattle.std.proofs.lemmas.Bool.{and_parts, and_from, leb-true, le-leb, eqb-true, eq-eqb}
+use Rattle.std.proofs.lemmas.Bool.Decides.{nat_tests}
+use Rattle.std.proofs.lemmas.Bool.{and_parts, and_from, leb-true, le-leb}
 use Rattle.std.proofs.lemmas.Cmp.{eq_by_cmp_equiv, nat_list_cmp_total}
-use Rattle.std.proofs.lemmas.List.{append_assoc, length-map, drop_all}
-use Rattle.std.proofs.lemmas.List.Elements.{All-from_recursion}
-use Rattle.std.proofs.lemmas.List.Kept.{AllPairs-cons}
-use Rattle.std.proofs.lemmas.Map.Keys.{IsDistinct-from_sorted}
-use Rattle.std.proofs.lemmas.Map.Made.{IsDistinct-from_count, distinct_count-from_IsDistinct, length-from_keys}
+use Rattle.std.proofs.lemmas.List.{append_assoc}
 use Rattle.std.proofs.lemmas.Map.Text.{is_eq-slice_cmp}
 use Rattle.std.proofs.lemmas.Slice.Eq.{bytes_eq-Decides}
 use Rattle.std.proofs.lemmas.Str.{IsUtf8-from_ascii}
 use Rattle.net_types.specs.Reads.{Reads}
-use Rattle.net_types.specs.Marks.{Lacks, AreBytes}
+use Rattle.net_types.specs.Marks.{Lacks, AreBytes, IsPrintable, is_printable}
 use Rattle.net_types.specs.HexText.{hex_text}
 use Rattle.net_types.proofs.ReadsLaws.{some_same, pair_reads, map_reads, guard_reads}
 use Rattle.net_types.proofs.HexLaws.{hex_reads}
-use Rattle.net_types.proofs.MarkLaws.{lacks_from, hex_lacks}
-use Rattle.world.specs.FileNames.{is_file_byte, IsFileName, name_cmp, is_name}
+use Rattle.net_types.proofs.MarkLaws.{lacks_from, hex_printable, only_weaker}
+use Rattle.world.specs.FileNames.{is_file_byte, IsFileName, is_name}
 use Rattle.world.specs.FileLists.{StoreFile, file_name}
 use Rattle.script_model.specs.FirstFiles.{file_text, FitsFile, UnlikeNames}
 use Rattle.replay_text.specs.FileReading.{is_file_name, file_name_at, file_at}
-use Rattle.replay_text.specs.KindTests.{have_unlike_names}
 use Rattle.replay_text.specs.ScriptContent.{file_of}
 use Rattle.replay_text.specs.declared.script.FileLine.{FileLine}
-use Rattle.replay_text.proofs.RowLaws.{joined_line}
-use Rattle.replay_text.proofs.TestLaws.{by_recursion}
+use Rattle.replay_text.proofs.Printables.{joined_printable}
+use Rattle.replay_text.specs.KindTests.{AreNames}
 
 -- ---- one file
 
@@ -84,8 +80,11 @@ file_reads =
 pub file_spelled : (file : StoreFile) → file_text file ≡ codes "file " ++ file_words file
 file_spelled file = simp append_assoc
 
-pub file_line : (file : StoreFile) → FitsFile file → Lacks 10 (file_words file)
-file_line file fits = joined_line file.name (hex_text file.bytes) (name_lacks 10 file.name refl fits.name) (hex_lacks file.bytes 10 fits.octets refl)
+name_byte : (b : ℕ) → is_file_byte b ≡ true → is_printable b ≡ true
+name_byte b h = grind (arith, nat_tests)
+
+pub file_printable : (file : StoreFile) → FitsFile file → IsPrintable (file_words file)
+file_printable file fits = joined_printable file.name (hex_text file.bytes) (only_weaker is_file_byte is_printable file.name name_byte fits.name) (hex_printable file.bytes fits.octets)
 
 -- a name is text
 
@@ -120,94 +119,47 @@ apart_whole a b unlike =
       | false ↦ λ t. is_eq-slice_cmp a b ∙ t
     ] refl
 
-others_sound : (file : StoreFile) (files : List StoreFile) → AllByRecursion (are_apart file.name) (map file_name files) → AllByRecursion (UnlikeNames file) files
-others_sound file [] apart = tt
-others_sound file (other ∷ files) apart = (apart_sound file.name other.name apart.0, others_sound file files apart.1)
-
-others_whole : (file : StoreFile) (files : List StoreFile) → AllByRecursion (UnlikeNames file) files → AllByRecursion (are_apart file.name) (map file_name files)
-others_whole file [] unlike = tt
-others_whole file (other ∷ files) unlike = (apart_whole file.name other.name unlike.0, others_whole file files unlike.1)
-
-pairs_sound : (files : List StoreFile) → IsDistinct is_name (map file_name files) → AllPairs UnlikeNames files
-unfolding IsDistinct
-pairs_sound [] distinct = λ i j d below within. absurd (omega arith)
-pairs_sound (file ∷ files) distinct =
-    AllPairs-cons UnlikeNames file files (All-from_recursion (UnlikeNames file) files (others_sound file files distinct.0)) (pairs_sound files distinct.1)
-
-pairs_whole : (files : List StoreFile) → AllPairs UnlikeNames files → IsDistinct is_name (map file_name files)
-unfolding IsDistinct
-pairs_whole [] pairs = tt
-pairs_whole (file ∷ files) pairs =
-    let first : AllByRecursion (UnlikeNames file) files = by_recursion (UnlikeNames file) files (λ k d within. pairs 0 (suc k) d (omega arith) (omega arith)) in
-    (others_whole file files first, pairs_whole files (λ i j d below within. pairs (suc i) (suc j) d (omega arith) (omega arith)))
-
-pub unlike_sound : (files : List StoreFile) → have_unlike_names files ≡ true → AllPairs UnlikeNames files
-unfolding have_unlike_names
-unlike_sound files e =
-    pairs_sound files (IsDistinct-from_count names_equal (map file_name files) (eqb-true _ _ e ∙ sym (length-map files file_name)))
-
-pub unlike_whole : (files : List StoreFile) → AllPairs UnlikeNames files → have_unlike_names files ≡ true
-unfolding have_unlike_names
-unlike_whole files pairs = eq-eqb _ _ (distinct_count-from_IsDistinct names_equal (map file_name files) (pairs_whole files pairs) ∙ length-map files file_name)
-
 -- ---- the set of names
 
-abbrev seen_cmp : Bor (List ℕ) → Bor (List ℕ) → Ordering
-seen_cmp a b = name_cmp a.now b.now
+abbrev has_name : List (String Global) → List ℕ → Bool
+has_name keys q = list_any (λ key. is_name q (string_bytes key)) keys
 
-abbrev seen : List (Bor (List ℕ)) → List (List ℕ)
-seen keys = map (λ k. k.now) keys
+either : (same held : Bool) → cond same true held ≡ (held || (same || false))
+either true true = refl
+either true false = refl
+either false true = refl
+either false false = refl
 
-abbrev names_of : List FileLine → List (List ℕ)
-names_of files = map file_name (map file_of files)
+more_names : (files more : List FileLine) (file : FileLine) → more ≡ files ++ file ∷ [] → map file_name (map file_of more) ≡ map file_name (map file_of files) ++ string_bytes file.name ∷ []
+more_names files more file e =
+    ap (λ fs. map file_name (map file_of fs)) e ∙ ap (map file_name) (map_push file_of files file) ∙ map_push file_name (map file_of files) (file_of file)
 
-abbrev has_key : List (Bor (List ℕ)) → Bor (List ℕ) → Bool
-has_key keys q = list_any (λ k. is_eq (seen_cmp q k)) keys
+pub names_more : (old new : List (String Global)) (key : String Global) (files more : List FileLine) (file : FileLine) → string_bytes key ≡ string_bytes file.name → more ≡ files ++ file ∷ []
+    → ((q : String Global) → has_name new (string_bytes q) ≡ cond (is_name (string_bytes key) (string_bytes q)) true (has_name old (string_bytes q)))
+    → AreNames old (map file_of files) → AreNames new (map file_of more)
+names_more old new key files more file named grown updates are = λ q.
+    let names = map file_name (map file_of files) in
+    let same : is_name (string_bytes key) (string_bytes q) ≡ is_name (string_bytes q) (string_bytes file.name) = names_equal.symm (string_bytes key) (string_bytes q) ∙ ap (is_name (string_bytes q)) named in
+    updates q
+    ∙ ap (λ b. cond b true (has_name old (string_bytes q))) same
+    ∙ either (is_name (string_bytes q) (string_bytes file.name)) (has_name old (string_bytes q))
+    ∙ ap (λ b. b || (is_name (string_bytes q) (string_bytes file.name) || false)) (are q)
+    ∙ sym (list_any-append (is_name (string_bytes q)) names (string_bytes file.name ∷ []))
+    ∙ ap (λ ns. is_member is_name ns (string_bytes q)) (sym (more_names files more file grown))
 
--- the keys and the names of the other files are all names
-abbrev pub AreNames : List (Bor (List ℕ)) → List FileLine → List FileLine → Type 0
-AreNames keys others files = (q : Bor (List ℕ)) → (has_key keys q || is_member is_name (names_of others) q.now) ≡ is_member is_name (names_of files) q.now
+or_parts : (a b : Bool) → (a || b) ≡ false → (a ≡ false) × (b ≡ false)
+or_parts false false e = (refl, refl)
+or_parts false true e = cc
+or_parts true b e = cc
 
-moved : (same held others : Bool) → (cond same true held || others) ≡ (held || (same || others))
-moved true true others = refl
-moved true false others = refl
-moved false held others = refl
+-- a file whose name none has
+pub new_unlike : (files : List StoreFile) (file : StoreFile) → is_member is_name (map file_name files) file.name ≡ false → AllByRecursion (λ other. UnlikeNames other file) files
+new_unlike [] file e = tt
+new_unlike (other ∷ files) file e =
+    let parts = or_parts (is_name file.name other.name) (is_member is_name (map file_name files) file.name) e in
+    (λ same. apart_sound file.name other.name parts.0 (sym same), new_unlike files file parts.1)
 
-pub next_name : (old new : List (Bor (List ℕ))) (key : Bor (List ℕ)) (files : List FileLine) (i : ℕ) (d : FileLine) → i < length files → key.now ≡ string_bytes (get_or files i d).name → ((q : Bor (List ℕ)) → has_key new q ≡ cond (is_eq (seen_cmp key q)) true (has_key old q)) → AreNames old (drop i files) files → AreNames new (drop (i + 1) files) files
-next_name old new key files i d within named updates are = λ q.
-    let here : drop i files ≡ get_or files i d ∷ drop (i + 1) files = rw (add-one) (drop-cons files i d within) in
-    let others = is_member is_name (names_of (drop (i + 1) files)) q.now in
-    let same : is_name key.now q.now ≡ is_name q.now (string_bytes (get_or files i d).name) = names_equal.symm key.now q.now ∙ ap (is_name q.now) named in
-    ap (λ b. b || others) (updates q ∙ ap (λ b. cond b true (has_key old q)) same)
-    ∙ moved (is_name q.now (string_bytes (get_or files i d).name)) (has_key old q) others
-    ∙ ap (λ fs. has_key old q || is_member is_name (names_of fs) q.now) (sym here)
-    ∙ are q
-
-key_seen : (keys : List (Bor (List ℕ))) (q : Bor (List ℕ)) → is_member is_name (seen keys) q.now ≡ has_key keys q
-key_seen [] q = refl
-key_seen (k ∷ keys) q = ap (λ b. is_name q.now k.now || b) (key_seen keys q)
-
-others_seen : (k : Bor (List ℕ)) (keys : List (Bor (List ℕ))) → AllByRecursion (λ y. eq_by_cmp seen_cmp k y ≡ false) keys → AllByRecursion (are_apart k.now) (seen keys)
-others_seen k [] apart = tt
-others_seen k (other ∷ keys) apart = (apart.0, others_seen k keys apart.1)
-
-distinct_seen : (keys : List (Bor (List ℕ))) → IsDistinct (eq_by_cmp seen_cmp) keys → IsDistinct is_name (seen keys)
-unfolding IsDistinct
-distinct_seen [] distinct = tt
-distinct_seen (k ∷ keys) distinct = (others_seen k keys distinct.0, distinct_seen keys distinct.1)
-
-unlike_counted : (keys : List (Bor (List ℕ))) (files : List FileLine) → IsStrictlySortedBy seen_cmp keys → AreNames keys [] files → length keys ≡ distinct_count is_name (names_of files)
-unlike_counted keys files sorted are =
-    let by_name : (q : List ℕ) → is_member is_name (seen keys) q ≡ is_member is_name (names_of files) q = λ q. let named : Bor (List ℕ) = record { ref_ptr = (0, 0); now = q } in key_seen keys named ∙ sym (no_more (has_key keys named)) ∙ are named in
-    sym (length-map keys (λ (k : Bor (List ℕ)). k.now)) ∙ length-from_keys names_equal (seen keys) (names_of files) (distinct_seen keys (IsDistinct-from_sorted seen_cmp keys sorted)) by_name
-  where
-    no_more : (b : Bool) → (b || false) ≡ b
-    no_more true = refl
-    no_more false = refl
-
-pub unlike_is : (keys : List (Bor (List ℕ))) (files : List FileLine) (i n : ℕ) → n ≡ length keys → length files ≤ i → IsStrictlySortedBy seen_cmp keys → AreNames keys (drop i files) files → eqb n (length files) ≡ have_unlike_names (map file_of files)
-unfolding have_unlike_names
-unlike_is keys files i n count end sorted are =
-    let last : drop i files ≡ [] = drop_all i files end in
-    let all : AreNames keys [] files = subst (λ fs. AreNames keys fs files) last are in
-    rw (count, unlike_counted keys files sorted all, length-map files file_of) refl
+pub unlike_new : (files : List StoreFile) (file : StoreFile) → AllByRecursion (λ other. UnlikeNames other file) files → is_member is_name (map file_name files) file.name ≡ false
+unlike_new [] file unlike = refl
+unlike_new (other ∷ files) file unlike =
+    ap (λ b. b || is_member is_name (map file_name files) file.name) (apart_whole file.name other.name (λ same. unlike.0 (sym same))) ∙ unlike_new files file unlike.1

@@ -10,7 +10,7 @@ use Rattle.net_types.specs.declared.interface.IfSpec.{IfSpec}
 use Rattle.net_types.specs.declared.interface.Name.{Name}
 use Rattle.net_types.specs.declared.address.Mac.{Mac}
 use Rattle.net_types.specs.Reads.{Reads}
-use Rattle.net_types.specs.Marks.{Lacks, AreBytes}
+use Rattle.net_types.specs.Marks.{Lacks, AreBytes, IsPrintable, is_printable}
 use Rattle.net_types.specs.AddressText.{mac_text, FitsMac}
 use Rattle.net_types.specs.NameText.{name_text, FitsName}
 use Rattle.net_types.specs.HexText.{hex_text}
@@ -18,10 +18,10 @@ use Rattle.net_types.specs.Cutting.{pair_at}
 use Rattle.net_types.proofs.ReadsLaws.{some_same, pair_reads, map_reads, guard_reads, end_reads}
 use Rattle.net_types.proofs.ChoiceLaws.{ChoiceSound, Chosen, part_sound, part_chosen, choose_reads}
 use Rattle.net_types.proofs.NumberLaws.{number_reads}
-use Rattle.net_types.proofs.NameLaws.{name_reads, name_lacks}
+use Rattle.net_types.proofs.NameLaws.{name_reads, name_lacks, name_printable}
 use Rattle.net_types.proofs.AddressLaws.{mac_reads}
 use Rattle.net_types.proofs.HexLaws.{hex_reads}
-use Rattle.net_types.proofs.MarkLaws.{decimal_lacks, hex_lacks, lacks-append, mac_lacks}
+use Rattle.net_types.proofs.MarkLaws.{decimal_lacks, decimal_printable, hex_printable, mac_printable, only-append}
 use Rattle.world.specs.declared.wakes.Event.{Event}
 use Rattle.world.specs.declared.wakes.Event.TheVariants.{Frame, Carrier, Duplicate, Release, Rebind, Stop, Quiet, End}
 use Rattle.world.specs.LinkCalls.{Given}
@@ -34,7 +34,8 @@ use Rattle.script_model.specs.ScriptTexts.{given_text}
 use Rattle.script_model.specs.Scripts.{FitsEvent, frame_room, FitsBytes, FitsGiven}
 use Rattle.replay_text.specs.RowReading.{iface_at}
 use Rattle.replay_text.specs.LineReading.{spec_at, call_at, failing, devices, fail_at, moment_at, salt_at, switch_at, Came, without_bytes, frame_bytes_at, frame_at, inputs, came_at, turn_at}
-use Rattle.replay_text.proofs.RowLaws.{FitsIface, iface_text, iface_reads, iface_lacks, decimal_line, iface_line, joined_line}
+use Rattle.replay_text.proofs.RowLaws.{FitsIface, iface_text, iface_reads, iface_lacks}
+use Rattle.replay_text.proofs.Printables.{joined_printable, iface_printable}
 
 -- ---- interfaces
 
@@ -62,10 +63,10 @@ spec_reads =
 pub spec_spelled : (spec : IfSpec) → interface_text spec ≡ codes "if " ++ spec_text spec
 spec_spelled spec = simp append_assoc
 
-pub spec_line : (spec : IfSpec) → FitsSpec spec → Lacks 10 (spec_text spec)
-spec_line spec fits =
-    joined_line (iface_text spec.index) (name_text spec.name ++ 32 ∷ mac_text spec.mac) (iface_line spec.index fits.index)
-    (joined_line (name_text spec.name) (mac_text spec.mac) (name_lacks spec.name 10 fits.name refl) (mac_lacks spec.mac 10 fits.mac refl))
+pub spec_printable : (spec : IfSpec) → FitsSpec spec → IsPrintable (spec_text spec)
+spec_printable spec fits =
+    joined_printable (iface_text spec.index) (name_text spec.name ++ 32 ∷ mac_text spec.mac) (iface_printable spec.index fits.index)
+    (joined_printable (name_text spec.name) (mac_text spec.mac) (name_printable spec.name fits.name) (mac_printable spec.mac fits.mac))
 
 -- ---- calls that fail
 
@@ -104,14 +105,14 @@ fail_reads = choose_reads devices refl sounds (λ fail fits. fail_chosen fail.de
 pub fail_spelled : (fail : FailLine) → fail_text fail ≡ codes "fail " ++ fail_words fail
 fail_spelled fail = simp append_assoc
 
-device_line : (device : FailDevice) → Lacks 10 (device_text device)
-device_line Link = refl
-device_line Store = refl
-device_line Host = refl
-device_line Hooks = refl
+device_printable : (device : FailDevice) → IsPrintable (device_text device)
+device_printable Link = refl
+device_printable Store = refl
+device_printable Host = refl
+device_printable Hooks = refl
 
-pub fail_line : (fail : FailLine) → FitsFail fail → Lacks 10 (fail_words fail)
-fail_line fail fits = joined_line (device_text fail.device) (decimal fail.number) (device_line fail.device) (decimal_line fail.number fits.bits)
+pub fail_printable : (fail : FailLine) → FitsFail fail → IsPrintable (fail_words fail)
+fail_printable fail fits = joined_printable (device_text fail.device) (decimal fail.number) (device_printable fail.device) (decimal_printable fail.number fits.bits)
 
 -- ---- moments and random words
 
@@ -254,25 +255,25 @@ came_reads : Reads came_words FitsCame came_at
 unfolding came_at
 came_reads = choose_reads inputs refl inputs_sound (λ came fits. came_chosen came.0 came.1 fits)
 
-up_line : (up : Bool) → Lacks 10 (carrier_text up)
-up_line true = refl
-up_line false = refl
+up_printable : (up : Bool) → IsPrintable (carrier_text up)
+up_printable true = refl
+up_printable false = refl
 
-came_line : (event : Event) (bytes : List ℕ) → FitsCame (event, bytes) → Lacks 10 (came_words (event, bytes))
-came_line (Frame iface len) bytes fits =
-    subst (Lacks 10) (sym (frame_spelled (record { number = iface }, bytes)))
-    (lacks-append 10 (codes "frame ") (decimal iface ++ 32 ∷ hex_text bytes) refl
-    (joined_line (decimal iface) (hex_text bytes) (iface_line (record { number = iface }) fits.0) (let frame = fits.1 in hex_lacks bytes 10 frame.octets refl)))
-came_line (Carrier iface up) bytes fits =
-    subst (Lacks 10) (sym (carrier_spelled (record { number = iface }, up)))
-    (lacks-append 10 (codes "carrier ") (decimal iface ++ 32 ∷ carrier_text up) refl
-    (joined_line (decimal iface) (carrier_text up) (iface_line (record { number = iface }) fits.0) (up_line up)))
-came_line (Duplicate iface addr) bytes fits = absurd fits.0
-came_line (Release iface) bytes fits = lacks-append 10 (codes "release ") (decimal iface) refl (iface_line (record { number = iface }) fits.0)
-came_line (Rebind iface) bytes fits = lacks-append 10 (codes "rebind ") (decimal iface) refl (iface_line (record { number = iface }) fits.0)
-came_line Stop bytes fits = refl
-came_line Quiet bytes fits = refl
-came_line End bytes fits = absurd fits.0
+came_printable : (event : Event) (bytes : List ℕ) → FitsCame (event, bytes) → IsPrintable (came_words (event, bytes))
+came_printable (Frame iface len) bytes fits =
+    subst (IsPrintable) (sym (frame_spelled (record { number = iface }, bytes)))
+    (only-append is_printable (codes "frame ") (decimal iface ++ 32 ∷ hex_text bytes) refl
+    (joined_printable (decimal iface) (hex_text bytes) (iface_printable (record { number = iface }) fits.0) (let frame = fits.1 in hex_printable bytes frame.octets)))
+came_printable (Carrier iface up) bytes fits =
+    subst (IsPrintable) (sym (carrier_spelled (record { number = iface }, up)))
+    (only-append is_printable (codes "carrier ") (decimal iface ++ 32 ∷ carrier_text up) refl
+    (joined_printable (decimal iface) (carrier_text up) (iface_printable (record { number = iface }) fits.0) (up_printable up)))
+came_printable (Duplicate iface addr) bytes fits = absurd fits.0
+came_printable (Release iface) bytes fits = only-append is_printable (codes "release ") (decimal iface) refl (iface_printable (record { number = iface }) fits.0)
+came_printable (Rebind iface) bytes fits = only-append is_printable (codes "rebind ") (decimal iface) refl (iface_printable (record { number = iface }) fits.0)
+came_printable Stop bytes fits = refl
+came_printable Quiet bytes fits = refl
+came_printable End bytes fits = absurd fits.0
 
 -- ---- turns
 
@@ -304,7 +305,7 @@ turn_reads =
 pub turn_spelled : (given : Given) → given_text given ≡ codes "turn " ++ turn_words given
 turn_spelled given = simp append_assoc
 
-pub turn_line : (given : Given) → FitsGiven 64 given → Lacks 10 (turn_words given)
-turn_line given fits =
-    joined_line (decimal given.wake.at) (decimal given.wake.salt ++ 32 ∷ given_words given) (let small = fits.at in decimal_line given.wake.at (omega arith))
-    (joined_line (decimal given.wake.salt) (given_words given) (decimal_line given.wake.salt fits.salt) (came_line given.wake.event given.bytes (fits.event, fits.bytes)))
+pub turn_printable : (given : Given) → FitsGiven 64 given → IsPrintable (turn_words given)
+turn_printable given fits =
+    joined_printable (decimal given.wake.at) (decimal given.wake.salt ++ 32 ∷ given_words given) (let small = fits.at in decimal_printable given.wake.at (omega arith))
+    (joined_printable (decimal given.wake.salt) (given_words given) (decimal_printable given.wake.salt fits.salt) (came_printable given.wake.event given.bytes (fits.event, fits.bytes)))

@@ -1,28 +1,37 @@
 -- Rows: what is read is spelled so, and what is spelled so is read.
-use Rattle.std.proofs.Common.{◌≡◌, ℕ, ◌-◌, ◌%◌, ◌^◌, ◌<◌, ◌≤◌, Bool, List, [], ◌∷◌, ◌++◌, Option, Some, None, refl, sym, ap, ◌∙◌, subst, arith, codes, leb, IsTrue}
+use Rattle.std.proofs.Common.{◌≡◌, ℕ, ◌/◌, ◌%◌, ◌^◌, ◌<◌, ◌≤◌, Bool, true, false, not, ◌&&◌, List, [], ◌∷◌, ◌++◌, drop, Option, Some, None, refl, sym, ap, ◌∙◌, subst, arith, codes, leb, eqb, inl, inr}
 use Rattle.std.specs.Fmt.{decimal}
-use Rattle.std.proofs.lemmas.Bool.{eqb-true, eq-eqb, leb-true, le-leb}
+use Rattle.std.specs.List.{list_all}
+use Rattle.std.specs.Char.{is_ascii_digit}
+use Rattle.std.proofs.lemmas.Bool.{and_parts, and_from, both_ways, eqb-true, eq-eqb, leb-true, le-leb}
 use Rattle.std.proofs.lemmas.List.{append_assoc}
+use Rattle.std.proofs.lemmas.List.Folds.{list_all-append}
 use Rattle.net_types.specs.declared.address.Ip4.{Ip4}
-use Rattle.net_types.specs.declared.address.Net4.{Net4}
+use Rattle.net_types.specs.declared.address.Ip6.{Ip6}
+use Rattle.net_types.specs.declared.address.Net.{Net}
 use Rattle.net_types.specs.declared.address.Net.TheVariants.{V4, V6}
+use Rattle.net_types.specs.declared.address.Net4.{Net4}
+use Rattle.net_types.specs.declared.address.Net6.{Net6}
 use Rattle.net_types.specs.declared.interface.IfIndex.{IfIndex}
-use Rattle.net_types.specs.Reads.{Reads}
+use Rattle.net_types.specs.AddressText.{ip4_text, net4_text, FitsIp4, FitsIp6, FitsNet4}
+use Rattle.net_types.specs.Cutting.{strip_word, by_word, differ}
+use Rattle.net_types.specs.Ip6Text.{is_group_byte, SpellsIp6, SpellsNet6}
 use Rattle.net_types.specs.Marks.{Lacks}
-use Rattle.net_types.specs.AddressText.{ip4_text, ip4_at, net4_text, net4_at, net_text, FitsIp4, FitsNet4}
-use Rattle.net_types.specs.Cutting.{strip_word, after_word, by_word, pair_at, guarded}
-use Rattle.net_types.proofs.ReadsLaws.{passed, mapped, strip_whole, strip_sound, word_reads, pair_reads, map_reads, guard_reads}
-use Rattle.net_types.proofs.ChoiceLaws.{words_apart}
-use Rattle.net_types.proofs.NumberLaws.{number_reads}
-use Rattle.net_types.proofs.MarkLaws.{decimal_lacks, lacks-append, ip4_lacks, net4_lacks}
+use Rattle.net_types.specs.Reads.{Reads}
 use Rattle.net_types.proofs.AddressLaws.{ip4_reads, net4_reads}
+use Rattle.net_types.proofs.ChoiceLaws.{words_apart}
+use Rattle.net_types.proofs.Ip6Laws.{ip6_found, ip6_whole, net6_found, net6_whole}
+use Rattle.net_types.proofs.MarkLaws.{decimal_lacks, lacks-append, lacks_from, ip4_lacks, net4_lacks}
+use Rattle.net_types.proofs.NumberLaws.{number_reads}
+use Rattle.net_types.proofs.ReadsLaws.{strip_sound, map_reads, guard_reads}
 use Rattle.world.specs.declared.rows.HostRow.{HostRow}
 use Rattle.world.specs.declared.rows.HostRow.TheVariants.{Addr, Route}
 use Rattle.world.specs.declared.rows.Via.{Via}
 use Rattle.world.specs.declared.rows.Via.TheVariants.{OnLink, Reject, Gate4, Gate6}
-use Rattle.world.specs.Rows.{IsInterface, LeadsTo}
-use Rattle.world.specs.RowText.{row_text, IsBuiltRow}
-use Rattle.replay_text.specs.RowReading.{iface_at, metric_at, Tail, on_link_at, reject_at, gate_at, tail_at, addr_at, is_network, RouteParts, route_parts_at, route_at, row_at}
+use Rattle.world.specs.Rows.{IsInterface, IsNet, IsNetwork, IsRow, LeadsTo}
+use Rattle.script_model.specs.RowSpellings.{SpellsNet, SpellsWay, SpellsRoute, SpellsRow}
+use Rattle.replay_text.specs.RowReading.{iface_at, metric_at, net_at, gateway_at, Tail, on_link_at, reject_at, gate_at, tail_at, addr_at, is_network, is_way_to, RouteParts, route_parts_at, route_at, row_at}
+use Rattle.replay_text.proofs.SpellingLaws.{Finds, OneText, one_text, same_finds, Made, map_finds, Tested, guard_finds, After, word_finds, Parted, pair_finds, OneOf, either_finds, choice_finds}
 
 -- by the first word: what was read after it, or otherwise
 pub by_cases : {X P : Type 0} (word text : List ℕ) (read : List ℕ → Option X) (other : Option X) (x : X) → by_word (strip_word word text) read other ≡ Some x → ((rest : List ℕ) → text ≡ word ++ rest → read rest ≡ Some x → P) → (other ≡ Some x → P) → P
@@ -53,223 +62,388 @@ iface_reads =
 pub iface_lacks : (iface : IfIndex) → FitsIface iface → Lacks 32 (iface_text iface)
 iface_lacks iface fits = let within : iface.number ≤ 64 = fits.1 in decimal_lacks iface.number 32 (omega arith) refl
 
+abbrev SpellsIface : List ℕ → IfIndex → Type 0
+SpellsIface = OneText iface_text FitsIface
+
+iface_finds : Finds SpellsIface iface_at
+iface_finds = one_text iface_reads
+
+iface_apart : (text : List ℕ) (iface : IfIndex) → SpellsIface text iface → Lacks 32 text
+iface_apart text iface spells = subst (Lacks 32) (sym spells.0) (iface_lacks iface spells.1)
+
 metric_reads : Reads decimal (λ n. n < 2 ^ 32) metric_at
 unfolding metric_at
 metric_reads = number_reads (2 ^ 32) (omega arith)
 
+-- ---- nets and gateways of either family
+
+net6_lacks : (byte : ℕ) (text : List ℕ) (net : Net6) → SpellsNet6 text net → is_group_byte byte ≡ false → Lacks byte (codes "/") → is_ascii_digit byte ≡ false → Lacks byte text
+net6_lacks byte text net spells group slash digit =
+    let small : net.len < 2 ^ 64 = let most = spells.prefix in omega arith in
+    subst (Lacks byte) (sym spells.spelled)
+    (lacks-append byte (spells.address ++ codes "/") (decimal net.len)
+    (lacks-append byte spells.address (codes "/") (lacks_from is_group_byte byte spells.address group spells.spells.bytes) slash)
+    (decimal_lacks net.len byte small digit))
+
+ip6_dotless : (text : List ℕ) (ip : Ip6) → SpellsIp6 text ip → Lacks 46 text
+ip6_dotless text ip spells = lacks_from is_group_byte 46 text refl spells.bytes
+
+front_lacks : (front back : List ℕ) → Lacks 46 (front ++ back) → Lacks 46 front
+front_lacks front back lacks =
+    (and_parts (list_all (λ b. not (eqb b 46)) front) (list_all (λ b. not (eqb b 46)) back) (sym (list_all-append (λ b. not (eqb b 46)) front back) ∙ lacks)).0
+
+no_dot : (front : List ℕ) → Lacks 46 (front ++ 46 ∷ []) → ⊥
+no_dot front lacks =
+    both_ways false refl (and_parts (list_all (λ b. not (eqb b 46)) front) false (sym (list_all-append (λ b. not (eqb b 46)) front (46 ∷ [])) ∙ lacks)).1
+
+-- an IPv4 address has a dot, and one of IPv6 none
+ip4_has_dot : (ip : Ip4) → Lacks 46 (ip4_text ip) → ⊥
+unfolding ip4_text
+ip4_has_dot ip lacks =
+    let front = decimal (ip.number / 2 ^ 24) ++ codes "." ++ decimal (ip.number / 2 ^ 16 % 256) ++ codes "." ++ decimal (ip.number / 2 ^ 8 % 256) in
+    no_dot front (front_lacks (front ++ codes ".") (decimal (ip.number % 256)) lacks)
+
+net4_has_dot : (net : Net4) → Lacks 46 (net4_text net) → ⊥
+unfolding net4_text
+net4_has_dot net lacks = ip4_has_dot net.ip (front_lacks (ip4_text net.ip) (codes "/") (front_lacks (ip4_text net.ip ++ codes "/") (decimal net.len) lacks))
+
+abbrev FitNet : List ℕ → Net → Type 0
+FitNet text net = SpellsNet text net × IsNet net
+
+abbrev EitherNet : List ℕ → Net → Type 0
+EitherNet = OneOf (Made V4 (OneText net4_text FitsNet4)) (Made V6 SpellsNet6)
+
+net_to : (text : List ℕ) (net : Net) → EitherNet text net → FitNet text net
+net_to text net (inl made) =
+    let fits = made.spells.1 in
+    subst (FitNet text) made.makes (made.spells.0, (fits.address, fits.prefix))
+net_to text net (inr made) = subst (FitNet text) made.makes (made.spells, (made.spells.spells.range, made.spells.prefix))
+
+net_from : (text : List ℕ) (net : Net) → FitNet text net → EitherNet text net
+net_from text (V4 net) fit = inl (record { value = net; makes = refl; spells = (fit.0, record { address = fit.1.0; prefix = fit.1.1 }) })
+net_from text (V6 net) fit = inr (record { value = net; makes = refl; spells = fit.0 })
+
+nets_apart : (text : List ℕ) (x y : Net) → Made V4 (OneText net4_text FitsNet4) text x → ¬ (Made V6 SpellsNet6 text y)
+nets_apart text x y one other = net4_has_dot one.value (subst (Lacks 46) one.spells.0 (net6_lacks 46 text other.value other.spells refl refl refl))
+
+net_finds : Finds FitNet net_at
+unfolding net_at
+net_finds = same_finds FitNet net_to net_from (either_finds (map_finds V4 (one_text net4_reads)) (map_finds V6 (record { sound = net6_found; whole = net6_whole })) nets_apart)
+
+net_apart : (text : List ℕ) (net : Net) → FitNet text net → Lacks 32 text
+net_apart text (V4 net) fit = subst (Lacks 32) (sym fit.0) (net4_lacks net 32 (record { address = fit.1.0; prefix = fit.1.1 }) refl)
+net_apart text (V6 net) fit = net6_lacks 32 text net fit.0 refl refl refl
+
+abbrev SpellsGateway : List ℕ → Via → Type 0
+SpellsGateway text OnLink = ⊥
+SpellsGateway text Reject = ⊥
+SpellsGateway text (Gate4 ip) = OneText ip4_text FitsIp4 text ip
+SpellsGateway text (Gate6 ip) = SpellsIp6 text ip
+
+abbrev EitherGateway : List ℕ → Via → Type 0
+EitherGateway = OneOf (Made Gate4 (OneText ip4_text FitsIp4)) (Made Gate6 SpellsIp6)
+
+gateway_to : (text : List ℕ) (way : Via) → EitherGateway text way → SpellsGateway text way
+gateway_to text way (inl made) = subst (SpellsGateway text) made.makes made.spells
+gateway_to text way (inr made) = subst (SpellsGateway text) made.makes made.spells
+
+gateway_from : (text : List ℕ) (way : Via) → SpellsGateway text way → EitherGateway text way
+gateway_from text OnLink spells = absurd spells
+gateway_from text Reject spells = absurd spells
+gateway_from text (Gate4 ip) spells = inl (record { value = ip; makes = refl; spells = spells })
+gateway_from text (Gate6 ip) spells = inr (record { value = ip; makes = refl; spells = spells })
+
+gateways_apart : (text : List ℕ) (x y : Via) → Made Gate4 (OneText ip4_text FitsIp4) text x → ¬ (Made Gate6 SpellsIp6 text y)
+gateways_apart text x y one other = ip4_has_dot one.value (subst (Lacks 46) one.spells.0 (ip6_dotless text other.value other.spells))
+
+gateway_finds : Finds SpellsGateway gateway_at
+unfolding gateway_at
+gateway_finds = same_finds SpellsGateway gateway_to gateway_from (either_finds (map_finds Gate4 (one_text ip4_reads)) (map_finds Gate6 (record { sound = ip6_found; whole = ip6_whole })) gateways_apart)
+
+gateway_apart : (text : List ℕ) (way : Via) → SpellsGateway text way → Lacks 32 text
+gateway_apart text OnLink spells = absurd spells
+gateway_apart text Reject spells = absurd spells
+gateway_apart text (Gate4 ip) spells = subst (Lacks 32) (sym spells.0) (ip4_lacks ip 32 spells.1 refl)
+gateway_apart text (Gate6 ip) spells = lacks_from is_group_byte 32 text refl spells.bytes
+
 -- ---- where a route leads, and its metric
 
-tail_text : Tail → List ℕ
-tail_text (OnLink, m) = codes "metric " ++ decimal m
-tail_text (Reject, m) = codes "reject metric " ++ decimal m
-tail_text (Gate4 ip, m) = codes "via " ++ (ip4_text ip ++ 32 ∷ (codes "metric " ++ decimal m))
-tail_text (Gate6 ip, m) = []
+abbrev FitsWay : Via → Type 0
+FitsWay OnLink = Unit {0}
+FitsWay Reject = Unit {0}
+FitsWay (Gate4 ip) = FitsIp4 ip
+FitsWay (Gate6 ip) = FitsIp6 ip
 
-abbrev FitsTail : Tail → Type 0
-FitsTail (OnLink, m) = m < 2 ^ 32
-FitsTail (Reject, m) = m < 2 ^ 32
-FitsTail (Gate4 ip, m) = FitsIp4 ip × (m < 2 ^ 32)
-FitsTail (Gate6 ip, m) = ⊥
+-- the words after a destination's, without the blank that parts them from it
+record SpellsTail (text : List ℕ) (tail : Tail) : Type 0 where
+  path : List ℕ
+  spelled : 32 ∷ text ≡ path ++ (codes " metric " ++ decimal tail.1)
+  leads : SpellsWay path tail.0
+  way : FitsWay tail.0
+  metric : tail.1 < 2 ^ 32
 
-abbrev Gate : Type 0
-Gate = Ip4 × ℕ
+abbrev SpellsMetric : List ℕ → ℕ → Type 0
+SpellsMetric = OneText decimal (λ n. n < 2 ^ 32)
 
-gate_reads : Reads (λ (p : Gate). ip4_text p.0 ++ 32 ∷ (codes "metric " ++ decimal p.1)) (λ p. FitsIp4 p.0 × (p.1 < 2 ^ 32)) (pair_at 32 ip4_at (after_word (codes "metric ") metric_at))
-gate_reads = pair_reads 32 ip4_reads (word_reads (codes "metric ") metric_reads) (λ ip fits. ip4_lacks ip 32 fits refl)
+metric_finds : Finds SpellsMetric metric_at
+metric_finds = one_text metric_reads
 
-tail_whole : (x : Tail) → FitsTail x → tail_at (tail_text x) ≡ Some x
-unfolding tail_at tail_text on_link_at reject_at gate_at
-tail_whole (OnLink, m) fits = rw (strip_whole (codes "metric ") (decimal m), metric_reads.whole m fits) refl
-tail_whole (Reject, m) fits = rw (words_apart (codes "metric ") (codes "reject metric ") (decimal m) refl, strip_whole (codes "reject metric ") (decimal m), metric_reads.whole m fits) refl
-tail_whole (Gate4 ip, m) fits =
-    let rest = ip4_text ip ++ 32 ∷ (codes "metric " ++ decimal m) in
-    rw (words_apart (codes "metric ") (codes "via ") rest refl, words_apart (codes "reject metric ") (codes "via ") rest refl, strip_whole (codes "via ") rest, gate_reads.whole (ip, m) fits) refl
-tail_whole (Gate6 ip, m) fits = absurd fits
+abbrev on_link : ℕ → Tail
+on_link m = (OnLink, m)
 
-on_link_sound : (text rest : List ℕ) (x : Tail) → text ≡ codes "metric " ++ rest → on_link_at rest ≡ Some x → (text ≡ tail_text x) × FitsTail x
-unfolding tail_text on_link_at
-on_link_sound text rest x t e =
-    let m = mapped (λ n. (OnLink, n)) (metric_at rest) x e in
-    let s = metric_reads.sound rest m.value m.was in
-    (t ∙ ap (λ r. codes "metric " ++ r) s.0 ∙ ap tail_text m.gives, subst FitsTail m.gives s.1)
+abbrev reject : ℕ → Tail
+reject m = (Reject, m)
 
-reject_sound : (text rest : List ℕ) (x : Tail) → text ≡ codes "reject metric " ++ rest → reject_at rest ≡ Some x → (text ≡ tail_text x) × FitsTail x
-unfolding tail_text reject_at
-reject_sound text rest x t e =
-    let m = mapped (λ n. (Reject, n)) (metric_at rest) x e in
-    let s = metric_reads.sound rest m.value m.was in
-    (t ∙ ap (λ r. codes "reject metric " ++ r) s.0 ∙ ap tail_text m.gives, subst FitsTail m.gives s.1)
+abbrev LinkTail : List ℕ → Tail → Type 0
+LinkTail = After (codes "metric ") (Made on_link SpellsMetric)
 
-gate_sound : (text rest : List ℕ) (x : Tail) → text ≡ codes "via " ++ rest → gate_at rest ≡ Some x → (text ≡ tail_text x) × FitsTail x
-unfolding tail_text gate_at
-gate_sound text rest x t e =
-    let m = mapped (λ (p : Gate). (Gate4 p.0, p.1)) (pair_at 32 ip4_at (after_word (codes "metric ") metric_at) rest) x e in
-    let s = gate_reads.sound rest m.value m.was in
-    (t ∙ ap (λ r. codes "via " ++ r) s.0 ∙ ap tail_text m.gives, subst FitsTail m.gives s.1)
+abbrev RejectTail : List ℕ → Tail → Type 0
+RejectTail = After (codes "reject metric ") (Made reject SpellsMetric)
 
-tail_sound : (text : List ℕ) (x : Tail) → tail_at text ≡ Some x → (text ≡ tail_text x) × FitsTail x
+abbrev GateTail : List ℕ → Tail → Type 0
+GateTail = After (codes "via ") (Parted 32 SpellsGateway (After (codes "metric ") SpellsMetric))
+
+abbrev AnyTail : List ℕ → Tail → Type 0
+AnyTail = OneOf LinkTail (OneOf RejectTail GateTail)
+
+gate_leads : (text : List ℕ) (way : Via) → SpellsGateway text way → SpellsWay (codes " via " ++ text) way × FitsWay way
+gate_leads text OnLink spells = absurd spells
+gate_leads text Reject spells = absurd spells
+gate_leads text (Gate4 ip) spells = (ap (λ t. codes " via " ++ t) spells.0, spells.1)
+gate_leads text (Gate6 ip) spells = (record { address = text; spelled = refl; spells = spells }, spells.range)
+
+tail_to : (text : List ℕ) (tail : Tail) → AnyTail text tail → SpellsTail text tail
+tail_to text tail (inl after) =
+    let made = after.spells in
+    let spelled : 32 ∷ text ≡ codes " metric " ++ decimal made.value = ap (λ t. 32 ∷ t) (after.spelled ∙ ap (λ w. codes "metric " ++ w) made.spells.0) in
+    subst (SpellsTail text) made.makes (record { path = []; spelled = spelled; leads = refl; way = tt; metric = made.spells.1 })
+tail_to text tail (inr (inl after)) =
+    let made = after.spells in
+    let spelled : 32 ∷ text ≡ codes " reject" ++ (codes " metric " ++ decimal made.value) = ap (λ t. 32 ∷ t) (after.spelled ∙ ap (λ w. codes "reject metric " ++ w) made.spells.0) in
+    subst (SpellsTail text) made.makes (record { path = codes " reject"; spelled = spelled; leads = refl; way = tt; metric = made.spells.1 })
+tail_to text tail (inr (inr after)) =
+    let gate = after.spells in
+    let number = gate.second in
+    let words : number.words ≡ decimal tail.1 = number.spells.0 in
+    let back : gate.back ≡ codes "metric " ++ decimal tail.1 = number.spelled ∙ ap (λ w. codes "metric " ++ w) words in
+    let leads = gate_leads gate.front tail.0 gate.first in
+    let spelled : text ≡ codes "via " ++ (gate.front ++ (codes " metric " ++ decimal tail.1)) =
+    after.spelled ∙ ap (λ w. codes "via " ++ w) (gate.spelled ∙ ap (λ b. gate.front ++ 32 ∷ b) back) in
+    record {
+      path = codes " via " ++ gate.front;
+      spelled = ap (λ t. 32 ∷ t) spelled ∙ sym (append_assoc (codes " via ") gate.front (codes " metric " ++ decimal tail.1));
+      leads = leads.0;
+      way = leads.1;
+      metric = number.spells.1;
+    }
+
+gate_from : (text front : List ℕ) (way : Via) (m : ℕ) → 32 ∷ text ≡ (codes " via " ++ front) ++ (codes " metric " ++ decimal m) → SpellsGateway front way → m < 2 ^ 32 → AnyTail text (way, m)
+gate_from text front way m spelled spells small =
+    let metric : After (codes "metric ") SpellsMetric (codes "metric " ++ decimal m) m = record { words = decimal m; spelled = refl; spells = (refl, small) } in
+    inr (inr (record {
+      words = front ++ (codes " metric " ++ decimal m);
+      spelled = ap (drop 1) (spelled ∙ append_assoc (codes " via ") front (codes " metric " ++ decimal m));
+      spells = record { front = front; back = codes "metric " ++ decimal m; spelled = refl; first = spells; second = metric };
+    }))
+
+tail_from : (text : List ℕ) (tail : Tail) → SpellsTail text tail → AnyTail text tail
+tail_from text (OnLink, m) spells =
+    let spelled : 32 ∷ text ≡ codes " metric " ++ decimal m = spells.spelled ∙ ap (λ p. p ++ (codes " metric " ++ decimal m)) spells.leads in
+    inl (record { words = decimal m; spelled = ap (drop 1) spelled; spells = record { value = m; makes = refl; spells = (refl, spells.metric) } })
+tail_from text (Reject, m) spells =
+    let spelled : 32 ∷ text ≡ codes " reject" ++ (codes " metric " ++ decimal m) = spells.spelled ∙ ap (λ p. p ++ (codes " metric " ++ decimal m)) spells.leads in
+    inr (inl (record { words = decimal m; spelled = ap (drop 1) spelled; spells = record { value = m; makes = refl; spells = (refl, spells.metric) } }))
+tail_from text (Gate4 ip, m) spells =
+    gate_from text (ip4_text ip) (Gate4 ip) m (spells.spelled ∙ ap (λ p. p ++ (codes " metric " ++ decimal m)) spells.leads) (refl, spells.way) spells.metric
+tail_from text (Gate6 ip, m) spells =
+    let gate = spells.leads in
+    gate_from text gate.address (Gate6 ip) m (spells.spelled ∙ ap (λ p. p ++ (codes " metric " ++ decimal m)) gate.spelled) gate.spells spells.metric
+
+word_apart : {X : Type 0} {Spells : List ℕ → X → Type 0} (word other text : List ℕ) (x : X) → After other Spells text x → differ word other ≡ true → strip_word word text ≡ None
+word_apart word other text x after apart = ap (strip_word word) after.spelled ∙ words_apart word other after.words apart
+
+rest_apart : (text : List ℕ) (tail : Tail) → OneOf RejectTail GateTail text tail → strip_word (codes "metric ") text ≡ None
+rest_apart text tail (inl after) = word_apart (codes "metric ") (codes "reject metric ") text tail after refl
+rest_apart text tail (inr after) = word_apart (codes "metric ") (codes "via ") text tail after refl
+
+gate_apart : (text : List ℕ) (tail : Tail) → GateTail text tail → strip_word (codes "reject metric ") text ≡ None
+gate_apart text tail after = word_apart (codes "reject metric ") (codes "via ") text tail after refl
+
+link_finds : Finds (Made on_link SpellsMetric) on_link_at
+unfolding on_link_at
+link_finds = map_finds on_link metric_finds
+
+reject_finds : Finds (Made reject SpellsMetric) reject_at
+unfolding reject_at
+reject_finds = map_finds reject metric_finds
+
+gate_finds : Finds (Parted 32 SpellsGateway (After (codes "metric ") SpellsMetric)) gate_at
+unfolding gate_at
+gate_finds = pair_finds 32 gateway_finds (word_finds (codes "metric ") metric_finds) gateway_apart
+
+tail_finds : Finds SpellsTail tail_at
 unfolding tail_at
-tail_sound text x e =
-    by_cases (codes "metric ") text on_link_at _ x e
-    (λ rest t r. on_link_sound text rest x t r)
-    (λ f. by_cases (codes "reject metric ") text reject_at _ x f
-    (λ rest t r. reject_sound text rest x t r)
-    (λ g. let p = passed (strip_word (codes "via ") text) gate_at x g in
-    gate_sound text p.value x (strip_sound (codes "via ") text p.value p.was) p.gives))
-
-tail_reads : Reads tail_text FitsTail tail_at
-tail_reads = record { sound = tail_sound; whole = tail_whole }
+tail_finds =
+    same_finds SpellsTail tail_to tail_from
+    (choice_finds (codes "metric ") link_finds (choice_finds (codes "reject metric ") reject_finds (word_finds (codes "via ") gate_finds) gate_apart) rest_apart)
 
 -- ---- addresses
 
 abbrev AddrParts : Type 0
-AddrParts = IfIndex × Net4
+AddrParts = IfIndex × Net
 
-abbrev addr_text : AddrParts → List ℕ
-addr_text p = iface_text p.0 ++ 32 ∷ net4_text p.1
+abbrev addr_row : AddrParts → HostRow
+addr_row p = Addr p.0 p.1
 
-addr_reads : Reads addr_text (λ p. FitsIface p.0 × FitsNet4 p.1) (pair_at 32 iface_at net4_at)
-addr_reads = pair_reads 32 iface_reads net4_reads iface_lacks
+abbrev AddrWords : List ℕ → AddrParts → Type 0
+AddrWords = Parted 32 SpellsIface FitNet
 
-addr_row : AddrParts → HostRow
-addr_row p = Addr p.0 (V4 p.1)
-
-addr_spelled : (p : AddrParts) → row_text (Addr p.0 (V4 p.1)) ≡ codes "addr " ++ addr_text p
-unfolding row_text net_text
-addr_spelled p = simp append_assoc
-
-addr_sound : (text rest : List ℕ) (row : HostRow) → text ≡ codes "addr " ++ rest → addr_at rest ≡ Some row → (text ≡ row_text row) × IsBuiltRow row
+addr_finds : Finds (Made addr_row AddrWords) addr_at
 unfolding addr_at
-addr_sound text rest row t e =
-    let m = mapped (λ (p : AddrParts). Addr p.0 (V4 p.1)) (pair_at 32 iface_at net4_at rest) row e in
-    let s = addr_reads.sound rest m.value m.was in
-    let fits : IsBuiltRow (Addr m.value.0 (V4 m.value.1)) = record { is_row = (s.1.0, (s.1.1.address, s.1.1.prefix)); is_ipv4 = tt } in
-    (t ∙ ap (λ r. codes "addr " ++ r) s.0 ∙ sym (addr_spelled m.value) ∙ ap row_text m.gives, subst IsBuiltRow m.gives fits)
+addr_finds = map_finds addr_row (pair_finds 32 iface_finds net_finds iface_apart)
 
 -- ---- routes
 
-abbrev route_parts_text : RouteParts → List ℕ
-route_parts_text p = iface_text p.0 ++ 32 ∷ (net4_text p.1.0 ++ 32 ∷ tail_text p.1.1)
+abbrev RouteWords : List ℕ → RouteParts → Type 0
+RouteWords = Parted 32 SpellsIface (Parted 32 FitNet SpellsTail)
 
-abbrev FitsParts : RouteParts → Type 0
-FitsParts p = FitsIface p.0 × (FitsNet4 p.1.0 × FitsTail p.1.1)
-
-route_parts_reads : Reads route_parts_text FitsParts route_parts_at
+route_parts_finds : Finds RouteWords route_parts_at
 unfolding route_parts_at
-route_parts_reads = pair_reads 32 iface_reads (pair_reads 32 net4_reads tail_reads (λ net fits. net4_lacks net 32 fits refl)) iface_lacks
+route_parts_finds = pair_finds 32 iface_finds (pair_finds 32 net_finds tail_finds net_apart) iface_apart
 
-abbrev network_test : RouteParts → Bool
-network_test p = is_network p.1.0
-
-network_reads : Reads route_parts_text (λ p. FitsParts p × IsTrue (network_test p)) (λ text. guarded network_test (route_parts_at text))
-network_reads = guard_reads network_test route_parts_reads
+abbrev route_test : RouteParts → Bool
+route_test p = is_network p.1.0 && is_way_to p.1.0 p.1.1.0
 
 abbrev route_row : RouteParts → HostRow
-route_row p = Route p.0 (V4 p.1.0) p.1.1.0 p.1.1.1
+route_row p = Route p.0 p.1.0 p.1.1.0 p.1.1.1
 
-regroup : (a b c d e f g h : List ℕ) → a ++ b ++ c ++ d ++ (e ++ f) ++ g ++ h ≡ a ++ (b ++ (c ++ (d ++ (e ++ (f ++ (g ++ h))))))
-regroup a b c d e f g h = simp append_assoc
-
-route_spelled : (p : RouteParts) → FitsTail p.1.1 → row_text (route_row p) ≡ codes "route " ++ route_parts_text p
-unfolding row_text net_text tail_text
-route_spelled (iface, (net, (OnLink, m))) fits = simp append_assoc
-route_spelled (iface, (net, (Reject, m))) fits = simp append_assoc
-route_spelled (iface, (net, (Gate4 ip, m))) fits = regroup (codes "route ") (iface_text iface) (codes " ") (net4_text net) (codes " via ") (ip4_text ip) (codes " metric ") (decimal m)
-route_spelled (iface, (net, (Gate6 ip, m))) fits = absurd fits
-
-leads : (net : Net4) (way : Via) (m : ℕ) → FitsTail (way, m) → LeadsTo (V4 net) way × (m < 2 ^ 32)
-leads net OnLink m fits = (tt, fits)
-leads net Reject m fits = (tt, fits)
-leads net (Gate4 ip) m fits = fits
-leads net (Gate6 ip) m fits = absurd fits
-
-led : (net : Net4) (way : Via) (m : ℕ) → LeadsTo (V4 net) way → m < 2 ^ 32 → FitsTail (way, m)
-led net OnLink m fits small = small
-led net Reject m fits small = small
-led net (Gate4 ip) m fits small = (fits, small)
-led net (Gate6 ip) m fits small = absurd fits
-
-route_sound : (text rest : List ℕ) (row : HostRow) → text ≡ codes "route " ++ rest → route_at rest ≡ Some row → (text ≡ row_text row) × IsBuiltRow row
+route_finds : Finds (Made route_row (Tested route_test RouteWords)) route_at
 unfolding route_at
-route_sound text rest row t e =
-    let m = mapped route_row (guarded network_test (route_parts_at rest)) row e in
-    let s = network_reads.sound rest m.value m.was in
-    let p = m.value in
-    let net = s.1.0.1.0 in
-    let network : p.1.0.ip.number % 2 ^ (32 - p.1.0.len) ≡ 0 = eqb-true _ _ s.1.1 in
-    let gone = leads p.1.0 p.1.1.0 p.1.1.1 s.1.0.1.1 in
-    let fits : IsBuiltRow (route_row p) = record { is_row = (s.1.0.0, (net.address, net.prefix), network, gone.0, gone.1); is_ipv4 = tt } in
-    (t ∙ ap (λ r. codes "route " ++ r) s.0 ∙ sym (route_spelled p s.1.0.1.1) ∙ ap row_text m.gives, subst IsBuiltRow m.gives fits)
+route_finds = map_finds route_row (guard_finds route_test route_parts_finds)
+
+network_is : (dest : Net) → is_network dest ≡ true → IsNetwork dest
+network_is (V4 net) test = eqb-true _ _ test
+network_is (V6 net) test = eqb-true _ _ test
+
+is_network_true : (dest : Net) → IsNetwork dest → is_network dest ≡ true
+is_network_true (V4 net) is = eq-eqb _ _ is
+is_network_true (V6 net) is = eq-eqb _ _ is
+
+leads_to : (dest : Net) (way : Via) → FitsWay way → is_way_to dest way ≡ true → LeadsTo dest way
+leads_to dest OnLink fits test = tt
+leads_to dest Reject fits test = tt
+leads_to (V4 net) (Gate4 ip) fits test = fits
+leads_to (V4 net) (Gate6 ip) fits test = both_ways false refl test
+leads_to (V6 net) (Gate4 ip) fits test = both_ways false refl test
+leads_to (V6 net) (Gate6 ip) fits test = fits
+
+led_to : (dest : Net) (way : Via) → LeadsTo dest way → FitsWay way × (is_way_to dest way ≡ true)
+led_to (V4 net) OnLink leads = (tt, refl)
+led_to (V6 net) OnLink leads = (tt, refl)
+led_to (V4 net) Reject leads = (tt, refl)
+led_to (V6 net) Reject leads = (tt, refl)
+led_to (V4 net) (Gate4 ip) leads = (leads, refl)
+led_to (V4 net) (Gate6 ip) leads = absurd leads
+led_to (V6 net) (Gate4 ip) leads = absurd leads
+led_to (V6 net) (Gate6 ip) leads = (leads, refl)
 
 -- ---- rows
 
-row_sound : (text : List ℕ) (row : HostRow) → row_at text ≡ Some row → (text ≡ row_text row) × IsBuiltRow row
+abbrev pub IsSpelledRow : List ℕ → HostRow → Type 0
+IsSpelledRow text row = SpellsRow text row × IsRow row
+
+abbrev AnyRow : List ℕ → HostRow → Type 0
+AnyRow = OneOf (After (codes "addr ") (Made addr_row AddrWords)) (After (codes "route ") (Made route_row (Tested route_test RouteWords)))
+
+addr_grouped : (number : ℕ) (address : List ℕ) → codes "addr " ++ decimal number ++ codes " " ++ address ≡ codes "addr " ++ (decimal number ++ 32 ∷ address)
+addr_grouped number address = simp append_assoc
+
+route_grouped : (a b c d e f : List ℕ) → a ++ b ++ codes " " ++ c ++ d ++ e ++ f ≡ a ++ (b ++ 32 ∷ (c ++ (d ++ (e ++ f))))
+route_grouped a b c d e f = simp append_assoc
+
+addr_to : (text words : List ℕ) (p : AddrParts) → text ≡ codes "addr " ++ words → AddrWords words p → IsSpelledRow text (addr_row p)
+addr_to text words p spelled parts =
+    let whole : text ≡ codes "addr " ++ (decimal p.0.number ++ 32 ∷ parts.back) =
+    spelled ∙ ap (λ w. codes "addr " ++ w) (parts.spelled ∙ ap (λ f. f ++ 32 ∷ parts.back) parts.first.0) in
+    (record { address = parts.back; spelled = whole ∙ sym (addr_grouped p.0.number parts.back); spells = parts.second.0 }, (parts.first.1, parts.second.1))
+
+route_to : (text words : List ℕ) (p : RouteParts) → text ≡ codes "route " ++ words → RouteWords words p → route_test p ≡ true → IsSpelledRow text (route_row p)
+route_to text words p spelled parts test =
+    let others = parts.second in
+    let tail = others.second in
+    let tests = and_parts (is_network p.1.0) (is_way_to p.1.0 p.1.1.0) test in
+    let ending = codes " metric " ++ decimal p.1.1.1 in
+    let after : parts.back ≡ others.front ++ (tail.path ++ ending) = others.spelled ∙ ap (λ t. others.front ++ t) tail.spelled in
+    let whole : text ≡ codes "route " ++ (decimal p.0.number ++ 32 ∷ (others.front ++ (tail.path ++ ending))) =
+    spelled ∙ ap (λ w. codes "route " ++ w) (parts.spelled ∙ ap (λ f. f ++ 32 ∷ parts.back) parts.first.0 ∙ ap (λ b. decimal p.0.number ++ 32 ∷ b) after) in
+    let route : SpellsRoute text p.0 p.1.0 p.1.1.0 p.1.1.1 = record {
+      network = others.front;
+      path = tail.path;
+      spelled = whole ∙ sym (route_grouped (codes "route ") (decimal p.0.number) others.front tail.path (codes " metric ") (decimal p.1.1.1));
+      spells = others.first.0;
+      leads = tail.leads;
+    } in
+    (route, (parts.first.1, others.first.1, network_is p.1.0 tests.0, leads_to p.1.0 p.1.1.0 tail.way tests.1, tail.metric))
+
+row_to : (text : List ℕ) (row : HostRow) → AnyRow text row → IsSpelledRow text row
+row_to text row (inl after) =
+    let made = after.spells in
+    subst (IsSpelledRow text) made.makes (addr_to text after.words made.value after.spelled made.spells)
+row_to text row (inr after) =
+    let made = after.spells in
+    subst (IsSpelledRow text) made.makes (route_to text after.words made.value after.spelled made.spells.0 made.spells.1)
+
+-- the words that say where a route leads, and those after them, begin with a blank
+path_blank : (path : List ℕ) (way : Via) (ending : List ℕ) → SpellsWay path way → path ++ (32 ∷ ending) ≡ 32 ∷ drop 1 (path ++ (32 ∷ ending))
+path_blank path OnLink ending spells = ap (λ p. p ++ (32 ∷ ending)) spells ∙ ap (λ p. 32 ∷ drop 1 (p ++ (32 ∷ ending))) (sym spells)
+path_blank path Reject ending spells = ap (λ p. p ++ (32 ∷ ending)) spells ∙ ap (λ p. 32 ∷ drop 1 (p ++ (32 ∷ ending))) (sym spells)
+path_blank path (Gate4 ip) ending spells = ap (λ p. p ++ (32 ∷ ending)) spells ∙ ap (λ p. 32 ∷ drop 1 (p ++ (32 ∷ ending))) (sym spells)
+path_blank path (Gate6 ip) ending spells = ap (λ p. p ++ (32 ∷ ending)) spells.spelled ∙ ap (λ p. 32 ∷ drop 1 (p ++ (32 ∷ ending))) (sym spells.spelled)
+
+row_from : (text : List ℕ) (row : HostRow) → IsSpelledRow text row → AnyRow text row
+row_from text (Addr iface net) is =
+    let spells = is.0 in
+    let words : AddrWords (decimal iface.number ++ 32 ∷ spells.address) (iface, net) = record {
+      front = decimal iface.number;
+      back = spells.address;
+      spelled = refl;
+      first = (refl, is.1.0);
+      second = (spells.spells, is.1.1);
+    } in
+    inl (record {
+      words = decimal iface.number ++ 32 ∷ spells.address;
+      spelled = spells.spelled ∙ addr_grouped iface.number spells.address;
+      spells = record { value = (iface, net); makes = refl; spells = words };
+    })
+row_from text (Route iface dest way metric) is =
+    let spells = is.0 in
+    let leads = led_to dest way is.1.3 in
+    let ending = codes " metric " ++ decimal metric in
+    let tail = drop 1 (spells.path ++ ending) in
+    let blank : spells.path ++ ending ≡ 32 ∷ tail = path_blank spells.path way (codes "metric " ++ decimal metric) spells.leads in
+    let grouped = route_grouped (codes "route ") (decimal iface.number) spells.network spells.path (codes " metric ") (decimal metric) in
+    let words : RouteWords (decimal iface.number ++ 32 ∷ (spells.network ++ 32 ∷ tail)) (iface, (dest, (way, metric))) = record {
+      front = decimal iface.number;
+      back = spells.network ++ 32 ∷ tail;
+      spelled = refl;
+      first = (refl, is.1.0);
+      second = record {
+        front = spells.network;
+        back = tail;
+        spelled = refl;
+        first = (spells.spells, is.1.1);
+        second = record { path = spells.path; spelled = sym blank; leads = spells.leads; way = leads.0; metric = is.1.4 };
+      };
+    } in
+    inr (record {
+      words = decimal iface.number ++ 32 ∷ (spells.network ++ 32 ∷ tail);
+      spelled = spells.spelled ∙ grouped ∙ ap (λ t. codes "route " ++ (decimal iface.number ++ 32 ∷ (spells.network ++ t))) blank;
+      spells = record { value = (iface, (dest, (way, metric))); makes = refl; spells = (words, and_from _ _ (is_network_true dest is.1.2) leads.1) };
+    })
+
+route_apart : (text : List ℕ) (row : HostRow) → After (codes "route ") (Made route_row (Tested route_test RouteWords)) text row → strip_word (codes "addr ") text ≡ None
+route_apart text row after = word_apart (codes "addr ") (codes "route ") text row after refl
+
+pub row_finds : Finds IsSpelledRow row_at
 unfolding row_at
-row_sound text row e =
-    by_cases (codes "addr ") text addr_at _ row e
-    (λ rest t r. addr_sound text rest row t r)
-    (λ f. let p = passed (strip_word (codes "route ") text) route_at row f in
-    route_sound text p.value row (strip_sound (codes "route ") text p.value p.was) p.gives)
-
-addr_whole : (p : AddrParts) → FitsIface p.0 → FitsNet4 p.1 → row_at (row_text (Addr p.0 (V4 p.1))) ≡ Some (Addr p.0 (V4 p.1))
-unfolding row_at addr_at
-addr_whole p iface net = rw (addr_spelled p, strip_whole (codes "addr ") (addr_text p), addr_reads.whole p (iface, net)) refl
-
-route_whole : (p : RouteParts) → FitsParts p → IsTrue (network_test p) → row_at (row_text (route_row p)) ≡ Some (route_row p)
-unfolding row_at route_at
-route_whole p fits network =
-    rw (route_spelled p fits.1.1, words_apart (codes "addr ") (codes "route ") (route_parts_text p) refl, strip_whole (codes "route ") (route_parts_text p), network_reads.whole p (fits, network)) refl
-
-row_whole : (row : HostRow) → IsBuiltRow row → row_at (row_text row) ≡ Some row
-row_whole (Addr iface (V4 net)) fits = addr_whole (iface, net) fits.is_row.0 (record { address = fits.is_row.1.0; prefix = fits.is_row.1.1 })
-row_whole (Addr iface (V6 net)) fits = absurd fits.is_ipv4
-row_whole (Route iface (V4 net) way m) fits =
-    let r = fits.is_row in
-    route_whole (iface, (net, (way, m))) (r.0, (record { address = r.1.0; prefix = r.1.1 }, led net way m r.3 r.4)) (eq-eqb _ _ r.2)
-row_whole (Route iface (V6 net) way m) fits = absurd fits.is_ipv4
-
-pub row_reads : Reads row_text IsBuiltRow row_at
-row_reads = record { sound = row_sound; whole = row_whole }
-
--- ---- no row has a line feed
-
-pub decimal_line : (n : ℕ) → n < 2 ^ 64 → Lacks 10 (decimal n)
-decimal_line n small = decimal_lacks n 10 small refl
-
-pub iface_line : (iface : IfIndex) → FitsIface iface → Lacks 10 (iface_text iface)
-iface_line iface fits = let within : iface.number ≤ 64 = fits.1 in decimal_line iface.number (omega arith)
-
--- words with a blank between them
-pub joined_line : (front text : List ℕ) → Lacks 10 front → Lacks 10 text → Lacks 10 (front ++ 32 ∷ text)
-joined_line front text one other = lacks-append 10 front (32 ∷ text) one (lacks-append 10 (codes " ") text refl other)
-
-tail_line : (x : Tail) → FitsTail x → Lacks 10 (tail_text x)
-unfolding tail_text
-tail_line (OnLink, m) fits = lacks-append 10 (codes "metric ") (decimal m) refl (decimal_line m (omega arith))
-tail_line (Reject, m) fits = lacks-append 10 (codes "reject metric ") (decimal m) refl (decimal_line m (omega arith))
-tail_line (Gate4 ip, m) fits =
-    let small : m < 2 ^ 32 = fits.1 in
-    lacks-append 10 (codes "via ") (ip4_text ip ++ 32 ∷ (codes "metric " ++ decimal m)) refl
-    (joined_line (ip4_text ip) (codes "metric " ++ decimal m) (ip4_lacks ip 10 fits.0 refl)
-    (lacks-append 10 (codes "metric ") (decimal m) refl (decimal_line m (omega arith))))
-tail_line (Gate6 ip, m) fits = absurd fits
-
-addr_line : (p : AddrParts) → FitsIface p.0 → FitsNet4 p.1 → Lacks 10 (row_text (Addr p.0 (V4 p.1)))
-addr_line p iface net =
-    subst (Lacks 10) (sym (addr_spelled p))
-    (lacks-append 10 (codes "addr ") (addr_text p) refl (joined_line (iface_text p.0) (net4_text p.1) (iface_line p.0 iface) (net4_lacks p.1 10 net refl)))
-
-route_line : (p : RouteParts) → FitsParts p → Lacks 10 (row_text (route_row p))
-route_line p fits =
-    subst (Lacks 10) (sym (route_spelled p fits.1.1))
-    (lacks-append 10 (codes "route ") (route_parts_text p) refl
-    (joined_line (iface_text p.0) (net4_text p.1.0 ++ 32 ∷ tail_text p.1.1) (iface_line p.0 fits.0)
-    (joined_line (net4_text p.1.0) (tail_text p.1.1) (net4_lacks p.1.0 10 fits.1.0 refl) (tail_line p.1.1 fits.1.1))))
-
-pub row_line : (row : HostRow) → IsBuiltRow row → Lacks 10 (row_text row)
-row_line (Addr iface (V4 net)) fits = addr_line (iface, net) fits.is_row.0 (record { address = fits.is_row.1.0; prefix = fits.is_row.1.1 })
-row_line (Addr iface (V6 net)) fits = absurd fits.is_ipv4
-row_line (Route iface (V4 net) way m) fits =
-    let r = fits.is_row in
-    route_line (iface, (net, (way, m))) (r.0, (record { address = r.1.0; prefix = r.1.1 }, led net way m r.3 r.4))
-row_line (Route iface (V6 net) way m) fits = absurd fits.is_ipv4
+row_finds = same_finds IsSpelledRow row_to row_from (choice_finds (codes "addr ") addr_finds (word_finds (codes "route ") route_finds) route_apart)

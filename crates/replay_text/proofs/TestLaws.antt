@@ -1,10 +1,9 @@
 -- What the tests of whole kinds of lines come to.
-use Rattle.std.proofs.Common.{◌≡◌, ℕ, zero, suc, ◌+◌, ◌*◌, ◌-◌, ◌^◌, ◌<◌, ◌≤◌, Bool, true, false, not, eqb, leb, List, [], ◌∷◌, length, drop, map, get_or, refl, sym, ap, ◌∙◌, subst, arith, drop-cons, add-one, bytes_eq}
+use Rattle.std.proofs.Common.{◌≡◌, ℕ, zero, suc, ◌+◌, ◌*◌, ◌-◌, ◌^◌, ◌<◌, ◌≤◌, true, false, not, eqb, leb, List, [], ◌∷◌, length, refl, sym, ap, ◌∙◌, subst, arith, bytes_eq}
 use Rattle.std.specs.List.{All, AllByRecursion, AllPairs, list_all}
 use Rattle.std.proofs.Math.Pow.{pow_mono}
 use Rattle.std.proofs.lemmas.Bool.{and_parts, and_from, not-true, eqb-true, eq-eqb, leb-true, le-leb}
 use Rattle.std.proofs.lemmas.List.Elements.{All-from_recursion}
-use Rattle.std.proofs.lemmas.List.Folds.{list_all-map}
 use Rattle.std.proofs.lemmas.List.Kept.{AllPairs-cons}
 use Rattle.std.proofs.lemmas.Slice.Eq.{bytes_eq-Decides}
 use Rattle.net_types.specs.declared.interface.IfSpec.{IfSpec}
@@ -12,18 +11,11 @@ use Rattle.net_types.specs.declared.address.Mac.{Mac}
 use Rattle.net_types.specs.NameText.{name_text}
 use Rattle.net_types.proofs.ReadsLaws.{texts_apart}
 use Rattle.net_types.proofs.NameLaws.{name_reads}
-use Rattle.world.specs.declared.rows.HostRow.{HostRow}
 use Rattle.world.specs.declared.wakes.Event.{Event}
 use Rattle.world.specs.declared.wakes.Event.TheVariants.{Frame, Carrier, Duplicate, Release, Rebind, Stop, Quiet, End}
-use Rattle.world.specs.LinkCalls.{Given}
-use Rattle.world.specs.RowOrder.{put_in_order, with_row}
-use Rattle.script_model.specs.Scripts.{CountsFrom, Unlike, FitInterfaces, FitsEvent, FitsGiven}
-use Rattle.replay_text.specs.KindTests.{counts_from, is_unlike, all_unlike, interfaces_fit, is_listed, turns_fit}
-use Rattle.script_model.specs.Stops.{wakes_seen, EndsWhenOver}
-use Rattle.replay_text.specs.declared.script.TurnLine.{TurnLine}
-use Rattle.replay_text.specs.ScriptContent.{given_of}
+use Rattle.script_model.specs.Scripts.{CountsFrom, Unlike, FitInterfaces, FitsEvent}
+use Rattle.replay_text.specs.KindTests.{counts_from, is_unlike, all_unlike, interfaces_fit, is_listed}
 use Rattle.replay_text.proofs.LineLaws.{FitsSpec}
-use Rattle.replay_text.proofs.ClockLaws.{in_time_sound, in_time_whole}
 
 -- a bit more
 pub doubled : (up count : ℕ) → 0 < count → up < 2 ^ (count - 1) → 2 * up + 1 < 2 ^ count
@@ -35,11 +27,6 @@ doubled up (suc k) some small =
 
 pub doubled_fits : (up count : ℕ) → 0 < count → count ≤ 64 → up < 2 ^ (count - 1) → 2 * up + 1 < 18446744073709551616
 doubled_fits up count some few small = omega (arith, doubled up count some small, pow_mono {i = count} {j = 64} few)
-
-pub put_next : (sorted rows : List HostRow) (i : ℕ) (d : HostRow) (whole : List HostRow) → i < length rows → put_in_order sorted (drop i rows) ≡ whole → put_in_order (with_row (get_or rows i d) sorted) (drop (i + 1) rows) ≡ whole
-put_next sorted rows i d whole within e =
-    let here : drop i rows ≡ get_or rows i d ∷ drop (i + 1) rows = rw (add-one) (drop-cons rows i d within) in
-    sym (ap (put_in_order sorted) here) ∙ e
 
 -- ---- interfaces
 
@@ -109,10 +96,6 @@ pub record AreInterfaces (specs : List IfSpec) : Type 0 where
   pub each : AllByRecursion FitsSpec specs
   pub test : interfaces_fit specs ≡ true
 
-pub interfaces_few : (specs : List IfSpec) → interfaces_fit specs ≡ true → length specs ≤ 64
-unfolding interfaces_fit
-interfaces_few specs e = leb-true _ _ (and_parts (leb (length specs) 64) _ e).0
-
 pub interfaces_sound : (specs : List IfSpec) → AreInterfaces specs → FitInterfaces specs
 unfolding interfaces_fit
 interfaces_sound specs are =
@@ -129,7 +112,7 @@ interfaces_whole specs fit =
 
 -- ---- turns
 
-listed_sound : (count : ℕ) (event : Event) → FitsEvent 64 event → is_listed count event ≡ true → FitsEvent count event
+pub listed_sound : (count : ℕ) (event : Event) → FitsEvent 64 event → is_listed count event ≡ true → FitsEvent count event
 listed_sound count (Frame iface len) fits e = (fits.0, leb-true _ _ e)
 listed_sound count (Carrier iface up) fits e = (fits.0, leb-true _ _ e)
 listed_sound count (Duplicate iface addr) fits e = absurd fits
@@ -142,7 +125,7 @@ listed_sound count End fits e = absurd fits
 within : (count iface : ℕ) → count ≤ 64 → (1 ≤ iface) × (iface ≤ count) → ((1 ≤ iface) × (iface ≤ 64)) × (leb iface count ≡ true)
 within count iface few fits = let last = fits.1 in ((fits.0, omega arith), le-leb _ _ last)
 
-listed_whole : (count : ℕ) (event : Event) → count ≤ 64 → FitsEvent count event → FitsEvent 64 event × (is_listed count event ≡ true)
+pub listed_whole : (count : ℕ) (event : Event) → count ≤ 64 → FitsEvent count event → FitsEvent 64 event × (is_listed count event ≡ true)
 listed_whole count (Frame iface len) few fits = within count iface few fits
 listed_whole count (Carrier iface up) few fits = within count iface few fits
 listed_whole count (Duplicate iface addr) few fits = absurd fits
@@ -151,40 +134,3 @@ listed_whole count (Rebind iface) few fits = within count iface few fits
 listed_whole count Stop few fits = (tt, refl)
 listed_whole count Quiet few fits = (tt, refl)
 listed_whole count End few fits = absurd fits
-
-abbrev all_listed : ℕ → List Given → Bool
-all_listed count turns = list_all (λ turn. is_listed count turn.wake.event) turns
-
-each_sound : (count : ℕ) (turns : List Given) → AllByRecursion (FitsGiven 64) turns → all_listed count turns ≡ true → AllByRecursion (FitsGiven count) turns
-each_sound count [] each e = tt
-each_sound count (given ∷ turns) each e =
-    let parts = and_parts (is_listed count given.wake.event) _ e in
-    let first = each.0 in
-    (record { at = first.at; salt = first.salt; event = listed_sound count given.wake.event first.event parts.0; bytes = first.bytes }, each_sound count turns each.1 parts.1)
-
-each_whole : (count : ℕ) (turns : List Given) → count ≤ 64 → AllByRecursion (FitsGiven count) turns → AllByRecursion (FitsGiven 64) turns × (all_listed count turns ≡ true)
-each_whole count [] few fits = (tt, refl)
-each_whole count (given ∷ turns) few fits =
-    let first = fits.0 in
-    let listed = listed_whole count given.wake.event few first.event in
-    let others = each_whole count turns few fits.1 in
-    ((record { at = first.at; salt = first.salt; event = listed.0; bytes = first.bytes }, others.0), and_from _ _ listed.1 others.1)
-
-pub given_listed : (count : ℕ) (turns : List TurnLine) → all_listed count (map given_of turns) ≡ list_all (λ turn. is_listed count turn.wake.event) turns
-given_listed count turns = list_all-map (λ (turn : Given). is_listed count turn.wake.event) given_of turns
-
-pub record AreTurns (count begin : ℕ) (turns : List Given) : Type 0 where
-  pub each : AllByRecursion (FitsGiven 64) turns
-  pub test : turns_fit count begin turns ≡ true
-
-pub turns_sound : (count begin : ℕ) (turns : List Given) → AreTurns count begin turns → AllByRecursion (FitsGiven count) turns × EndsWhenOver (wakes_seen begin turns)
-unfolding turns_fit
-turns_sound count begin turns are =
-    let parts = and_parts (all_listed count turns) _ are.test in
-    (each_sound count turns are.each parts.0, in_time_sound turns begin parts.1)
-
-pub turns_whole : (count begin : ℕ) (turns : List Given) → count ≤ 64 → AllByRecursion (FitsGiven count) turns → EndsWhenOver (wakes_seen begin turns) → AreTurns count begin turns
-unfolding turns_fit
-turns_whole count begin turns few fits over =
-    let each = each_whole count turns few fits in
-    record { each = each.0; test = and_from _ _ each.1 (in_time_whole turns begin over) }

@@ -27,3 +27,8 @@ clock_after clock wake = record { now = max clock.now wake.at; stop = stop_after
 abbrev pub is_in_time : Clock → List Given → Bool
 is_in_time clock [] = true
 is_in_time clock (given ∷ turns) = not (is_over clock) && is_in_time (clock_after clock given.wake) turns
+
+-- after these turns
+abbrev pub clock_through : Clock → List Given → Clock
+clock_through clock [] = clock
+clock_through clock (given ∷ turns) = clock_through (clock_after clock given.wake) turns

@@ -1,17 +1,15 @@
 -- What is asked of all lines of a kind together.
-use Rattle.std.specs.Prelude.{ℕ, ◌+◌, Bool, true, not, ◌&&◌, ◌==◌, nat_le, List, [], ◌∷◌, length, map, bytes_eq}
-use Rattle.std.specs.List.{list_all}
-use Rattle.std.specs.Set.{distinct_count}
+use Rattle.std.specs.Prelude.{ℕ, ◌+◌, ◌≡◌, Bool, true, not, ◌&&◌, ◌==◌, nat_le, List, [], ◌∷◌, length, map, bytes_eq, String}
+use Rattle.std.specs.Global.{Global}
+use Rattle.std.specs.List.{list_all, list_any}
+use Rattle.std.specs.Set.{is_member}
+use Rattle.std.specs.String.{string_bytes}
 use Rattle.net_types.specs.declared.interface.IfSpec.{IfSpec}
 use Rattle.net_types.specs.NameText.{name_text}
-use Rattle.world.specs.declared.rows.HostRow.{HostRow}
 use Rattle.world.specs.declared.wakes.Event.{Event}
 use Rattle.world.specs.declared.wakes.Event.TheVariants.{Frame, Carrier, Release, Rebind}
 use Rattle.world.specs.FileLists.{StoreFile, file_name}
 use Rattle.world.specs.FileNames.{is_name}
-use Rattle.world.specs.LinkCalls.{Given}
-use Rattle.world.specs.RowOrder.{in_row_order}
-use Rattle.replay_text.specs.Clocks.{clock_at, is_in_time}
 
 abbrev pub counts_from : ℕ → List IfSpec → Bool
 counts_from index [] = true
@@ -28,12 +26,9 @@ all_unlike (spec ∷ specs) = list_all (is_unlike spec) specs && all_unlike spec
 unfoldable pub interfaces_fit : List IfSpec → Bool
 interfaces_fit specs = nat_le (length specs) 64 && (counts_from 1 specs && all_unlike specs)
 
-unfoldable pub are_once : List HostRow → Bool
-are_once rows = length (in_row_order rows) == length rows
-
--- as many names as files, where equal names count once
-unfoldable pub have_unlike_names : List StoreFile → Bool
-have_unlike_names files = distinct_count is_name (map file_name files) == length files
+-- the keys are the names of the files
+abbrev pub AreNames : List (String Global) → List StoreFile → Type 0
+AreNames keys files = (q : String Global) → list_any (λ key. is_name (string_bytes q) (string_bytes key)) keys ≡ is_member is_name (map file_name files) (string_bytes q)
 
 abbrev pub is_listed : ℕ → Event → Bool
 is_listed count (Frame iface len) = nat_le iface count
@@ -41,7 +36,3 @@ is_listed count (Carrier iface up) = nat_le iface count
 is_listed count (Release iface) = nat_le iface count
 is_listed count (Rebind iface) = nat_le iface count
 is_listed count event = true
-
--- on interfaces of the script, in a life that begins at this moment
-unfoldable pub turns_fit : ℕ → ℕ → List Given → Bool
-turns_fit count begin turns = list_all (λ turn. is_listed count turn.wake.event) turns && is_in_time (clock_at begin) turns

@@ -7,5 +7,10 @@ pub mod Blocks
 pub mod ScriptContent
 pub mod Clocks
 pub mod KindTests
+pub mod Words
+pub mod LinesInOrder
+pub mod Unbuilt
 pub mod ScriptReading
-pub mod Answers
+pub mod ReadLines
+pub mod SoFar
+pub mod FirstFaults

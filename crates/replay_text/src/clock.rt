@@ -1,9 +1,7 @@
 //! When a life is over.
-ghost use Rattle.std.specs.Prelude.{◌≡◌, map};
-ghost use Rattle.replay_text.specs.ScriptContent.{given_of};
-ghost use Rattle.replay_text.specs.Clocks.{is_over, clock_after, clock_at, is_in_time};
+ghost use Rattle.std.specs.Prelude.{◌≡◌};
+ghost use Rattle.replay_text.specs.Clocks.{is_over, clock_after, clock_at};
 
-use crate::script::TurnLine;
 use world::{Event, Wake};
 
 /// For so many milliseconds a life goes on after its stop.
@@ -51,18 +49,4 @@ impl Clock {
         };
         Clock { now, stop }
     }
-}
-
-/// Whether no turn comes once the life is over.
-pub fn are_in_time(begin: u64, turns: &[TurnLine]) -> bool
-    ensures { result ≡ is_in_time (clock_at begin) (map given_of turns.now) }
-{
-    let mut clock = Clock::new(begin);
-    for turn in turns {
-        if clock.is_over() {
-            return false;
-        }
-        clock = clock.after(turn.wake);
-    }
-    true
 }

@@ -1,17 +1,15 @@
 //! The words of the line `file`, read.
-ghost use Rattle.std.specs.Prelude.{◌≡◌, IfOk, option_map, map};
+ghost use Rattle.std.specs.Prelude.{◌≡◌, IfOk, option_map};
 ghost use Rattle.std.specs.List.{list_all};
 ghost use Rattle.std.specs.Str.{IsUtf8};
 ghost use Rattle.std.specs.String.{string_bytes};
 ghost use Rattle.world.specs.FileNames.{is_file_byte};
 ghost use Rattle.replay_text.specs.FileReading.{is_file_name, file_name_at, file_at};
-ghost use Rattle.replay_text.specs.KindTests.{have_unlike_names};
 ghost use Rattle.replay_text.specs.ScriptContent.{file_of};
 
 use crate::script::FileLine;
 use net_types::{NoMemory, hex_of, split_at_byte};
 use std::alloc::Global;
-use std::collections::BTreeSet;
 use std::str::from_utf8;
 
 /// The most bytes of a file's name.
@@ -72,16 +70,4 @@ pub fn file_of(alloc: Global, bytes: &[u8]) -> Result<Option<FileLine>, NoMemory
         return Ok(None);
     };
     Ok(Some(FileLine { name, bytes }))
-}
-
-/// Whether no two files have one name.
-#[tactic(auto, unfolding(crate::specs::KindTests::have_unlike_names))]
-pub fn have_unlike_names(alloc: Global, files: &[FileLine]) -> Result<bool, NoMemory>
-    ensures { IfOk result (λ unlike. unlike ≡ have_unlike_names (map file_of files.now)) }
-{
-    let mut names = BTreeSet::new(alloc);
-    for file in files {
-        names.insert(file.name.as_str())?;
-    }
-    Ok(names.len() == files.len())
 }

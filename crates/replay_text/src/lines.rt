@@ -42,7 +42,7 @@ pub fn spec_of(bytes: &[u8]) -> Option<IfSpec>
 
 /// The number of a call, from 1.
 #[tactic(auto, unfolding(crate::specs::LineReading::call_at))]
-fn call_of(bytes: &[u8]) -> Option<u64>
+pub fn call_of(bytes: &[u8]) -> Option<u64>
     ensures { result ≡ call_at bytes.now }
 {
     let number = u64_of(bytes)?;

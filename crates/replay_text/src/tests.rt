@@ -20,6 +20,14 @@ fn a_route(rt: HostRuntime) -> Result<(), Fail> {
     assert!(rt; read_row("route 1 0.0.0.0/0 via 10.0.0.1 metric 5") == Ok(row));
     // a bit past the length
     assert!(rt; read_row("route 1 10.0.0.1/24 metric 5").is_err());
+    assert!(rt; read_row("route 1 2001:db8::1/64 metric 5").is_err());
+    // two spellings of one row
+    let short = read_row("route 2 2001:db8::/32 via fe80::1 metric 5");
+    assert!(rt; short.is_ok());
+    assert!(rt; read_row("route 2 2001:0DB8:0::0/32 via fe80:0:0::0001 metric 5") == short);
+    // a gateway of the other family
+    assert!(rt; read_row("route 2 2001:db8::/32 via 10.0.0.1 metric 5").is_err());
+    assert!(rt; read_row("route 2 0.0.0.0/0 via fe80::1 metric 5").is_err());
     let mut text = String::new(rt.alloc());
     print_row(&row, &mut text).ok().ok_or("memory is ample")?;
     assert_eq!(rt; text.as_str(), "route 1 0.0.0.0/0 via 10.0.0.1 metric 5");
@@ -28,63 +36,83 @@ fn a_route(rt: HostRuntime) -> Result<(), Fail> {
 
 #[test]
 fn refusals(rt: HostRuntime) {
-    let bad: [(&[u8], u64); 18] = [
-        (b"", 1),
-        // a byte outside printable ASCII
-        (b"dhcpcd-script 1\nstart 0 0 up -\nturn 5 0 quiet\x80\n", 3),
-        // a line out of its place
-        (b"dhcpcd-script 1\nstart 0 0 up -\nc:noarp\n", 3),
-        // no last line feed
-        (b"dhcpcd-script 1\nstart 0 0 up -\nturn 5 0 quiet", 3),
-        // an unknown first word
-        (b"dhcpcd-script 1\nstart 0 0 up -\nturns 5 0 quiet\n", 3),
-        // a repeated row
+    use crate::script::ScriptCause::{Form, NotBuilt, NotText, Order, Word};
+    let bad: [(&[u8], u64, ScriptCause); 20] = [
+        (b"", 1, Word),
+        (b"c:noarp\n", 1, Word),
         (
-            b"dhcpcd-script 1\nrow addr 1 10.9.9.9/8\nrow addr 1 10.9.9.9/8\nstart 0 0 up -\n",
-            2,
-        ),
-        // a carrier of an interface that isn't listed
-        (
-            b"dhcpcd-script 1\nstart 0 0 up -\nturn 5 0 carrier 1 up\n",
+            b"dhcpcd-script 1\nstart 0 0 up -\nturn 5 0 quiet\x80\n",
             3,
+            NotText,
         ),
-        // an input of an interface that isn't listed
-        (b"dhcpcd-script 1\nstart 0 0 up -\nturn 5 0 release 1\n", 3),
-        // a turn once the life is over; the first turn is named
+        // no last line feed
+        (
+            b"dhcpcd-script 1\nstart 0 0 up -\nturn 5 0 quiet",
+            3,
+            NotText,
+        ),
+        (
+            b"dhcpcd-script 1\nstart 0 0 up -\nturns 5 0 quiet\n",
+            3,
+            Word,
+        ),
+        // an empty line
+        (b"dhcpcd-script 1\n\nstart 0 0 up -\n", 2, Word),
+        (b"dhcpcd-script 1\nstart 0 0 up -\nc:noarp\n", 3, Order),
+        // a bare word out of its place
+        (b"dhcpcd-script 1\nstart 0 0 up -\nif\n", 3, Order),
+        // no life
+        (b"dhcpcd-script 1\nc:noarp\n", 3, Order),
+        // a life follows one that doesn't crash
+        (
+            b"dhcpcd-script 1\nstart 0 0 up -\nstart 1 0 up -\n",
+            3,
+            Order,
+        ),
+        // a turn once the life is over
         (
             b"dhcpcd-script 1\nstart 0 0 up -\nturn 5 0 stop\nturn 5005 0 quiet\nturn 0 0 quiet\n",
-            3,
+            5,
+            Order,
         ),
-        // a device whose failing calls aren't built
-        (b"dhcpcd-script 1\nfail hooks 1\nstart 0 0 up -\n", 2),
-        // calls count from 1
-        (b"dhcpcd-script 1\nfail link 0\nstart 0 0 up -\n", 2),
-        // a file twice
-        (b"dhcpcd-script 1\nfile a 00\nfile a -\nstart 0 0 up -\n", 2),
-        // a byte that no file's name has
-        (b"dhcpcd-script 1\nfile a/b 00\nstart 0 0 up -\n", 2),
-        // a name of 65 bytes
+        // a row twice, in two spellings
         (
-            b"dhcpcd-script 1\nfile 12345678901234567890123456789012345678901234567890123456789012345 -\nstart 0 0 up -\n",
+            b"dhcpcd-script 1\nrow addr 1 fe80::1/64\nrow addr 1 FE80:0::1/64\nstart 0 0 up -\n",
+            3,
+            Form,
+        ),
+        (
+            b"dhcpcd-script 1\nfile a 00\nfile a -\nstart 0 0 up -\n",
+            3,
+            Form,
+        ),
+        (b"dhcpcd-script 1\nfail link 0\nstart 0 0 up -\n", 2, Form),
+        // an interface that isn't listed
+        (
+            b"dhcpcd-script 1\nstart 0 0 up -\nturn 5 0 dup 1 fe80::1\n",
+            3,
+            Form,
+        ),
+        (
+            b"dhcpcd-script 1\nhook ended 256\nstart 0 0 up -\n",
             2,
+            Form,
         ),
-        // a life follows one that doesn't crash
-        (b"dhcpcd-script 1\nstart 0 0 up -\nstart 1 0 up -\n", 3),
-        // a life that crashes twice
+        (b"dhcpcd-script 1\nhook ended 255\nturns\n", 2, NotBuilt),
         (
-            b"dhcpcd-script 1\nstart 0 0 up -\ncrash - old\ncrash - old\n",
+            b"dhcpcd-script 1\nfail hooks 1\nstart 0 0 up -\n",
+            2,
+            NotBuilt,
+        ),
+        (
+            b"dhcpcd-script 1\nif 1 eth0 02:00:00:00:00:01\nstart 0 0 up -\nturn 5 0 dup 1 FE80::1\n",
             4,
+            NotBuilt,
         ),
-        // a number of calls above 64 bits
-        (
-            b"dhcpcd-script 1\nstart 0 0 up -\ncrash 18446744073709551616 new\n",
-            3,
-        ),
-        // no life
-        (b"dhcpcd-script 1\nc:noarp\n", 3),
+        // a hook's answer within a life
+        (b"dhcpcd-script 1\nstart 0 0 up -\nhook run\n", 3, Order),
     ];
-    for (text, line) in bad {
-        let cause = ScriptCause::NotBuilt;
+    for (text, line, cause) in bad {
         let fault = ScriptAnswer::Bad(ScriptFault { line, cause });
         match read_script(rt.alloc(), text) {
             Ok(_) => assert!(rt; false),

@@ -1,1 +1,2 @@
 pub mod LineNumberLaws
+pub mod SpelledRows

@@ -1,4 +1,5 @@
 pub mod IfaceSets
+pub mod RowSpellings
 pub mod Lines
 pub mod FailingCalls
 pub mod FirstFiles

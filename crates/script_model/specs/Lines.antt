@@ -18,6 +18,7 @@ use Rattle.script_model.specs.IfaceSets.{is_up}
 pub data Line : Type 0 where
   Head : Line
   Conf : (text : List ℕ) → Line
+  Notice : (line : ℕ) → (word : List ℕ) → Line
   Interface : (spec : IfSpec) → Line
   Life : (number : ℕ) → Line
   Start : (begin : Begin) → Line
@@ -97,6 +98,7 @@ moment_text (Some at) = decimal at
 unfoldable pub line_words : Line → List ℕ
 line_words Head = codes "dhcpcd-transcript 1"
 line_words (Conf text) = codes "c:" ++ text
+line_words (Notice line word) = codes "notice " ++ decimal line ++ codes " " ++ word
 line_words (Interface spec) = interface_text spec
 line_words (Life number) = codes "life " ++ decimal number
 line_words (Start begin) = start_text begin

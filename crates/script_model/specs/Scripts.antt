@@ -8,7 +8,7 @@ use Rattle.world.specs.declared.wakes.Event.{Event}
 use Rattle.world.specs.declared.wakes.Event.TheVariants.{Frame, Carrier, Release, Rebind, Stop, Quiet}
 use Rattle.world.specs.LinkCalls.{Given}
 use Rattle.world.specs.RowOrder.{in_row_order}
-use Rattle.world.specs.RowText.{IsBuiltRow}
+use Rattle.world.specs.Rows.{IsRow}
 use Rattle.script_model.specs.FailingCalls.{FitsFail}
 use Rattle.script_model.specs.FirstFiles.{FitsFile, UnlikeNames}
 use Rattle.script_model.specs.Crashes.{FitsCrash}
@@ -74,8 +74,8 @@ CrashBetween lives = AllPairs (λ life later. IsTrue (is_some life.crash)) lives
 pub record FitsScript (script : ScriptLines) : Type 0 where
   pub conf : All (Lacks 10) script.conf
   pub ifaces : FitInterfaces script.ifaces
-  -- rows that are built, each once
-  pub rows : All IsBuiltRow script.rows
+  -- rows that a host can hold, each once
+  pub rows : All IsRow script.rows
   pub once : length (in_row_order script.rows) ≡ length script.rows
   pub files : All FitsFile script.files
   pub unlike : AllPairs UnlikeNames script.files

@@ -7,4 +7,4 @@ mod laws;
 
 pub use crashing::CrashKind;
 pub use failing::{FailDevice, FailLine};
-pub use laws::scripts_have_lines;
+pub use laws::printed_rows_are_spelled;

@@ -1,2 +1,3 @@
+pub mod Dhcp4Settings
 pub mod Fitting
 pub mod ManagedRows

@@ -1,19 +1,20 @@
-use net_types::{IfSpec, Ip4, Net4};
+ghost use Rattle.std.specs.Prelude.{◌≡◌, IfOk};
 
-/// What the `static` lines of an interface give it.
-#[derive(Clone, Copy, Debug, PartialEq, Eq)]
-pub struct StaticLine {
-    /// `static ip_address`.
-    pub address: Net4,
-    /// `static routers`.
-    pub router: Option<Ip4>,
-}
+use crate::dhcp4_conf::Dhcp4Conf;
+use net_types::{IfSpec, Ip4, Net4};
+use std::alloc::{AllocError, Global};
 
 /// What the configuration says of an interface, as far as it is built.
-#[derive(Clone, Copy, Debug, PartialEq, Eq)]
+#[derive(Drop)]
 pub struct IfConf {
+    /// `ipv4only`: DHCPv6 doesn't run.
+    pub ipv4only: bool,
+    /// `ipv6only`: neither DHCPv4 runs, nor is a link-local address chosen.
+    pub ipv6only: bool,
     /// `nodhcp`: no DHCPv4 runs.
     pub nodhcp: bool,
+    /// `nodhcp6`: no DHCPv6 runs.
+    pub nodhcp6: bool,
     /// `noipv4ll`: no link-local address is chosen.
     pub noipv4ll: bool,
     /// `nodelay`: the first DISCOVER goes out without the random delay.
@@ -28,13 +29,56 @@ pub struct IfConf {
     pub timeout: u32,
     /// `reboot`: for how many seconds a kept lease is asked for again; 0 is not at all.
     pub reboot: u32,
-    /// `static ip_address` with `static routers`.
-    pub line: Option<StaticLine>,
+    /// `metric`: that of the interface's routes. Where it isn't said it comes of the interface's index.
+    pub metric: Option<u32>,
+    /// `static ip_address`.
+    pub address: Option<Net4>,
+    /// The first of `static routers`, which goes before the routers of a lease.
+    pub router: Option<Ip4>,
+    /// What its DHCPv4 client says and wants.
+    pub dhcp4: Dhcp4Conf,
+}
+
+impl IfConf {
+    /// A copy of it.
+    pub fn to_owned(&self, alloc: Global) -> Result<IfConf, AllocError>
+        ensures { IfOk result (λ copy. copy ≡ self.now) }
+    {
+        Ok(IfConf {
+            ipv4only: self.ipv4only,
+            ipv6only: self.ipv6only,
+            nodhcp: self.nodhcp,
+            nodhcp6: self.nodhcp6,
+            noipv4ll: self.noipv4ll,
+            nodelay: self.nodelay,
+            noarp: self.noarp,
+            broadcast: self.broadcast,
+            release: self.release,
+            timeout: self.timeout,
+            reboot: self.reboot,
+            metric: self.metric,
+            address: self.address,
+            router: self.router,
+            dhcp4: self.dhcp4.to_owned(alloc)?,
+        })
+    }
 }
 
 /// A managed interface and its configuration.
-#[derive(Clone, Copy, Debug, PartialEq, Eq)]
+#[derive(Drop)]
 pub struct Managed {
     pub spec: IfSpec,
     pub conf: IfConf,
+}
+
+impl Managed {
+    /// A copy of it.
+    pub fn to_owned(&self, alloc: Global) -> Result<Managed, AllocError>
+        ensures { IfOk result (λ copy. copy ≡ self.now) }
+    {
+        Ok(Managed {
+            spec: self.spec,
+            conf: self.conf.to_owned(alloc)?,
+        })
+    }
 }

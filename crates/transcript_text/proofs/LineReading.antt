@@ -80,6 +80,15 @@ interface_whole spec h =
     let small : spec.index.number < 2 ^ 64 = omega (arith, h.0) in
     simp append_assoc (rw (cut_number spec.index.number (name_text spec.name ++ 32 ∷ mac_text spec.mac) small, cut_name spec.name (mac_text spec.mac) h.1, number_whole spec.index.number small, name_whole spec.name h.1, mac_whole spec.mac h.2) refl)
 
+unfoldable pub notice_in : List ℕ → Line
+notice_in text = Model.Notice (number_in (cut text).0) (cut text).1
+
+notice_whole : (line : ℕ) (word : List ℕ) → FitsLine (Model.Notice line word) → notice_in (decimal line ++ codes " " ++ word) ≡ Model.Notice line word
+unfolding notice_in
+notice_whole line word h =
+    let small : line < 2 ^ 64 = omega (arith, h) in
+    simp append_assoc (rw (cut_number line word small, number_whole line small) refl)
+
 unfoldable pub up_in : List ℕ → ℕ
 up_in = after (codes "up ") (λ text. bits_of (numbers_in text)) (λ text. 0)
 
@@ -226,6 +235,7 @@ names_whole (name ∷ names) word free h = word_then word (name ++ flat_map (λ 
 unfoldable pub line_in : List ℕ → Line
 line_in =
     after (codes "c:") (λ text. Model.Conf text)
+    (after (codes "notice ") notice_in
     (after (codes "if ") interface_in
     (after (codes "life ") (λ text. Model.Life (number_in text))
     (after (codes "start ") start_in
@@ -247,12 +257,13 @@ line_in =
     (after (codes "until ") (λ text. Model.Until (number_at (2 ^ 64) text))
     (after (codes "hold addr ") hold_in
     (after (codes "end") (λ text. Model.EndOfLife)
-    (λ text. Model.Head))))))))))))))))))))))
+    (λ text. Model.Head)))))))))))))))))))))))
 
 pub line_whole : (line : Line) → FitsLine line → line_in (line_words line) ≡ line
 unfolding line_in line_words strip_word
 line_whole Model.Head h = refl
 line_whole (Model.Conf text) h = refl
+line_whole (Model.Notice line word) h = notice_whole line word h
 line_whole (Model.Interface spec) h = interface_whole spec h
 line_whole (Model.Life number) h = ap Model.Life (number_whole number h)
 line_whole (Model.Start begin) h = start_whole begin h

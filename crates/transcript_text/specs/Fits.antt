@@ -44,6 +44,7 @@ FitsNet (V6 net) = ⊥
 abbrev pub FitsLine : Line → Type 0
 FitsLine Model.Head = Unit {0}
 FitsLine (Model.Conf text) = Unit {0}
+FitsLine (Model.Notice line word) = line < 2 ^ 32
 FitsLine (Model.Interface spec) = (spec.index.number < 2 ^ 32) × FitsName spec.name × FitsMac spec.mac
 FitsLine (Model.Life number) = IsWord number
 FitsLine (Model.Start begin) = IsWord begin.at × IsWord begin.salt × IsWord begin.up

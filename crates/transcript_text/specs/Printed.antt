@@ -7,7 +7,7 @@ use Rattle.script_model.specs.Lines as Model
 use Rattle.transcript_text.specs.declared.lines.Reading.{Reading}
 use Rattle.transcript_text.specs.declared.lines.Reading.TheVariants.{Found, Missing, Unread}
 use Rattle.transcript_text.specs.declared.lines.TranscriptLine.{TranscriptLine}
-use Rattle.transcript_text.specs.declared.lines.TranscriptLine.TheVariants.{Head, Conf, Interface, Life, Start, Asides, AsidesFailed, Wrote, Synced, Renamed, Removed, Settled, Read, Turn, Send, HostListed, Row, HostListFailed, HostDel, HostAdd, Until, Hold, EndOfLife}
+use Rattle.transcript_text.specs.declared.lines.TranscriptLine.TheVariants.{Head, Conf, Notice, Interface, Life, Start, Asides, AsidesFailed, Wrote, Synced, Renamed, Removed, Settled, Read, Turn, Send, HostListed, Row, HostListFailed, HostDel, HostAdd, Until, Hold, EndOfLife}
 
 abbrev pub reading_of : Reading → Store.Reading
 reading_of (Found bytes) = Store.Found bytes.now
@@ -17,6 +17,7 @@ reading_of Unread = Store.Unread
 abbrev pub line_of : TranscriptLine → Line
 line_of Head = Model.Head
 line_of (Conf text) = Model.Conf text.now
+line_of (Notice line word) = Model.Notice line word.now
 line_of (Interface spec) = Model.Interface spec
 line_of (Life number) = Model.Life number
 line_of (Start begin) = Model.Start begin

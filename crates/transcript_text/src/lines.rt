@@ -20,6 +20,11 @@ pub enum TranscriptLine<'a> {
     Head,
     /// A line of the configuration, without its line feed.
     Conf(&'a [u8]),
+    /// A line of the configuration, from 1, has a word that does nothing.
+    Notice {
+        line: u32,
+        word: &'a str,
+    },
     Interface(IfSpec),
     /// A life begins, counted from 1.
     Life(u64),

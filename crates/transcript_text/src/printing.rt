@@ -29,6 +29,23 @@ fn outcome(done: bool) -> Piece<'static>
 }
 
 #[tactic(auto, unfolding(script_model::specs::Lines::line_words), using(std::proofs::Common::append_assoc))]
+fn print_notice(line: u32, word: &str, into: &mut Vec<u8>) -> Result<(), NoMemory>
+    ensures ok { OnOk result (into.new.items ≡ into.old.items ++ line_text (Lines.Notice line word.now)) }
+    ensures err { OnErr result (into.new.items ≡ into.old.items) }
+{
+    append_pieces(
+        &[
+            Piece::Word(b"notice "),
+            Piece::Number(u64::from(line)),
+            BLANK,
+            Piece::Word(word.as_bytes()),
+            LINE_END,
+        ],
+        into,
+    )
+}
+
+#[tactic(auto, unfolding(script_model::specs::Lines::line_words), using(std::proofs::Common::append_assoc))]
 fn print_interface(spec: IfSpec, into: &mut Vec<u8>) -> Result<(), NoMemory>
     ensures ok { OnOk result (into.new.items ≡ into.old.items ++ line_text (Lines.Interface spec)) }
     ensures err { OnErr result (into.new.items ≡ into.old.items) }
@@ -259,6 +276,7 @@ pub fn print_line(line: &TranscriptLine<'_>, into: &mut Vec<u8>) -> Result<(), N
     match *line {
         Line::Head => append_bytes(b"dhcpcd-transcript 1\n", into),
         Line::Conf(text) => append_pieces(&[Word(b"c:"), Word(text), LINE_END], into),
+        Line::Notice { line, word } => print_notice(line, word, into),
         Line::Interface(spec) => print_interface(spec, into),
         Line::Life(number) => print_number(b"life ", number, into),
         Line::Start(begin) => print_start(begin, into),

@@ -46,6 +46,10 @@ fn prints_what_examples_do_not_show(rt: HostRuntime) -> Result<(), Fail> {
         bytes: b"".as_slice(),
     };
     let lines = [
+        TranscriptLine::Notice {
+            line: 12,
+            word: "résumé now",
+        },
         TranscriptLine::Asides(&asides),
         TranscriptLine::AsidesFailed,
         TranscriptLine::Wrote {
@@ -94,7 +98,8 @@ fn prints_what_examples_do_not_show(rt: HostRuntime) -> Result<(), Fail> {
     ];
     assert_eq!(rt;
         str::from_utf8(&printed(alloc, &lines)?)?,
-        "store list ok duid.new eth0.lease4.new\n\
+        "notice 12 résumé now\n\
+         store list ok duid.new eth0.lease4.new\n\
          store list failed\n\
          store write duid 000aff ok\n\
          store write resolv.conf - failed\n\

@@ -1,11 +1,11 @@
 -- The host in a life over devices that tell what they hold and which of their calls fail.
-use Rattle.std.specs.Prelude.{ℕ, List, [], ◌∷◌}
+use Rattle.std.specs.Prelude.{◌≡◌, ℕ, List, [], ◌∷◌}
 use Rattle.net_types.specs.declared.interface.IfSpec.{IfSpec}
 use Rattle.world.specs.declared.rows.HostRow.{HostRow}
 use Rattle.world.specs.LinkCalls.{Given}
 use Rattle.settings.specs.declared.interfaces.Managed.{Managed}
 use Rattle.client_model.specs.Clients.{rows_of}
-use Rattle.host_model.specs.HostTable.{Table, NoneFails, Holds}
+use Rattle.host_model.specs.HostTable.{Table, NoneFails, Holds, InRowOrder, other_rows, unknown_table}
 use Rattle.device_calls.specs.Worlds.{World}
 use Rattle.turn_model.specs.Turns.{Life}
 use Rattle.turn_model.specs.Foretold.{ran_opening, ran_turn}
@@ -39,3 +39,19 @@ abbrev pub HoldsUnlessFailed : List Managed → (failing : List ℕ) → (first 
 HoldsUnlessFailed managed failing first before after =
     NoneFails managed failing (rows_of after.life.client) before
     → Holds managed (rows_of after.life.client) first after.world.host.told.rows
+
+-- so after the opening, from any host,
+abbrev pub OpeningHoldsWanted : Type 0
+OpeningHoldsWanted = (managed : List Managed) (specs : List IfSpec) (world : World) → InRowOrder world.host.told.rows
+    → HoldsUnlessFailed managed world.host.failing world.host.told.rows (unknown_table world.host.told) (running_opened managed specs world)
+
+-- and after every turn
+abbrev pub TurnsHoldWanted : Type 0
+TurnsHoldWanted = (managed : List Managed) (specs : List IfSpec) (world : World) (earlier : List Given) (given : Given) → InRowOrder world.host.told.rows
+    → let before = life_run managed specs world earlier in
+    HoldsUnlessFailed managed world.host.failing world.host.told.rows (table_of before) (running_turned managed before given)
+
+-- The rows of others stay, whatever fails.
+abbrev pub OthersStay : Type 0
+OthersStay = (managed : List Managed) (specs : List IfSpec) (world : World) (turns : List Given) → InRowOrder world.host.told.rows
+    → other_rows managed (life_run managed specs world turns).world.host.told.rows ≡ other_rows managed world.host.told.rows

@@ -1,19 +1,13 @@
-ghost use Rattle.std.specs.Prelude.{◌≡◌, List};
-ghost use Rattle.net_types.specs.declared.interface.IfSpec.{IfSpec};
-ghost use Rattle.world.specs.LinkCalls.{Given};
-ghost use Rattle.settings.specs.declared.interfaces.Managed.{Managed};
-ghost use Rattle.host_model.specs.HostTable.{InRowOrder, other_rows, unknown_table};
-ghost use Rattle.device_calls.specs.Worlds.{World};
 ghost use Rattle.turn_model.specs.FilesInLife.{LeavesFilesInOrder, OpeningKeepsFiles, TurnsKeepFiles, UnlikeAreNamedApart};
-ghost use Rattle.turn_model.specs.HostInLife.{running_opened, running_turned, life_run, table_of, HoldsUnlessFailed};
+ghost use Rattle.turn_model.specs.HostInLife.{OpeningHoldsWanted, TurnsHoldWanted, OthersStay};
 
 /// Law of a life over devices that tell what they hold and which of their calls fail, from any host and over any store: after
 /// the opening, and after every turn, in which no host call failed, whatever failed before, the host has exactly the rows that
 /// the client then wants on managed interfaces; and the rows of others are as at the beginning, whatever fails.
 pub fn a_life_holds_the_wanted_rows()
-    ensures opening { (managed : List Managed) (specs : List IfSpec) (world : World) → InRowOrder world.host.told.rows → HoldsUnlessFailed managed world.host.failing world.host.told.rows (unknown_table world.host.told) (running_opened managed specs world) }
-    ensures turns { (managed : List Managed) (specs : List IfSpec) (world : World) (earlier : List Given) (given : Given) → InRowOrder world.host.told.rows → HoldsUnlessFailed managed world.host.failing world.host.told.rows (table_of (life_run managed specs world earlier)) (running_turned managed (life_run managed specs world earlier) given) }
-    ensures others_stay { (managed : List Managed) (specs : List IfSpec) (world : World) (turns : List Given) → InRowOrder world.host.told.rows → other_rows managed (life_run managed specs world turns).world.host.told.rows ≡ other_rows managed world.host.told.rows }
+    ensures opening { OpeningHoldsWanted }
+    ensures turns { TurnsHoldWanted }
+    ensures others_stay { OthersStay }
 {}
 
 /// Law of the files of leases in such a life, over any store whose files stand in order, where no two interfaces have one name:

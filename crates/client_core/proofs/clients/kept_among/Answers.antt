@@ -4,11 +4,11 @@ use Rattle.lease_text.specs.Leases.{lease_content}
 use Rattle.client_core.proofs.Untouched.{kept_by_none, kept_by_one}
 use Rattle.client_core.proofs.clients.kept_among.Goals as goal
 
-pub returns-in_err-one-clause-value : goal.returns-in_err-one-clause-value
-returns-in_err-one-clause-value c =
+pub returns-in_err-iface-clause-value : goal.returns-in_err-iface-clause-value
+returns-in_err-iface-clause-value c =
     ap (option_map (λ lease. lease_content lease.now)) c.from_residual.ensures
-    ∙ kept_by_none c.args.index.number c.args.running.now (ap option_copied (sym c.in_err-one.was) ∙ c.one_of.ensures)
+    ∙ kept_by_none c.args.index.number c.args.ifaces.now (ap option_copied (sym c.in_err-iface.was) ∙ c.iface_of.ensures)
 
 pub returns-clause-value : goal.returns-clause-value
 returns-clause-value c =
-    c.iface_kept.ensures.value ∙ kept_by_one c.args.index.number c.args.running.now c.in_ok-one.one.now (ap option_copied (sym c.in_ok-one.was) ∙ c.one_of.ensures)
+    c.iface_kept.ensures.value ∙ kept_by_one c.args.index.number c.args.ifaces.now c.in_ok-iface.iface.now (ap option_copied (sym c.in_ok-iface.was) ∙ c.iface_of.ensures)

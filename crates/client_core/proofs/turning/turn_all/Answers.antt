@@ -1,102 +1,111 @@
-use Rattle.std.proofs.Common.{◌≡◌, List, ◌++◌, get_or, map, take, sym, ap, subst, ◌∙◌}
+use Rattle.std.proofs.Common.{ℕ, ◌≡◌, ◌+◌, ◌<◌, [], List, ◌++◌, get_or, length, set, take, sym, ap, subst, ◌∙◌, arith}
 use Rattle.std.specs.Prelude.{flat_map}
 use Rattle.std.specs.List.{AllByRecursion}
 use Rattle.std.proofs.lemmas.List.{take_all}
-use Rattle.std.proofs.lemmas.List.Folds.{flat_map-map}
-use Rattle.std.proofs.lemmas.Simd.{map-map}
-use Rattle.world.specs.declared.rows.HostRow.{HostRow}
 use Rattle.client_model.specs.declared.interfaces.Iface.{Iface}
 use Rattle.client_model.specs.declared.steps.News.{News}
+use Rattle.client_model.specs.Fitting.{FitsIface, AreIfaces}
 use Rattle.client_model.specs.IfaceSteps.{IfaceStep, news_of}
 use Rattle.client_model.specs.IfaceTurns.{Turn, iface_turned}
 use Rattle.client_model.specs.Clients.{Sending, sends_of}
+use Rattle.client_model.specs.WantedRows.{iface_rows}
 use Rattle.client_model.proofs.SameInterfaces.{turned_same}
 use Rattle.iface_core.specs.Inputs.{turn_of}
 use Rattle.iface_core.specs.Outcomes.{asked_in}
-use Rattle.client_core.specs.declared.running.Running.{Running}
-use Rattle.client_core.specs.Running.{AreRunning, IsRunning, ifaces_in}
 use Rattle.client_core.specs.Touched.{KeepsUntouched}
-use Rattle.client_core.proofs.Going.{running_turned, turned_so, offers_so, tells_so, brings_so, keeps_so, turned_running}
-use Rattle.client_core.proofs.InPlace.{Gone, each_of, gone_all, next_of, go_on_more, add_more, same_more}
+use Rattle.client_core.proofs.Going.{turned, turned_fit, managed_fits, rows_at, as_many, brings_more}
+use Rattle.client_core.proofs.InPlace.{Gone, as_long, each_of, gone_all, next_of, go_on_more, add_more}
 use Rattle.client_core.proofs.Untouched.{Keeps, untouched_more, untouched_all}
 use Rattle.client_core.proofs.turning.turn_all.Goals as goal
 
-abbrev rows_in : Running → List HostRow
-rows_in one = one.rows
+pub turn_iface-requires-clause-index : goal.turn_iface-requires-clause-index
+turn_iface-requires-clause-index c =
+    let go : (Iface → Iface) = turned c.args.own.now (turn_of c.args.turn.now) in
+    let gone : Gone go c.args.ifaces.now c.loop-iface.ifaces c.loop-iface.iface-index = record { at = c.loop-iface-test.true; so_far = c.loop-iface.invariant.go_on } in
+    (subst FitsIface (sym (next_of go c.args.ifaces.now c.loop-iface.ifaces c.loop-iface.iface-index _ gone))
+    (each_of FitsIface c.args.ifaces.now c.loop-iface.iface-index _ c.loop-iface-test.true c.requires.running.fit)).managed.index
 
-pub turn_one-requires-clause-running : goal.turn_one-requires-clause-running
-turn_one-requires-clause-running c =
-    let go : (Running → Running) = running_turned c.args.own.now (turn_of c.args.turn.now) in
-    let gone : Gone go c.args.running.now c.loop-one.running c.loop-one.one-index = record { at = c.loop-one-test.true; so_far = c.loop-one.invariant.go_on } in
-    subst IsRunning (sym (next_of go c.args.running.now c.loop-one.running c.loop-one.one-index _ gone))
-    (each_of IsRunning c.args.running.now c.loop-one.one-index _ c.loop-one-test.true c.requires.running)
+pub renew_rows-requires-clause-fit : goal.renew_rows-requires-clause-fit
+renew_rows-requires-clause-fit c =
+    let go : (Iface → Iface) = turned c.args.own.now (turn_of c.args.turn.now) in
+    let gone : Gone go c.args.ifaces.now c.loop-iface.ifaces c.loop-iface.iface-index = record { at = c.loop-iface-test.true; so_far = c.loop-iface.invariant.go_on } in
+    let old : Iface = get_or c.loop-iface.ifaces c.loop-iface.iface-index c.iface-item.result in
+    managed_fits c.args.own.now (turn_of c.args.turn.now) old c.turn_iface.new.iface
+    (subst FitsIface (sym (next_of go c.args.ifaces.now c.loop-iface.ifaces c.loop-iface.iface-index _ gone))
+    (each_of FitsIface c.args.ifaces.now c.loop-iface.iface-index _ c.loop-iface-test.true c.requires.running.fit))
+    c.in_ok-changes.ensures.goes.goes_on
 
-pub loop-one-preserved : goal.loop-one-preserved
-loop-one-preserved c =
+pub renew_rows-requires-clause-place : goal.renew_rows-requires-clause-place
+renew_rows-requires-clause-place c =
+    let many : length c.loop-iface.tables ≡ length c.loop-iface.ifaces = as_many c.loop-iface.ifaces c.loop-iface.tables c.loop-iface.invariant.brings in
+    let long : length c.loop-iface.ifaces ≡ length c.args.ifaces.now =
+    as_long (turned c.args.own.now (turn_of c.args.turn.now)) c.args.ifaces.now c.loop-iface.ifaces c.loop-iface.iface-index c.loop-iface.invariant.go_on in
+    let here : c.loop-iface.place ≡ c.loop-iface.iface-index = c.loop-iface.invariant.place in
+    let lt : c.loop-iface.iface-index < length c.args.ifaces.now = c.loop-iface-test.true in
+    omega arith
+
+pub renew_rows-requires-clause-same : goal.renew_rows-requires-clause-same
+renew_rows-requires-clause-same c =
+    let long : length c.loop-iface.ifaces ≡ length c.args.ifaces.now =
+    as_long (turned c.args.own.now (turn_of c.args.turn.now)) c.args.ifaces.now c.loop-iface.ifaces c.loop-iface.iface-index c.loop-iface.invariant.go_on in
+    let lt : c.loop-iface.iface-index < length c.args.ifaces.now = c.loop-iface-test.true in
+    let here : c.loop-iface.iface-index < length c.loop-iface.ifaces = omega arith in
+    λ none.
+    ap (λ (n : ℕ). get_or c.loop-iface.tables n []) c.loop-iface.invariant.place
+    ∙ rows_at c.loop-iface.ifaces c.loop-iface.tables c.loop-iface.iface-index c.iface-item.result c.loop-iface.invariant.brings here
+    ∙ sym (c.in_ok-changes.ensures.same none)
+
+pub loop-iface-preserved : goal.loop-iface-preserved
+loop-iface-preserved c =
     let turn : Turn = turn_of c.args.turn.now in
-    let go : (Running → Running) = running_turned c.args.own.now turn in
-    let offers : (Running → List Sending) = λ one. sends_of (iface_turned c.args.own.now turn one.iface) in
-    let tells : (Running → List News) = λ one. news_of (iface_turned c.args.own.now turn one.iface) in
-    let gone : Gone go c.args.running.now c.loop-one.running c.loop-one.one-index = record { at = c.loop-one-test.true; so_far = c.loop-one.invariant.go_on } in
-    let old : Running = get_or c.loop-one.running c.loop-one.one-index c.one-item.result in
-    let is : c.turn_one.new.one ≡ go old =
-    turned_so c.args.own.now turn old c.turn_one.new.one (asked_in c.loop-one.outs) (asked_in c.turn_one.new.outs) c.in_ok-changes.ensures.goes in
-    let step : IfaceStep = iface_turned c.args.own.now turn old.iface in
+    let go : (Iface → Iface) = turned c.args.own.now turn in
+    let offers : (Iface → List Sending) = λ iface. sends_of (iface_turned c.args.own.now turn iface) in
+    let tells : (Iface → List News) = λ iface. news_of (iface_turned c.args.own.now turn iface) in
+    let gone : Gone go c.args.ifaces.now c.loop-iface.ifaces c.loop-iface.iface-index = record { at = c.loop-iface-test.true; so_far = c.loop-iface.invariant.go_on } in
+    let old : Iface = get_or c.loop-iface.ifaces c.loop-iface.iface-index c.iface-item.result in
+    let is : c.turn_iface.new.iface ≡ go old = c.in_ok-changes.ensures.goes.goes_on in
     record {
-      go_on = go_on_more go c.args.running.now c.loop-one.running c.loop-one.one-index c.one-item.result c.turn_one.new.one gone is;
-      offer = add_more go offers c.args.running.now c.loop-one.running c.loop-one.one-index c.one-item.result (asked_in c.args.outs.now).sends
-          (asked_in c.loop-one.outs).sends (asked_in c.turn_one.new.outs).sends gone c.loop-one.invariant.offer
-          (offers_so step c.turn_one.new.one (asked_in c.loop-one.outs) (asked_in c.turn_one.new.outs) c.in_ok-changes.ensures.goes);
-      tell = add_more go tells c.args.running.now c.loop-one.running c.loop-one.one-index c.one-item.result (asked_in c.args.outs.now).news
-          (asked_in c.loop-one.outs).news (asked_in c.turn_one.new.outs).news gone c.loop-one.invariant.tell
-          (tells_so step c.turn_one.new.one (asked_in c.loop-one.outs) (asked_in c.turn_one.new.outs) c.in_ok-changes.ensures.goes);
-      same = same_more go rows_in c.args.running.now c.loop-one.running c.loop-one.one-index c.one-item.result c.turn_one.new.one c.loop-one.rows c.in_ok-changes.changes.rows gone
-          is c.loop-one.invariant.same (brings_so c.in_ok-changes.changes.rows old c.turn_one.new.one c.in_ok-changes.ensures.same);
-      untouched = untouched_more go (λ (one : Running). turned_same c.args.own.now turn one.iface) c.args.running.now c.loop-one.running c.loop-one.one-index c.one-item.result c.turn_one.new.one
-          c.in_ok-changes.changes.kept c.loop-one.touched.items c.note.new.touched.items gone is c.in_ok-note.ensures
-          (keeps_so c.in_ok-changes.changes.kept old c.turn_one.new.one c.in_ok-changes.ensures.kept) c.loop-one.invariant.untouched;
+      place = ap (λ (n : ℕ). n + 1) c.loop-iface.invariant.place;
+      go_on = go_on_more go c.args.ifaces.now c.loop-iface.ifaces c.loop-iface.iface-index c.iface-item.result c.turn_iface.new.iface gone is;
+      brings = brings_more c.loop-iface.ifaces c.loop-iface.tables c.renew_rows.new.tables c.loop-iface.iface-index c.turn_iface.new.iface c.loop-iface.invariant.brings
+          (c.in_ok-renew_rows.ensures ∙ ap (λ (n : ℕ). set c.loop-iface.tables n (iface_rows c.turn_iface.new.iface)) c.loop-iface.invariant.place);
+      offer = add_more go offers c.args.ifaces.now c.loop-iface.ifaces c.loop-iface.iface-index c.iface-item.result (asked_in c.args.outs.now).sends
+          (asked_in c.loop-iface.outs).sends (asked_in c.turn_iface.new.outs).sends gone c.loop-iface.invariant.offer c.in_ok-changes.ensures.goes.offers;
+      tell = add_more go tells c.args.ifaces.now c.loop-iface.ifaces c.loop-iface.iface-index c.iface-item.result (asked_in c.args.outs.now).news
+          (asked_in c.loop-iface.outs).news (asked_in c.turn_iface.new.outs).news gone c.loop-iface.invariant.tell c.in_ok-changes.ensures.goes.tells;
+      untouched = untouched_more go (λ (iface : Iface). turned_same c.args.own.now turn iface) c.args.ifaces.now c.loop-iface.ifaces c.loop-iface.iface-index c.iface-item.result c.turn_iface.new.iface
+          c.in_ok-changes.changes.kept c.loop-iface.touched.items c.note.new.touched.items gone is c.in_ok-note.ensures c.in_ok-changes.ensures.kept c.loop-iface.invariant.untouched;
     }
 
 pub returns-clause-goes : goal.returns-clause-goes
 returns-clause-goes c =
     let turn : Turn = turn_of c.args.turn.now in
-    let go : (Running → Running) = running_turned c.args.own.now turn in
+    let go : (Iface → Iface) = turned c.args.own.now turn in
     let step : (Iface → IfaceStep) = iface_turned c.args.own.now turn in
-    let all : List Running = c.args.running.now in
-    let seen : take c.loop-one.one-index all ≡ all = take_all c.loop-one.one-index all c.loop-one-test.false in
+    let all : List Iface = c.args.ifaces.now in
+    let seen : take c.loop-iface.iface-index all ≡ all = take_all c.loop-iface.iface-index all c.loop-iface-test.false in
     record {
-      go_on = ap ifaces_in (gone_all go all c.loop-one.running c.loop-one.one-index c.loop-one-test.false c.loop-one.invariant.go_on)
-          ∙ map-map (λ (one : Running). one.iface) go all ∙ sym (map-map (λ (iface : Iface). (step iface).iface) (λ (one : Running). one.iface) all);
-      offer = c.loop-one.invariant.offer
-          ∙ ap (λ (some : List Running). (asked_in c.args.outs.now).sends ++ flat_map (λ (one : Running). sends_of (step one.iface)) some) seen
-          ∙ ap (λ (sends : List Sending). (asked_in c.args.outs.now).sends ++ sends) (sym (flat_map-map (λ (iface : Iface). sends_of (step iface)) (λ (one : Running). one.iface) all));
-      tell = c.loop-one.invariant.tell
-          ∙ ap (λ (some : List Running). (asked_in c.args.outs.now).news ++ flat_map (λ (one : Running). news_of (step one.iface)) some) seen
-          ∙ ap (λ (news : List News). (asked_in c.args.outs.now).news ++ news) (sym (flat_map-map (λ (iface : Iface). news_of (step iface)) (λ (one : Running). one.iface) all));
+      go_on = gone_all go all c.loop-iface.ifaces c.loop-iface.iface-index c.loop-iface-test.false c.loop-iface.invariant.go_on;
+      offer = c.loop-iface.invariant.offer ∙ ap (λ (some : List Iface). (asked_in c.args.outs.now).sends ++ flat_map (λ (iface : Iface). sends_of (step iface)) some) seen;
+      tell = c.loop-iface.invariant.tell ∙ ap (λ (some : List Iface). (asked_in c.args.outs.now).news ++ flat_map (λ (iface : Iface). news_of (step iface)) some) seen;
     }
 
 pub returns-clause-running : goal.returns-clause-running
 returns-clause-running c =
-    let go : (Running → Running) = running_turned c.args.own.now (turn_of c.args.turn.now) in
-    subst AreRunning (sym (gone_all go c.args.running.now c.loop-one.running c.loop-one.one-index c.loop-one-test.false c.loop-one.invariant.go_on))
-    (turned_running c.args.own.now (turn_of c.args.turn.now) c.args.running.now c.requires.running)
-
-pub returns-clause-same : goal.returns-clause-same
-returns-clause-same c =
-    let go : (Running → Running) = running_turned c.args.own.now (turn_of c.args.turn.now) in
-    let all : List Running = c.args.running.now in
-    let seen : take c.loop-one.one-index all ≡ all = take_all c.loop-one.one-index all c.loop-one-test.false in
-    λ none.
-    ap (flat_map rows_in) (gone_all go all c.loop-one.running c.loop-one.one-index c.loop-one-test.false c.loop-one.invariant.go_on)
-    ∙ ap (λ (some : List Running). flat_map rows_in (map go some)) (sym seen) ∙ c.loop-one.invariant.same none ∙ ap (flat_map rows_in) seen
+    let go : (Iface → Iface) = turned c.args.own.now (turn_of c.args.turn.now) in
+    record {
+      fit = subst AreIfaces (sym (gone_all go c.args.ifaces.now c.loop-iface.ifaces c.loop-iface.iface-index c.loop-iface-test.false c.loop-iface.invariant.go_on))
+          (turned_fit c.args.own.now (turn_of c.args.turn.now) c.args.ifaces.now c.requires.running.fit);
+      brings = c.loop-iface.invariant.brings;
+    }
 
 pub returns-clause-untouched : goal.returns-clause-untouched
 returns-clause-untouched c =
     let turn : Turn = turn_of c.args.turn.now in
-    let go : (Running → Running) = running_turned c.args.own.now turn in
-    let all : List Running = c.args.running.now in
-    subst (λ (new : List Running). KeepsUntouched c.loop-one.touched.items (ifaces_in all) (ifaces_in new))
-    (sym (gone_all go all c.loop-one.running c.loop-one.one-index c.loop-one-test.false c.loop-one.invariant.go_on))
-    (untouched_all go (λ (one : Running). turned_same c.args.own.now turn one.iface) c.loop-one.touched.items all
-    (subst (λ (some : List Running). AllByRecursion (Keeps go c.loop-one.touched.items) some) (take_all c.loop-one.one-index all c.loop-one-test.false)
-    c.loop-one.invariant.untouched))
+    let go : (Iface → Iface) = turned c.args.own.now turn in
+    let all : List Iface = c.args.ifaces.now in
+    subst (λ (new : List Iface). KeepsUntouched c.loop-iface.touched.items all new)
+    (sym (gone_all go all c.loop-iface.ifaces c.loop-iface.iface-index c.loop-iface-test.false c.loop-iface.invariant.go_on))
+    (untouched_all go (λ (iface : Iface). turned_same c.args.own.now turn iface) c.loop-iface.touched.items all
+    (subst (λ (some : List Iface). AllByRecursion (Keeps go c.loop-iface.touched.items) some) (take_all c.loop-iface.iface-index all c.loop-iface-test.false)
+    c.loop-iface.invariant.untouched))

@@ -15,7 +15,7 @@ loop-m-preserved g c =
       so_far = λ rest new text more.
           subst (λ (all : List Loaded). Does (loading c.args.managed.now) all (g.W.Outside.seen c.args.outside.now) new c.args.text.now.items text) (front_more at.invariant.front loads.loaded rest)
           (at.invariant.so_far (loads.loaded ∷ rest) new text
-          (loading_more c.args.managed.now at.m-index _ loads.loaded rest _ _ new _ _ text c.loop-m-test.true loads.does more));
+          (loading_more c.args.managed.now at.m-index c.m-item.result loads.loaded rest _ _ new _ _ text c.m-item.is c.loop-m-test.true loads.does more));
       beginnings_are = beginnings_more code.beginning_of at.invariant.front loads.loaded at.beginnings.items _ c.in_ok-one.one.beginning c.in_ok-push.ensures.items at.invariant.beginnings_are loads.beginning_is;
       files_are = files_more at.invariant.front loads.loaded at.files.items _ c.in_ok-one.one.file c.in_ok-push_file.ensures at.invariant.files_are loads.file_is;
       fit = fit_more FitsBeginning code.beginning_of at.beginnings.items _ c.in_ok-one.one.beginning c.in_ok-push.ensures.items at.invariant.fit c.in_ok-one.ensures.fit;

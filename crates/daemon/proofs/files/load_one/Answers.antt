@@ -1,7 +1,8 @@
 use Rattle.std.proofs.Common.{None, Some, refl, ap, ◌∙◌}
 use Rattle.std.specs.Prelude.{option_to_list}
 use Rattle.lease_file.specs.FileReads.{got_reading}
-use Rattle.turn_model.specs.LeaseFiles.{loaded}
+use Rattle.settings.specs.declared.interfaces.Managed.{Managed}
+use Rattle.turn_model.specs.LeaseFiles.{loaded, beginning_of}
 use Rattle.daemon.proofs.LoadedFiles.{loads_none, loads_some}
 use Rattle.daemon.proofs.files.load_one.Goals as goal
 
@@ -9,7 +10,7 @@ pub returns-then-not-runs_dhcp4-clause-loads : goal.returns-then-not-runs_dhcp4-
 returns-then-not-runs_dhcp4-clause-loads g c = record {
   loaded = loaded c.args.managed.now None;
   does = loads_none c.args.managed.now c.runs_dhcp4.result _ _ c.runs_dhcp4.ensures c.if-not-runs_dhcp4.true;
-  beginning_is = refl;
+  beginning_is = ap (λ (m : Managed). beginning_of (loaded m None)) c.in_ok-to_owned.ensures;
   file_is = refl;
 }
 

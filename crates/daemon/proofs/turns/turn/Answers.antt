@@ -1,4 +1,4 @@
-use Rattle.std.proofs.Common.{◌≡◌, List, subst}
+use Rattle.std.proofs.Common.{◌≡◌, List, sym, subst}
 use Rattle.std.specs.Prelude.{map}
 use Rattle.world.specs.declared.rows.HostRow.{HostRow}
 use Rattle.iface_core.specs.declared.outs.Sending.{Sending}
@@ -7,7 +7,8 @@ use Rattle.iface_core.specs.Outcomes.{asked_in, sending_of}
 use Rattle.client_model.specs.IfaceTurns.{Turn}
 use Rattle.device_calls.specs.Does.{Does}
 use Rattle.turn_model.specs.Turns.{input_of, hosting, offering}
-use Rattle.daemon.specs.Lives.{keys_of, life_of}
+use Rattle.daemon.specs.Lives.{keys_of, life_of, IsBelowEnd}
+use Rattle.daemon.proofs.StopMoments.{stop_below}
 use Rattle.daemon.proofs.KeptFiles.{kept_but}
 use Rattle.daemon.proofs.TurnSteps.{turn_made}
 use Rattle.daemon.proofs.turns.turn.Goals as goal
@@ -15,6 +16,17 @@ use Rattle.daemon.proofs.turns.turn.Goals as goal
 pub keep_all-requires : goal.keep_all-requires
 keep_all-requires g c =
     kept_but c.in_ok-stepped.stepped.touched.items c.deref-2.result c.args.life.core.ifaces c.in_ok-stepped.stepped.core.ifaces c.args.life.files.items c.deref-2.ensures.value c.in_ok-stepped.ensures.untouched c.requires.orderly.kept
+
+pub returns-clause-orderly : goal.returns-clause-orderly
+returns-clause-orderly g c =
+    let before = c.requires.orderly.timely in
+    record {
+      timely = record {
+        moment = c.raised-moment.ensures.below;
+        stop = subst IsBelowEnd (sym c.stop_moment.ensures) (stop_below c.args.life.stop c.args.wake.event c.raised-moment.result c.raised-moment.ensures.below before.stop);
+      };
+      kept = c.in_ok-files.ensures.kept;
+    }
 
 pub returns-clause-made : goal.returns-clause-made
 returns-clause-made g c =

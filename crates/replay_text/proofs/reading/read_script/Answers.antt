@@ -1,10 +1,16 @@
-use Rattle.net_types.proofs.ReadsLaws.{spells_none}
-use Rattle.replay_text.specs.ScriptContent.{script_of}
-use Rattle.replay_text.proofs.ScriptLaws.{script_reads}
+use Rattle.std.proofs.Common.{refl}
+use Rattle.replay_text.specs.SoFar.{script_said}
+use Rattle.replay_text.proofs.FaultLaws.{script_laws, spelled_script, held_lines, script_fault}
 use Rattle.replay_text.proofs.reading.read_script.Goals as goal
 
-pub returns-in-Ok-clause-found : goal.returns-in-Ok-clause-found
-returns-in-Ok-clause-found c = script_reads.sound c.args.text.now (script_of c.in-Ok.script) c.in-Ok.ensures.value
+pub read_lines-requires : goal.read_lines-requires
+read_lines-requires c = record { owes = script_laws }
 
-pub returns-in-Err-Bad-clause-bad : goal.returns-in-Err-Bad-clause-bad
-returns-in-Err-Bad-clause-bad c = λ is_bad script fits. spells_none c.args.text.now script_reads (rw c.in-Err-Bad.field-0-is at c.in-Err-Bad.ensures.value) script fits
+pub returns-in-Ok-clause-found : goal.returns-in-Ok-clause-found
+returns-in-Ok-clause-found c = spelled_script c.args.text.now (script_said c.in-Ok.script) c.in-Ok.ensures.found
+
+pub returns-in-Ok-clause-conf : goal.returns-in-Ok-clause-conf
+returns-in-Ok-clause-conf c = held_lines c.args.text.now (script_said c.in-Ok.script) refl c.in-Ok.ensures.found
+
+pub returns-in-Err-Bad-clause-fault : goal.returns-in-Err-Bad-clause-fault
+returns-in-Err-Bad-clause-fault c = script_fault c.args.text.now c.in-Err-Bad.line c.in-Err-Bad.cause (rw c.in-Err-Bad.field-0-is at c.in-Err-Bad.ensures.bad)

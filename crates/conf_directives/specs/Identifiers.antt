@@ -1,0 +1,32 @@
+-- What tells a client apart: the bytes of option 61 (RFC 2132, section 9.14).
+use Rattle.std.specs.Prelude.{ℕ, Bool, ◌&&◌, nat_le, List, [], ◌∷◌, length, Option, Some, None, option_map}
+use Rattle.std.specs.Char.{to_ascii_lowercase}
+use Rattle.net_types.specs.Cutting.{guarded, read_all}
+use Rattle.net_types.specs.HexText.{hex_byte_at}
+use Rattle.conf_directives.specs.declared.identifiers.TheConstants.{LEAST_PAIRS, MOST_PAIRS, TYPED_TEXT_LIMIT}
+use Rattle.conf_directives.specs.Words.{colon_parts}
+use Rattle.conf_directives.specs.Texts.{printed}
+
+-- two hexadecimal digits in either case
+abbrev pub pair : List ℕ → Option ℕ
+pair (high ∷ low ∷ []) = hex_byte_at (to_ascii_lowercase high ∷ to_ascii_lowercase low ∷ [])
+pair _ = None
+
+abbrev pub are_enough : List ℕ → Bool
+are_enough bytes = nat_le LEAST_PAIRS (length bytes) && nat_le (length bytes) MOST_PAIRS
+
+-- two to 255 pairs of hexadecimal digits, parted by colons
+abbrev pub pairs : List ℕ → Option (List ℕ)
+pairs text = guarded are_enough (read_all pair (colon_parts text))
+
+-- a text of no hardware type stands after type 0
+abbrev pub typed_text : List ℕ → Option (List ℕ)
+typed_text text = option_map (λ bytes. 0 ∷ bytes) (printed TYPED_TEXT_LIMIT text)
+
+abbrev pub identifier_by : Option (List ℕ) → List ℕ → Option (List ℕ)
+identifier_by (Some bytes) text = Some bytes
+identifier_by None text = typed_text text
+
+-- the bytes that pairs spell, else a text
+abbrev pub identifier : List ℕ → Option (List ℕ)
+identifier text = identifier_by (pairs text) text

@@ -1,0 +1,264 @@
+-- What is in force for a managed interface is within bounds.
+use Rattle.std.proofs.Common.{◌≡◌, ℕ, ◌<◌, ◌^◌, Bool, true, false, cond, List, [], ◌∷◌, length, map, find, filter_map, Option, Some, None, option_map, sym, subst, arith}
+use Rattle.std.specs.Prelude.{IfSome, option_and_then, unwrap_or}
+use Rattle.std.specs.List.{AllByRecursion, cons_option, last_or}
+use Rattle.std.specs.Option.{option_or}
+use Rattle.net_types.specs.declared.address.Ip4.{Ip4}
+use Rattle.net_types.specs.declared.interface.IfSpec.{IfSpec}
+use Rattle.net_types.specs.declared.interface.Name.{Name}
+use Rattle.net_types.specs.AddressText.{FitsIp4, FitsNet4}
+use Rattle.settings.specs.Fitting.{FitsManaged, AreManaged}
+use Rattle.conf_words.specs.Directives.{Directive}
+use Rattle.conf_directives.specs.declared.names.HeadingName.{HeadingName}
+use Rattle.conf_directives.specs.declared.names.HeadingName.TheVariants.{Interface, Profile, Ssid}
+use Rattle.conf_directives.specs.Names.{directive_at, heading_at}
+use Rattle.conf_directives.specs.Contents.{noticed, DirectiveContent, Flag, Seconds, Metric, HostName, VendorClass, ClientIs, Codes, Static, Ia, Variable, Blacklist, Interfaces, Script, IdentifierContent, Hardware, Bytes, Duid, StaticContent, Address, Routers, NameServers, DomainName, DomainSearch, Address6, SaidContent}
+use Rattle.conf_text.specs.Configurations.{BlockContent, Configuration, block_of, configured}
+use Rattle.conf_text.specs.Faults.{names_in}
+use Rattle.conf_text.specs.Fits.{FitsSpec, SettingsFit}
+use Rattle.conf_text.specs.Places.{Place, Global, Block, Skipped, is_named, is_place}
+use Rattle.conf_text.specs.Sayings.{directive_of, said_at_place, said_there}
+use Rattle.conf_text.specs.Scopes.{ScopeContent, scope_of, last_of, address_in, routers_in}
+use Rattle.conf_text.specs.Settings.{identifier_bytes, first_router, in_force, is_managed, managed_of, managed_with, scope_for, settings_for, settings_of}
+use Rattle.conf_text.specs.Standings.{Standing, standing, of_interface, is_global_alone, SaysInBlock, SaysAt, StandsUnder, StandFrom, place_after}
+use Rattle.conf_text.specs.Values.{metric_said, host_said, vendor_said, identifier_said, static_said}
+use Rattle.conf_text.proofs.SaidFits.{FitsDirective, FitsSaid, says_fits, some_guard}
+
+-- ---- lines
+
+abbrev FitsStanding : Standing → Type 0
+FitsStanding stands = IfSome (directive_of stands) FitsDirective
+
+answer_at : (answer said : Option SaidContent) → answer ≡ said → IfSome said FitsSaid → IfSome answer FitsSaid
+answer_at answer said e fits = subst (λ (o : Option SaidContent). IfSome o FitsSaid) (sym e) fits
+
+in_block_fits : (b : Bool) (line : Directive) (said : Option SaidContent) → SaysInBlock b line said → IfSome said FitsSaid
+in_block_fits true line said says = answer_at said (Some (noticed line.word)) says tt
+in_block_fits false line said says = says_fits (directive_at line.word) line.word line.about said says
+
+at_fits : (place : Place) (line : Directive) (said : Option SaidContent) → SaysAt place line said → IfSome said FitsSaid
+at_fits Global line said says = says_fits (directive_at line.word) line.word line.about said says
+at_fits (Block name) line said says = in_block_fits (is_global_alone (directive_at line.word)) line said says
+at_fits Skipped line said says = answer_at said (Some (record { directive = None; notices = [] })) says tt
+
+heading_fits : (place : Place) (line : Directive) (name : Option Name) → FitsStanding (of_interface place line name)
+heading_fits place line None = tt
+heading_fits place line (Some name) = tt
+
+plain_fits : (place : Place) (line : Directive) (said : Option SaidContent) → IfSome said FitsSaid → FitsStanding (standing place line None said)
+plain_fits place line None fits = tt
+plain_fits place line (Some said) fits = fits
+
+standing_fits : (heading : Option HeadingName) (place : Place) (line : Directive) (stands : Standing) → StandsUnder heading place line stands → FitsStanding stands
+standing_fits (Some Interface) place line stands here = subst FitsStanding (sym here.2) (heading_fits place line here.0)
+standing_fits (Some Profile) place line stands here = subst FitsStanding (sym here) tt
+standing_fits (Some Ssid) place line stands here = subst FitsStanding (sym here) tt
+standing_fits None place line stands here = subst FitsStanding (sym here.2) (plain_fits place line here.0 (at_fits place line here.0 here.1))
+
+front_fits : (place : Place) (lines : List Directive) (front : List Standing) (rest : List Directive) → StandFrom place lines front rest → AllByRecursion FitsStanding front
+front_fits place lines [] rest stand = tt
+front_fits place [] (stands ∷ front) rest stand = absurd stand
+front_fits place (line ∷ lines) (stands ∷ front) rest stand = (standing_fits (heading_at line.word) place line stands stand.0, front_fits (place_after stands) lines front rest stand.1)
+
+-- ---- scopes
+
+with_found_fits : {X : Type 0} (P : X → Type 0) (o : Option X) (xs : List X) → IfSome o P → AllByRecursion P xs → AllByRecursion P (cons_option o xs)
+with_found_fits P None xs fits fit = fit
+with_found_fits P (Some x) xs fits fit = (fits, fit)
+
+found_fit : {C X : Type 0} (f : C → Option X) (Q : C → Type 0) (P : X → Type 0) → ((c : C) → Q c → IfSome (f c) P) → (cs : List C) → AllByRecursion Q cs → AllByRecursion P (filter_map f cs)
+found_fit f Q P each [] fit = tt
+found_fit f Q P each (c ∷ cs) fit = with_found_fits P (f c) (filter_map f cs) (each c fit.0) (found_fit f Q P each cs fit.1)
+
+last_fits : {X : Type 0} (P : X → Type 0) (o : Option X) (xs : List X) → IfSome o P → AllByRecursion P xs → IfSome (last_or o xs) P
+last_fits P o [] fits fit = fits
+last_fits P o (x ∷ xs) fits fit = last_fits P (Some x) xs fit.0 fit.1
+
+said_fit : (place : Place) (front : List Standing) → AllByRecursion FitsStanding front → AllByRecursion FitsDirective (said_at_place place front)
+said_fit place front fit = found_fit (said_there place) FitsStanding FitsDirective (λ stands fits. some_guard (is_place place stands.place) (directive_of stands) FitsDirective fits) front fit
+
+abbrev pub FitsIdentifier : IdentifierContent → Type 0
+FitsIdentifier identifier = FitsDirective (ClientIs identifier)
+
+abbrev FitsStatic : StaticContent → Type 0
+FitsStatic value = FitsDirective (Static value)
+
+pub record FitsScope (scope : ScopeContent) : Type 0 where
+  pub metric : IfSome scope.metric (λ n. n < 2 ^ 32)
+  pub host : IfSome scope.host (λ name. length name < 256)
+  pub vendor : IfSome scope.vendor (λ class. length class < 256)
+  pub identifier : IfSome scope.identifier FitsIdentifier
+  pub address : IfSome scope.statics.address FitsNet4
+  pub routers : IfSome scope.statics.routers (AllByRecursion FitsIp4)
+
+metric_one : (said : DirectiveContent) → FitsDirective said → IfSome (metric_said said) (λ n. n < 2 ^ 32)
+metric_one (Flag name) fits = tt
+metric_one (Seconds name seconds) fits = tt
+metric_one (Metric metric) fits = fits
+metric_one (HostName name) fits = tt
+metric_one (VendorClass class) fits = tt
+metric_one (ClientIs identifier) fits = tt
+metric_one (Codes list codes) fits = tt
+metric_one (Static value) fits = tt
+metric_one (Ia ia) fits = tt
+metric_one (Variable env) fits = tt
+metric_one (Blacklist nets) fits = tt
+metric_one (Interfaces list patterns) fits = tt
+metric_one (Script path) fits = tt
+
+host_one : (said : DirectiveContent) → FitsDirective said → IfSome (host_said said) (λ name. length name < 256)
+host_one (Flag name) fits = tt
+host_one (Seconds name seconds) fits = tt
+host_one (Metric metric) fits = tt
+host_one (HostName name) fits = fits
+host_one (VendorClass class) fits = tt
+host_one (ClientIs identifier) fits = tt
+host_one (Codes list codes) fits = tt
+host_one (Static value) fits = tt
+host_one (Ia ia) fits = tt
+host_one (Variable env) fits = tt
+host_one (Blacklist nets) fits = tt
+host_one (Interfaces list patterns) fits = tt
+host_one (Script path) fits = tt
+
+vendor_one : (said : DirectiveContent) → FitsDirective said → IfSome (vendor_said said) (λ class. length class < 256)
+vendor_one (Flag name) fits = tt
+vendor_one (Seconds name seconds) fits = tt
+vendor_one (Metric metric) fits = tt
+vendor_one (HostName name) fits = tt
+vendor_one (VendorClass class) fits = fits
+vendor_one (ClientIs identifier) fits = tt
+vendor_one (Codes list codes) fits = tt
+vendor_one (Static value) fits = tt
+vendor_one (Ia ia) fits = tt
+vendor_one (Variable env) fits = tt
+vendor_one (Blacklist nets) fits = tt
+vendor_one (Interfaces list patterns) fits = tt
+vendor_one (Script path) fits = tt
+
+identifier_one : (said : DirectiveContent) → FitsDirective said → IfSome (identifier_said said) FitsIdentifier
+identifier_one (Flag name) fits = tt
+identifier_one (Seconds name seconds) fits = tt
+identifier_one (Metric metric) fits = tt
+identifier_one (HostName name) fits = tt
+identifier_one (VendorClass class) fits = tt
+identifier_one (ClientIs identifier) fits = fits
+identifier_one (Codes list codes) fits = tt
+identifier_one (Static value) fits = tt
+identifier_one (Ia ia) fits = tt
+identifier_one (Variable env) fits = tt
+identifier_one (Blacklist nets) fits = tt
+identifier_one (Interfaces list patterns) fits = tt
+identifier_one (Script path) fits = tt
+
+static_one : (said : DirectiveContent) → FitsDirective said → IfSome (static_said said) FitsStatic
+static_one (Flag name) fits = tt
+static_one (Seconds name seconds) fits = tt
+static_one (Metric metric) fits = tt
+static_one (HostName name) fits = tt
+static_one (VendorClass class) fits = tt
+static_one (ClientIs identifier) fits = tt
+static_one (Codes list codes) fits = tt
+static_one (Static value) fits = fits
+static_one (Ia ia) fits = tt
+static_one (Variable env) fits = tt
+static_one (Blacklist nets) fits = tt
+static_one (Interfaces list patterns) fits = tt
+static_one (Script path) fits = tt
+
+address_one : (value : StaticContent) → FitsStatic value → IfSome (address_in value) FitsNet4
+address_one (Address net) fits = fits
+address_one (Routers addresses) fits = tt
+address_one (NameServers addresses) fits = tt
+address_one (DomainName name) fits = tt
+address_one (DomainSearch names) fits = tt
+address_one (Address6 net) fits = tt
+
+routers_one : (value : StaticContent) → FitsStatic value → IfSome (routers_in value) (AllByRecursion FitsIp4)
+routers_one (Address net) fits = tt
+routers_one (Routers addresses) fits = fits
+routers_one (NameServers addresses) fits = tt
+routers_one (DomainName name) fits = tt
+routers_one (DomainSearch names) fits = tt
+routers_one (Address6 net) fits = tt
+
+last_found_fits : {C X : Type 0} (f : C → Option X) (Q : C → Type 0) (P : X → Type 0) → ((c : C) → Q c → IfSome (f c) P) → (cs : List C) → AllByRecursion Q cs → IfSome (last_of f cs) P
+last_found_fits f Q P each cs fit = last_fits P None (filter_map f cs) tt (found_fit f Q P each cs fit)
+
+scope_fits : (lines : List DirectiveContent) → AllByRecursion FitsDirective lines → FitsScope (scope_of lines)
+scope_fits lines fit =
+    let statics = found_fit static_said FitsDirective FitsStatic static_one lines fit in
+    record {
+      metric = last_found_fits metric_said FitsDirective (λ n. n < 2 ^ 32) metric_one lines fit;
+      host = last_found_fits host_said FitsDirective (λ name. length name < 256) host_one lines fit;
+      vendor = last_found_fits vendor_said FitsDirective (λ class. length class < 256) vendor_one lines fit;
+      identifier = last_found_fits identifier_said FitsDirective FitsIdentifier identifier_one lines fit;
+      address = last_found_fits address_in FitsStatic FitsNet4 address_one (filter_map static_said lines) statics;
+      routers = last_found_fits routers_in FitsStatic (AllByRecursion FitsIp4) routers_one (filter_map static_said lines) statics;
+    }
+
+-- ---- what is in force
+
+either_fits : {X : Type 0} (P : X → Type 0) (block global : Option X) → IfSome block P → IfSome global P → IfSome (option_or block global) P
+either_fits P None global fits other = other
+either_fits P (Some x) global fits other = fits
+
+text_fits : (o : Option (List ℕ)) → IfSome o (λ t. length t < 256) → length (unwrap_or o []) < 256
+text_fits None fits = omega arith
+text_fits (Some text) fits = fits
+
+bytes_fit : (o : Option IdentifierContent) → IfSome o FitsIdentifier → IfSome (option_and_then identifier_bytes o) (λ bytes. length bytes < 256)
+bytes_fit None fits = tt
+bytes_fit (Some Hardware) fits = tt
+bytes_fit (Some (Bytes bytes)) fits = fits
+bytes_fit (Some Duid) fits = tt
+
+router_fits : (o : Option (List Ip4)) → IfSome o (AllByRecursion FitsIp4) → IfSome (option_and_then first_router o) FitsIp4
+router_fits None fits = tt
+router_fits (Some []) fits = tt
+router_fits (Some (router ∷ routers)) fits = fits.0
+
+managed_fits : (spec : IfSpec) (global block : ScopeContent) → FitsSpec spec → FitsScope global → FitsScope block → FitsManaged (record { spec = spec; conf = in_force global block })
+managed_fits spec global block one all here = record {
+  index = one.index;
+  name = one.name;
+  mac = one.mac;
+  metric = either_fits (λ n. n < 2 ^ 32) block.metric global.metric here.metric all.metric;
+  address = either_fits FitsNet4 block.statics.address global.statics.address here.address all.address;
+  router = router_fits (option_or block.statics.routers global.statics.routers) (either_fits (AllByRecursion FitsIp4) block.statics.routers global.statics.routers here.routers all.routers);
+  dhcp4 = record {
+    host = text_fits (option_or block.host global.host) (either_fits (λ t. length t < 256) block.host global.host here.host all.host);
+    vendor = text_fits (option_or block.vendor global.vendor) (either_fits (λ t. length t < 256) block.vendor global.vendor here.vendor all.vendor);
+    identifier = bytes_fit (option_or block.identifier global.identifier) (either_fits FitsIdentifier block.identifier global.identifier here.identifier all.identifier);
+  };
+}
+
+found_scope : (o : Option BlockContent) → IfSome o (λ block. FitsScope block.scope) → FitsScope (unwrap_or (option_map (λ (block : BlockContent). block.scope) o) (scope_of []))
+found_scope None fits = scope_fits [] tt
+found_scope (Some block) fits = fits
+
+find_fits : (test : BlockContent → Bool) (front : List Standing) → AllByRecursion FitsStanding front → (names : List Name) → IfSome (find test (map (block_of front) names)) (λ block. FitsScope block.scope)
+find_fits test front fit [] = tt
+find_fits test front fit (name ∷ names) = by (test (block_of front name)) (find_fits test front fit names)
+  where
+    by : (b : Bool) → IfSome (find test (map (block_of front) names)) (λ block. FitsScope block.scope) → IfSome (cond b (Some (block_of front name)) (find test (map (block_of front) names))) (λ block. FitsScope block.scope)
+    by true later = scope_fits (said_at_place (Block name) front) (said_fit (Block name) front fit)
+    by false later = later
+
+one_fits : (front : List Standing) → AllByRecursion FitsStanding front → (spec : IfSpec) → FitsSpec spec → IfSome (managed_with spec (settings_of (configured front) spec)) FitsManaged
+unfolding configured
+one_fits front fit spec one = by (is_managed (configured front) spec.name)
+  where
+    by : (b : Bool) → IfSome (managed_with spec (cond b (Some (settings_for (configured front) spec.name)) None)) FitsManaged
+    by true = managed_fits spec (scope_of (said_at_place Global front)) (scope_for (map (block_of front) (names_in front)) spec.name) one
+        (scope_fits (said_at_place Global front) (said_fit Global front fit))
+        (found_scope (find (λ block. is_named spec.name block.name) (map (block_of front) (names_in front))) (find_fits (λ block. is_named spec.name block.name) front fit (names_in front)))
+    by false = tt
+
+all_fit : (front : List Standing) → AllByRecursion FitsStanding front → (specs : List IfSpec) → AllByRecursion FitsSpec specs → AreManaged (managed_of (configured front) specs)
+all_fit front fit specs each = found_fit (λ spec. managed_with spec (settings_of (configured front) spec)) FitsSpec FitsManaged (λ spec one. one_fits front fit spec one) specs each
+
+pub settings_fit : SettingsFit
+settings_fit text conf is specs each =
+    let front : List Standing = is.front in
+    subst (λ (c : Configuration). AreManaged (managed_of c specs)) (sym is.tells.3) (all_fit front (front_fits Global is.read.found front is.rest is.stand) specs each)

@@ -1,0 +1,17 @@
+-- The interfaces that are managed, one after another.
+use Rattle.std.proofs.Common.{◌≡◌, ℕ, ◌+◌, ◌<◌, List, [], ◌∷◌, ◌++◌, length, take, get_or, Option, sym, ap, ◌∙◌}
+use Rattle.std.specs.List.{cons_option}
+use Rattle.std.proofs.lemmas.List.{take_more}
+use Rattle.std.proofs.lemmas.List.Elements.{filter_map-append}
+use Rattle.net_types.specs.declared.interface.IfSpec.{IfSpec}
+use Rattle.settings.specs.declared.interfaces.IfConf.{IfConf}
+use Rattle.settings.specs.declared.interfaces.Managed.{Managed}
+use Rattle.conf_text.specs.Configurations.{Configuration}
+use Rattle.conf_text.specs.Settings.{managed_of, managed_with, settings_of}
+
+pub managed_more : (conf : Configuration) (specs : List IfSpec) (at : ℕ) (spec : IfSpec) (all : List Managed) (settings : Option IfConf) → at < length specs → all ≡ managed_of conf (take at specs) → settings ≡ settings_of conf (get_or specs at spec) → all ++ cons_option (managed_with (get_or specs at spec) settings) [] ≡ managed_of conf (take (at + 1) specs)
+managed_more conf specs at spec all settings within is said =
+    ap (λ (ms : List Managed). ms ++ cons_option (managed_with (get_or specs at spec) settings) []) is
+    ∙ ap (λ (o : Option IfConf). managed_of conf (take at specs) ++ cons_option (managed_with (get_or specs at spec) o) []) said
+    ∙ sym (ap (managed_of conf) (take_more specs at spec within)
+    ∙ filter_map-append (λ (s : IfSpec). managed_with s (settings_of conf s)) (take at specs) (get_or specs at spec ∷ []))

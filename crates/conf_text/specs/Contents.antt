@@ -1,0 +1,55 @@
+-- What a configuration and its parts say, without where they lie in memory.
+use Rattle.std.specs.Prelude.{map, option_map, string_bytes}
+use Rattle.conf_directives.specs.Contents.{identifier_content, codes_content, ia_content, env_content}
+use Rattle.conf_text.specs.declared.statics.Statics.{Statics}
+use Rattle.conf_text.specs.declared.scope.Scope.{Scope}
+use Rattle.conf_text.specs.declared.conf.Notice.{Notice}
+use Rattle.conf_text.specs.declared.conf.Block.{Block}
+use Rattle.conf_text.specs.declared.conf.Conf.{Conf}
+use Rattle.conf_text.specs.Scopes.{StaticsContent, ScopeContent}
+use Rattle.conf_text.specs.Configurations.{NoticeContent, BlockContent, Configuration}
+
+abbrev pub statics_content : Statics → StaticsContent
+statics_content statics = record {
+  address = statics.address;
+  routers = option_map (λ addresses. addresses.items) statics.routers;
+  name_servers = option_map (λ addresses. addresses.items) statics.name_servers;
+  domain_name = option_map (λ name. name.items) statics.domain_name;
+  domain_search = option_map (λ names. map (λ name. name.items) names.items) statics.domain_search;
+  address6 = statics.address6;
+}
+
+abbrev pub scope_content : Scope → ScopeContent
+scope_content scope = record {
+  flags = scope.flags;
+  timeout = scope.timeout;
+  reboot = scope.reboot;
+  metric = scope.metric;
+  host = option_map (λ name. name.items) scope.host;
+  vendor = option_map (λ class. class.items) scope.vendor;
+  identifier = option_map identifier_content scope.identifier;
+  asked = codes_content scope.asked;
+  refused = codes_content scope.refused;
+  required = codes_content scope.required;
+  statics = statics_content scope.statics;
+  ias = map ia_content scope.ias.items;
+  env = map env_content scope.env.items;
+  blacklist = scope.blacklist.items;
+}
+
+abbrev pub notice_content : Notice → NoticeContent
+notice_content notice = record { line = notice.line; word = string_bytes notice.word }
+
+abbrev pub block_content : Block → BlockContent
+block_content block = record { name = block.name; scope = scope_content block.scope }
+
+abbrev pub configuration : Conf → Configuration
+configuration conf = record {
+  global = scope_content conf.global;
+  blocks = map block_content conf.blocks.items;
+  allowed = conf.allowed.items;
+  denied = conf.denied.items;
+  script = option_map (λ path. path.items) conf.script;
+  notices = map notice_content conf.notices.items;
+  not_built = conf.not_built;
+}

@@ -1,0 +1,19 @@
+-- What is in force for an interface is within the bounds that its client relies on.
+use Rattle.std.specs.Prelude.{ℕ, List, Ok}
+use Rattle.std.specs.List.{AllByRecursion}
+use Rattle.net_types.specs.declared.interface.IfSpec.{IfSpec}
+use Rattle.net_types.specs.AddressText.{FitsMac}
+use Rattle.net_types.specs.NameText.{FitsName}
+use Rattle.world.specs.Rows.{IsInterface}
+use Rattle.settings.specs.Fitting.{AreManaged}
+use Rattle.conf_text.specs.Configurations.{Configuration, IsConfOf}
+use Rattle.conf_text.specs.Settings.{managed_of}
+
+-- an interface as a run has them
+pub record FitsSpec (spec : IfSpec) : Type 0 where
+  pub index : IsInterface spec.index.number
+  pub name : FitsName spec.name
+  pub mac : FitsMac spec.mac
+
+abbrev pub SettingsFit : Type 0
+SettingsFit = (text : List ℕ) (conf : Configuration) → IsConfOf text (Ok conf) → (specs : List IfSpec) → AllByRecursion FitsSpec specs → AreManaged (managed_of conf specs)

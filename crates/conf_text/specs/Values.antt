@@ -1,0 +1,77 @@
+-- What directives say, one kind of value at a time.
+use Rattle.std.specs.Prelude.{ℕ, Bool, true, false, List, Option, Some, None}
+use Rattle.net_types.specs.declared.address.Net4.{Net4}
+use Rattle.conf_directives.specs.declared.names.FlagName.{FlagName}
+use Rattle.conf_directives.specs.declared.names.SecondsName.TheVariants.{Timeout, Reboot}
+use Rattle.conf_directives.specs.declared.names.CodeList.{CodeList}
+use Rattle.conf_directives.specs.declared.names.CodeList.TheVariants.{Asked, Refused, Required}
+use Rattle.conf_directives.specs.declared.names.InterfaceList.{InterfaceList}
+use Rattle.conf_directives.specs.declared.names.InterfaceList.TheVariants.{Allowed, Denied}
+use Rattle.conf_directives.specs.declared.values.Pattern.{Pattern}
+use Rattle.conf_directives.specs.Contents.{DirectiveContent, Flag, Seconds, Metric, HostName, VendorClass, ClientIs, Codes, Static, Ia, Variable, Blacklist, Interfaces, Script, IdentifierContent, Duid, CodesContent, StaticContent, Address6, IaContent, EnvContent}
+
+abbrev pub flag_said : DirectiveContent → Option FlagName
+flag_said (Flag name) = Some name
+flag_said _ = None
+
+abbrev pub timeout_said : DirectiveContent → Option ℕ
+timeout_said (Seconds Timeout seconds) = Some seconds
+timeout_said _ = None
+
+abbrev pub reboot_said : DirectiveContent → Option ℕ
+reboot_said (Seconds Reboot seconds) = Some seconds
+reboot_said _ = None
+
+abbrev pub metric_said : DirectiveContent → Option ℕ
+metric_said (Metric metric) = Some metric
+metric_said _ = None
+
+abbrev pub host_said : DirectiveContent → Option (List ℕ)
+host_said (HostName name) = Some name
+host_said _ = None
+
+abbrev pub vendor_said : DirectiveContent → Option (List ℕ)
+vendor_said (VendorClass class) = Some class
+vendor_said _ = None
+
+abbrev pub identifier_said : DirectiveContent → Option IdentifierContent
+identifier_said (ClientIs identifier) = Some identifier
+identifier_said _ = None
+
+abbrev pub codes_said : CodeList → DirectiveContent → Option CodesContent
+codes_said Asked (Codes Asked codes) = Some codes
+codes_said Refused (Codes Refused codes) = Some codes
+codes_said Required (Codes Required codes) = Some codes
+codes_said _ _ = None
+
+abbrev pub static_said : DirectiveContent → Option StaticContent
+static_said (Static value) = Some value
+static_said _ = None
+
+abbrev pub ia_said : DirectiveContent → Option IaContent
+ia_said (Ia ia) = Some ia
+ia_said _ = None
+
+abbrev pub env_said : DirectiveContent → Option EnvContent
+env_said (Variable env) = Some env
+env_said _ = None
+
+abbrev pub blacklist_said : DirectiveContent → Option (List Net4)
+blacklist_said (Blacklist nets) = Some nets
+blacklist_said _ = None
+
+abbrev pub interfaces_said : InterfaceList → DirectiveContent → Option (List Pattern)
+interfaces_said Allowed (Interfaces Allowed patterns) = Some patterns
+interfaces_said Denied (Interfaces Denied patterns) = Some patterns
+interfaces_said _ _ = None
+
+abbrev pub script_said : DirectiveContent → Option (List ℕ)
+script_said (Script path) = Some path
+script_said _ = None
+
+-- what isn't built yet: DUIDs as identifiers, identity associations, and static IPv6 addresses
+abbrev pub is_unbuilt : DirectiveContent → Bool
+is_unbuilt (ClientIs Duid) = true
+is_unbuilt (Ia ia) = true
+is_unbuilt (Static (Address6 net)) = true
+is_unbuilt _ = false

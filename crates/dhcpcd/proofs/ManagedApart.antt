@@ -1,0 +1,76 @@
+-- The interfaces that a configuration has managed are some of a script's, so they are as unlike as these.
+use Rattle.std.proofs.Common.{ℕ, ◌≡◌, Bool, true, false, nat_eq, List, [], ◌∷◌, map, Some, None, refl, sym, ap, subst, ◌∙◌}
+use Rattle.std.specs.Prelude.{filter, AllPairs, if◌then◌else◌}
+use Rattle.std.specs.List.{AllByRecursion, IsDistinct, cons_option}
+use Rattle.std.proofs.lemmas.List.Kept.{AllPairs-filter}
+use Rattle.net_types.specs.declared.interface.IfSpec.{IfSpec}
+use Rattle.settings.specs.declared.interfaces.Managed.{Managed}
+use Rattle.script_model.specs.Scripts.{CountsFrom, Unlike}
+use Rattle.conf_text.specs.Configurations.{Configuration}
+use Rattle.conf_text.specs.Settings.{is_managed, settings_for, managed_with, managed_of}
+use Rattle.evidence.specs.Laws.{AreNumbered}
+use Rattle.evidence.proofs.Numbered.{counted}
+
+-- ---- what is left of a list
+
+module _ {A B : Type 0} (f : A → B) (keeps : A → Bool) where
+  all_kept : (P : B → Type 0) (xs : List A) → AllByRecursion P (map f xs) → AllByRecursion P (map f (filter keeps xs))
+  all_kept P [] all = tt
+  all_kept P (x ∷ xs) all =
+      elim (keeps x) as (λ kept. AllByRecursion P (map f (if kept then x ∷ filter keeps xs else filter keeps xs))) [
+        | true ↦ (all.0, all_kept P xs all.1)
+        | false ↦ all_kept P xs all.1
+      ]
+
+  distinct_kept : (alike : B → B → Bool) (xs : List A) → IsDistinct alike (map f xs) → IsDistinct alike (map f (filter keeps xs))
+  unfolding IsDistinct
+  distinct_kept alike [] distinct = tt
+  distinct_kept alike (x ∷ xs) distinct =
+      elim (keeps x) as (λ kept. IsDistinct alike (map f (if kept then x ∷ filter keeps xs else filter keeps xs))) [
+        | true ↦ (all_kept (λ y. alike (f x) y ≡ false) xs distinct.0, distinct_kept alike xs distinct.1)
+        | false ↦ distinct_kept alike xs distinct.1
+      ]
+
+-- ---- the managed interfaces
+
+abbrev spec_of : Managed → IfSpec
+spec_of managed = managed.spec
+
+abbrev number_in : IfSpec → ℕ
+number_in spec = spec.index.number
+
+each_number : (managed : List Managed) → map (λ (m : Managed). m.spec.index.number) managed ≡ map number_in (map spec_of managed)
+each_number [] = refl
+each_number (m ∷ managed) = ap (λ others. m.spec.index.number ∷ others) (each_number managed)
+
+module _ (conf : Configuration) where
+  abbrev keeps : IfSpec → Bool
+  keeps spec = is_managed conf spec.name
+
+  managed_specs : (specs : List IfSpec) → map spec_of (managed_of conf specs) ≡ filter keeps specs
+  managed_specs [] = refl
+  managed_specs (spec ∷ specs) =
+      elim (keeps spec) as (λ kept.
+      map spec_of (cons_option (managed_with spec (if kept then Some (settings_for conf spec.name) else None)) (managed_of conf specs))
+      ≡ (if kept then spec ∷ filter keeps specs else filter keeps specs)) [
+        | true ↦ ap (λ others. spec ∷ others) (managed_specs specs)
+        | false ↦ managed_specs specs
+      ]
+
+  pub managed_unlike : (specs : List IfSpec) → AllPairs Unlike specs → AllPairs Unlike (map (λ (m : Managed). m.spec) (managed_of conf specs))
+  managed_unlike specs pairs = subst (AllPairs Unlike) (sym (managed_specs specs)) (AllPairs-filter Unlike keeps specs pairs)
+
+  -- as if all were managed
+  abbrev all_of : List IfSpec → List Managed
+  all_of specs = map (λ (spec : IfSpec). record { spec = spec; conf = settings_for conf spec.name }) specs
+
+  all_specs : (specs : List IfSpec) → map spec_of (all_of specs) ≡ specs
+  all_specs [] = refl
+  all_specs (spec ∷ specs) = ap (λ others. spec ∷ others) (all_specs specs)
+
+  -- those that count from 1 have unlike numbers, and so have some of them
+  pub managed_numbered : (specs : List IfSpec) → CountsFrom 1 specs → AreNumbered (managed_of conf specs)
+  managed_numbered specs counts =
+      let all : AreNumbered (all_of specs) = counted 1 (all_of specs) (subst (CountsFrom 1) (sym (all_specs specs)) counts) in
+      let apart : IsDistinct nat_eq (map number_in specs) = subst (IsDistinct nat_eq) (each_number (all_of specs) ∙ ap (map number_in) (all_specs specs)) all in
+      subst (IsDistinct nat_eq) (sym (each_number (managed_of conf specs) ∙ ap (map number_in) (managed_specs specs))) (distinct_kept number_in keeps nat_eq specs apart)

@@ -1,0 +1,27 @@
+-- A script that was replayed.
+use Rattle.std.proofs.Common.{ℕ, ◌≤◌, List, length, Option}
+use Rattle.replay_text.specs.ScriptContent.{script_of}
+use Rattle.conf_text.specs.Contents.{configuration}
+use Rattle.daemon.specs.Streams.{WritesLines}
+use Rattle.dhcpcd.specs.declared.settling.Settled.{Settled}
+use Rattle.dhcpcd.specs.Input.{limit, IsInput}
+use Rattle.dhcpcd.specs.Replays.{transcript}
+use Rattle.dhcpcd.specs.Settling.{IsSettled}
+use Rattle.dhcpcd.specs.Statuses.{IsReplayed}
+use Rattle.dhcpcd.proofs.HostRightly.{holds_rightly}
+use Rattle.dhcpcd.proofs.FilesRightly.{keeps_rightly}
+
+-- its transcript was written, and in its lives the host and the store hold what they shall
+pub replayed : (input old new : Option (List ℕ)) (bytes : List ℕ) (s : Settled) → IsInput input bytes → length bytes ≤ limit → IsSettled bytes s
+    → WritesLines old new (transcript (script_of s.script) (configuration s.conf)) → IsReplayed input old new
+replayed input old new bytes s read within is written = record {
+  bytes = bytes;
+  script = script_of s.script;
+  conf = configuration s.conf;
+  read = read;
+  in_limit = within;
+  is_script = is.is_script;
+  written = written;
+  host = holds_rightly bytes (script_of s.script) (configuration s.conf) is.is_script;
+  files = keeps_rightly bytes (script_of s.script) (configuration s.conf) is.is_script;
+}

@@ -1,0 +1,19 @@
+use Rattle.std.proofs.Common.{List, true, not, ◌&&◌, ◌∙◌, ap}
+use Rattle.std.proofs.lemmas.List.{take_all}
+use Rattle.world.specs.declared.rows.HostRow.{HostRow}
+use Rattle.world.specs.RowOrder.{has_row}
+use Rattle.host_tables.proofs.Contending.{equal_turned}
+use Rattle.host_tables.proofs.RowByRow.{taken_more}
+use Rattle.host_tables.proofs.union.remove_all.Goals as goal
+
+pub loop-row-preserved : goal.loop-row-preserved
+loop-row-preserved c = record {
+  has = λ q. taken_more c.args.rows.now c.loop-row.row-index _ q true _ _ _ _ c.loop-row-test.true (c.loop-row.invariant.has q) (c.remove-was_there.ensures.updates.0 q) (equal_turned _ q);
+  in_order = λ _. c.remove-was_there.ensures.ordered;
+}
+
+pub returns : goal.returns
+returns c = record {
+  has = λ q. c.loop-row.invariant.has q ∙ ap (λ (rows : List HostRow). has_row c.args.set.now.keys q && not (has_row rows q)) (take_all c.loop-row.row-index c.args.rows.now c.loop-row-test.false);
+  in_order = c.loop-row.invariant.in_order;
+}

@@ -1,0 +1,3 @@
+pub mod Precedence
+pub mod Bringings
+pub mod Unions

@@ -1,0 +1,75 @@
+ghost use Rattle.std.specs.Prelude.{◌≡◌};
+ghost use Rattle.std.specs.Cmp.{partial_order_from_total, partial_equiv_from_equiv};
+ghost use Rattle.std.specs.Cmp.Rules.{comparing};
+ghost use Rattle.std.specs.Ordering.{as_partial_cmp, eq_by_cmp};
+ghost use Rattle.std.proofs.Common.{rules};
+ghost use Rattle.host_tables.specs.Bringings.{target_of, bringing_cmp, bringing_cmp_total, bringing_eq_equivalence};
+
+use net_types::IfIndex;
+use std::cmp::Ordering;
+use world::{HostRow, Via};
+
+/// A row that a place brings. Rows with one target stand together, the one that is kept first.
+#[derive(Clone, Copy)]
+pub struct Bringing {
+    pub row: HostRow,
+    pub place: usize,
+}
+
+/// The target of a row: an address itself, and for a route what stands for all with its destination, length and metric.
+pub fn target(row: HostRow) -> HostRow
+    ensures { result ≡ target_of row }
+{
+    match row {
+        HostRow::Addr { iface, net } => HostRow::Addr { iface, net },
+        HostRow::Route { dest, metric, .. } => HostRow::Route {
+            iface: IfIndex { number: 0 },
+            dest,
+            via: Via::OnLink,
+            metric,
+        },
+    }
+}
+
+impl Ord for Bringing {
+    ghost cmp = { bringing_cmp };
+
+    ghost total = { bringing_cmp_total };
+
+    ghost matches_partial_cmp = { Prim.search (comparing, rules) };
+
+    ghost matches_eq = { Prim.search (comparing, rules) };
+
+    fn cmp(&self, other: &Bringing) -> Ordering {
+        let (a, b) = (self.row, other.row);
+        target(a)
+            .cmp(&target(b))
+            .then(a.iface().number.cmp(&b.iface().number))
+            .then(a.cmp(&b))
+            .then(self.place.cmp(&other.place))
+    }
+}
+
+impl PartialOrd for Bringing {
+    ghost partial_cmp = { as_partial_cmp bringing_cmp };
+
+    ghost laws = { partial_order_from_total bringing_cmp_total };
+
+    fn partial_cmp(&self, other: &Bringing) -> Option<Ordering> {
+        Some(self.cmp(other))
+    }
+}
+
+impl Eq for Bringing {
+    ghost laws = { bringing_eq_equivalence };
+}
+
+impl PartialEq for Bringing {
+    ghost eq = { eq_by_cmp bringing_cmp };
+
+    ghost laws = { partial_equiv_from_equiv bringing_eq_equivalence };
+
+    fn eq(&self, other: &Bringing) -> bool {
+        self.cmp(other).is_eq()
+    }
+}

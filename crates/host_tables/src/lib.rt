@@ -1,0 +1,13 @@
+//! The rows that a host is to hold, of all that the interfaces bring: kept by what changes, and never made anew.
+#![tactic(auto)]
+
+mod bringing;
+mod host_rows;
+mod tables;
+#[cfg(test)]
+mod tests;
+mod union;
+
+pub use host_rows::HostRows;
+pub use tables::Tables;
+pub use union::Diff;

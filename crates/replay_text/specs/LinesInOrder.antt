@@ -1,0 +1,48 @@
+-- The lines of a script, in their order.
+use Rattle.std.specs.Prelude.{ℕ, ◌≡◌, List, [], ◌∷◌, ◌++◌, map, flat_map, codes, Option, Some, None}
+use Rattle.net_types.specs.TextLines.{Line}
+use Rattle.script_model.specs.Crashes.{CrashScript, crash_text}
+use Rattle.script_model.specs.FailingCalls.{fail_text}
+use Rattle.script_model.specs.FirstFiles.{file_text}
+use Rattle.script_model.specs.Lines.{interface_text, start_text}
+use Rattle.script_model.specs.RowSpellings.{AreRowLines}
+use Rattle.script_model.specs.Scripts.{FitsScript}
+use Rattle.script_model.specs.ScriptTexts.{ScriptLines, LifeScript, given_text}
+
+abbrev pub head_line : Line
+head_line = codes "dhcpcd-script 1"
+
+abbrev pub conf_line : List ℕ → Line
+conf_line text = codes "c:" ++ text
+
+-- the line of a row with this text
+abbrev pub row_line : List ℕ → Line
+row_line text = codes "row " ++ text
+
+abbrev pub crash_lines : Option CrashScript → List Line
+crash_lines None = []
+crash_lines (Some crash) = crash_text crash ∷ []
+
+abbrev pub life_lines : LifeScript → List Line
+life_lines life = start_text life.begin ∷ (map given_text life.turns ++ crash_lines life.crash)
+
+abbrev pub lives_lines : List LifeScript → List Line
+lives_lines lives = flat_map life_lines lives
+
+-- the lines of a script whose rows have these texts
+abbrev pub script_lines : List (List ℕ) → ScriptLines → List Line
+script_lines rows script =
+    head_line
+    ∷ (map conf_line script.conf
+    ++ (map interface_text script.ifaces
+    ++ (map row_line rows
+    ++ (map file_text script.files
+    ++ (map fail_text script.fails
+    ++ lives_lines script.lives)))))
+
+-- These lines are a text of the script: a row may have any of its texts, all else has one.
+pub record SpellsScript (script : ScriptLines) (lines : List Line) : Type 0 where
+  pub rows : List (List ℕ)
+  pub spelled : AreRowLines rows script.rows
+  pub are : lines ≡ script_lines rows script
+  pub fits : FitsScript script

@@ -1,0 +1,9 @@
+pub mod FoundItems
+pub mod GrownLists
+pub mod FewAsked
+pub mod FitsLists
+pub mod TakenFits
+pub mod SaidFits
+pub mod LeaseFits
+pub mod Granting
+pub mod Lapsing

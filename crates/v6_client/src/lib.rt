@@ -1,0 +1,43 @@
+//! The DHCPv6 client of one interface (RFC 8415, section 18.2): it acquires addresses and delegated prefixes from one server,
+//! renews and rebinds them, declines an address that another host uses, and gives all of them up.
+#![tactic(auto)]
+
+mod answers;
+mod asking;
+mod client;
+mod exchange;
+mod hearing;
+mod holding;
+mod inputs;
+mod items;
+mod keeping;
+mod laws;
+mod leases;
+mod parting;
+mod reading;
+mod renewing;
+mod saying;
+mod settings;
+mod states;
+mod steps;
+mod taking;
+mod ticking;
+mod times;
+mod turn;
+mod xid;
+
+pub use client::{
+    Client6, Out6, carrier6, client6_new, duplicate6, heard6, held6, kept6, rebind6, release6,
+};
+pub use exchange::Exchange6;
+pub use laws::{holds_nothing_over6, ignores_foreign6, keeps_granted6};
+pub use leases::Plea6;
+pub use renewing::Spans6;
+pub use settings::{IaAsk, Set6, Site6};
+pub use states::{
+    Answer6, Carrier6, Cause6, Dates6, Keep6, News6, Parting6, Say6, Scope6, State6, Step6, Tell6,
+};
+pub use turn::Turn6;
+
+#[cfg(test)]
+mod tests;

@@ -1,0 +1,36 @@
+//! What a client is told about itself.
+
+use net_types::IfSpec;
+use v6_options::{Duid, IaKind};
+
+/// An IA that is asked for (RFC 8415, section 12).
+#[derive(Clone, Copy, Debug, PartialEq, Eq)]
+pub struct IaAsk {
+    pub kind: IaKind,
+    pub iaid: u32,
+    /// The length of the prefix that is wished for, in bits; 0 where none is.
+    pub hint: u8,
+}
+
+/// The settings of a client.
+#[derive(Drop)]
+pub struct Set6 {
+    /// The interface that it serves.
+    pub iface: IfSpec,
+    /// What servers tell it by (RFC 8415, section 11).
+    pub duid: Duid,
+    /// What it asks for: at most six IAs, unlike in kind or IAID.
+    pub ias: Vec<IaAsk>,
+    /// Whether the first SOLICIT goes out without the random delay.
+    pub nodelay: bool,
+    /// Whether a server may answer a SOLICIT by a Reply (RFC 8415, section 18.2.1).
+    pub rapid: bool,
+}
+
+/// The settings that the table of states looks at: those of `Set6` that are plain values.
+#[derive(Clone, Copy, Debug, PartialEq, Eq)]
+pub struct Site6 {
+    pub iface: IfSpec,
+    pub nodelay: bool,
+    pub rapid: bool,
+}

@@ -1,0 +1,161 @@
+//! The states of a client, and what a step from one to another says.
+
+use crate::exchange::Exchange6;
+use net_types::Ip6;
+use v6_message::Kind6;
+
+/// Where a client stands (RFC 8415, section 18.2). Moments are in milliseconds since 1970.
+#[derive(Clone, Copy, Debug, PartialEq, Eq)]
+pub enum State6 {
+    /// Nothing is done: there is no carrier, or the client was stopped.
+    Off,
+    /// The first SOLICIT waits until `due`.
+    Waiting {
+        due: u64,
+    },
+    /// Servers are looked for. `offer` is the preference of the Advertise that is kept.
+    Soliciting {
+        exchange: Exchange6,
+        offer: Option<u8>,
+    },
+    /// A server is asked for what it advertised.
+    Requesting {
+        exchange: Exchange6,
+    },
+    /// Items are held.
+    Bound,
+    /// Items are held, and their server is asked to extend them.
+    Renewing {
+        exchange: Exchange6,
+    },
+    /// Items are held, and any server is asked to extend them.
+    Rebinding {
+        exchange: Exchange6,
+    },
+    /// Any server is asked, until `end`, for the items of the kept lease that were valid at `since`.
+    Restarting {
+        exchange: Exchange6,
+        end: u64,
+        since: u64,
+    },
+    /// The server is told which addresses other hosts use; what is left is held.
+    Declining {
+        exchange: Exchange6,
+    },
+}
+
+/// What has become of the items.
+#[derive(Clone, Copy, Debug, PartialEq, Eq)]
+pub enum News6 {
+    Nothing,
+    /// Items are held.
+    Bound,
+    /// Items of the kept lease are held again.
+    Reboot,
+    /// They were extended by their server.
+    Renew,
+    /// They were extended by some server.
+    Rebind,
+    /// None is held any more.
+    Expire,
+    /// None is held any more, since the client stops.
+    Stop,
+}
+
+/// A message that is to be sent, without the IAs that it names.
+#[derive(Clone, Copy, Debug, PartialEq, Eq)]
+pub struct Say6 {
+    pub kind: Kind6,
+    pub xid: u32,
+    /// Hundredths of a second since the exchange began.
+    pub elapsed: u16,
+}
+
+/// What a message that was judged says to a client in its state.
+#[derive(Clone, Copy, Debug, PartialEq, Eq)]
+pub enum Answer6 {
+    /// Nothing: it isn't waited for there.
+    Nothing,
+    /// A server offers what is asked for.
+    Offer { preference: u8 },
+    /// A server grants items, which are held now.
+    Grants,
+    /// A server knows of the declined addresses, and items are left.
+    Keeps,
+    /// No item is left.
+    Empties,
+}
+
+/// Which items of the kept lease are the client's own.
+#[derive(Clone, Copy, Debug, PartialEq, Eq)]
+pub enum Scope6 {
+    /// None: others are asked for, or nothing is.
+    Nothing,
+    /// All: they are held.
+    All,
+    /// Those that were valid at this moment: they are asked for again.
+    Since(u64),
+}
+
+/// Why items go.
+#[derive(Clone, Copy, Debug, PartialEq, Eq)]
+pub enum Cause6 {
+    /// Their valid lifetime is over at this moment.
+    Lapse(u64),
+    /// Another host uses this address.
+    Duplicate(Ip6),
+}
+
+/// Whether some of the client's items go, and whether some stay.
+#[derive(Clone, Copy, Debug, PartialEq, Eq)]
+pub struct Parting6 {
+    pub goes: bool,
+    pub stays: bool,
+}
+
+/// The moments of the client's items: when they are renewed, when they are rebound, and when the first of them isn't valid any
+/// more.
+#[derive(Clone, Copy, Debug, PartialEq, Eq)]
+pub struct Dates6 {
+    pub t1: Option<u64>,
+    pub t2: Option<u64>,
+    pub lapse: Option<u64>,
+}
+
+/// What becomes of the kept lease.
+#[derive(Clone, Copy, Debug, PartialEq, Eq)]
+pub enum Keep6 {
+    /// It stays as it is.
+    Stays,
+    /// There is none any more.
+    Clears,
+    /// It is the one that the message grants.
+    Takes,
+}
+
+/// A step of the table: where the client stands after it, the transaction id of its last exchange, what becomes of the
+/// kept lease, and what is said.
+#[derive(Clone, Copy, Debug, PartialEq, Eq)]
+pub struct Step6 {
+    pub state: State6,
+    pub last: Option<u32>,
+    pub keep: Keep6,
+    pub say: Option<Say6>,
+    pub news: News6,
+}
+
+/// Whether the server is told that its items aren't used any more.
+#[derive(Clone, Copy, Debug, PartialEq, Eq)]
+pub enum Tell6 {
+    /// By a RELEASE, and the lease isn't kept.
+    Server,
+    /// By nothing, and the lease stays kept.
+    Nobody,
+}
+
+/// Whether the interface has a carrier.
+#[derive(Clone, Copy, Debug, PartialEq, Eq)]
+pub enum Carrier6 {
+    Up,
+    Down,
+}
