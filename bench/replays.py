@@ -1,9 +1,10 @@
 #!/usr/bin/env python3
 """Times the program on long scripts, and on long configurations.
 
-    bench/replays.py [--program PATH] [--kinds quiet carrier local lease renew busy check] [--sizes 4 16] [--renewals 100 200]
+    bench/replays.py [--program PATH] [--kinds quiet carrier local lease renew renew6 busy check] [--sizes 4 16]
+                     [--renewals 100 200]
 
-For each kind of script and each size in MiB (of `renew`, each number of renewals): the time, the time over that of the
+For each kind of script and each size in MiB (of `renew` and `renew6`, each number of renewals): the time, the time over that of the
 size before, the time of sha256sum of the same script, and the peak memory, also over the size of the script. Beside
 `lease` stands the time in which tcpdump prints its frames, where there is a tcpdump. `busy` has the time of one turn on
 an interface among 64, and alone. `check` is a configuration: blocks of 64 interfaces, again and again, with comments,
@@ -59,6 +60,11 @@ def leased_lines(ifaces):
 def unprobed_lines(ifaces):
     """Each interface asks for a lease at once, and uses its address at once."""
     return ["c:nodelay", "c:noarp"]
+
+
+def asking6_lines(ifaces):
+    """Each interface asks for an address of DHCPv6 at once."""
+    return ["c:nodhcp", "c:noipv4ll", "c:nodelay", "c:ia_na"]
 
 
 def mac(iface):
@@ -147,6 +153,25 @@ class Turns:
         for i in ifaces:
             yield self.answer("ack", i, began, {"51": str(lease), **MORE})
 
+    def answer6(self, kind, iface, began, preference=""):
+        """A server's answer of DHCPv6, likewise: two addresses for an hour, and a server of names."""
+        item = f"2001:db8::{iface:x}:1/3600/7200+2001:db8::{iface:x}:2/3600/7200"
+        words = {"client": "00030001020000000001", "xid": str(began + iface), "na": f"{iface}:0:0:{item}"}
+        words |= {"preference": preference, "dns": "2001:db8::53"}
+        frame = frames.frame(kind, mac(iface), words)
+        self.frames.append(frame)
+        return self.turn(1, f"frame {iface} {frame.hex()}")
+
+    def acquire6(self, ifaces):
+        """The interfaces, which are to say a SOLICIT in the next millisecond, are offered addresses and granted them."""
+        yield self.quiet(1)
+        solicited, asked = self.count, {}
+        for i in ifaces:
+            asked[i] = self.count + 1
+            yield self.answer6("advertise", i, solicited, "255")
+        for i in ifaces:
+            yield self.answer6("reply", i, asked[i])
+
     def probe(self):
         """Three probes, and two announcements."""
         for _ in range(5):
@@ -170,6 +195,16 @@ def renewed_turns(turns, times):
         began = turns.count
         for i in range(1, IFACES + 1):
             yield turns.answer("ack", i, began, {"51": "3600", **MORE})
+
+
+def renewed6_turns(turns, times):
+    """All interfaces acquire addresses of DHCPv6, and renew them so many times."""
+    yield from turns.acquire6(range(1, IFACES + 1))
+    for _ in range(times):
+        yield turns.quiet(1_801_000)
+        began = turns.count
+        for i in range(1, IFACES + 1):
+            yield turns.answer6("reply", i, began)
 
 
 def busy_turns(turns, ifaces):
@@ -216,7 +251,9 @@ SIZED = {
     "local": (local_lines, IFACES, lambda turns: local_turns()),
     "lease": (leased_lines, IFACES, lease_turns),
 }
-KINDS = [*SIZED, "renew", "busy", "check"]
+# Those that are made of a number of renewals.
+RENEWED = {"renew": (leased_lines, renewed_turns), "renew6": (asking6_lines, renewed6_turns)}
+KINDS = [*SIZED, *RENEWED, "busy", "check"]
 
 
 def write_lines(path, lines):
@@ -287,11 +324,12 @@ def run_tcpdump(room, packets):
     print(f"         {len(packets)} frames, which tcpdump -n -v prints in {seconds:.2f} s", flush=True)
 
 
-def run_renewals(program, room, numbers):
+def run_renewals(program, room, kind, numbers):
+    conf_lines, lines = RENEWED[kind]
     path, before = os.path.join(room, "script"), None
     for times in numbers:
-        write_lines(path, script_of(leased_lines, IFACES, renewed_turns(Turns(), times)))
-        before = run_one(program, path, "renew", times, before)
+        write_lines(path, script_of(conf_lines, IFACES, lines(Turns(), times)))
+        before = run_one(program, path, kind, times, before)
 
 
 def run_busy(program, room):
@@ -318,8 +356,8 @@ def main():
     print("kind     size   seconds  ratio  sha256sum  peak MiB  peak/input", flush=True)
     with tempfile.TemporaryDirectory() as room:
         for kind in options.kinds:
-            if kind == "renew":
-                run_renewals(options.program, room, options.renewals)
+            if kind in RENEWED:
+                run_renewals(options.program, room, kind, options.renewals)
             elif kind == "busy":
                 run_busy(options.program, room)
             elif kind == "check":

@@ -6,13 +6,18 @@
 A draft is a script whose turns may also have one of these events, which become `frame INDEX HEX`:
 
     offer INDEX WORD..    ack INDEX WORD..    nak INDEX WORD..    arp INDEX WORD..
+    advertise INDEX WORD..    reply INDEX WORD..
 
 A WORD is NAME=VALUE. For an offer, an ACK and a NAK, NAME is one of DEFAULTS or the code of an option, whose value is
 as in FORMS; for an ARP packet one of ARP. An option without a value is left out. Any event may have `cut=N`: of the
 frame only the first N bytes. Where `chaddr` or `target_mac` isn't given it is the interface's own.
 
+An Advertise and a Reply of DHCPv6 have the words of DEFAULTS6, where no `client` is given with the DUID of the interface's
+hardware address. `na=IAID:T1:T2:ITEM+ITEM..` is an IA_NA, an ITEM is ADDRESS/PREFERRED/VALID, and `na=IAID=STATUS` one with a status
+alone; `dns` has addresses, parted by commas.
+
 A line `lease4 INTERFACE WORD..` becomes `file INTERFACE.lease4 HEX`: the lease that KEPT gives, but for the lines that
-the words name.
+the words name. `lease6 INTERFACE WORD..` likewise, by KEPT6; `duid DUID` becomes the file of a DUID.
 """
 
 import ipaddress
@@ -32,6 +37,22 @@ ARP = {
     "target_mac": "",
     "target": "0.0.0.0",
 }
+SERVER6 = "000300010200000000fe"
+DEFAULTS6 = {
+    "from": "02:00:00:00:00:fe",
+    "xid": "1",
+    "server": SERVER6,
+    "client": "",
+    "preference": "",
+    "rapid": "",
+    "status": "",
+    "solmax": "",
+    "na": "1:0:0:2001:db8::5/3000/6000",
+    "dns": "",
+}
+KINDS6 = {"advertise": 2, "reply": 7}
+# The lines of a kept DHCPv6 lease, but for the server.
+KEPT6 = {"t1": "1500600", "t2": "2400600", "na": "1", "addr": "2001:db8::5/3000600/6000600"}
 # The lines of a kept lease; those with a number are options.
 KEPT = {
     "address": "10.0.0.50/24",
@@ -121,6 +142,64 @@ def dhcp(kind, own, words):
     return ethernet(fields["to"], fields["from"], 0x0800, packet)
 
 
+def option6(code, value):
+    return struct.pack(">HH", code, len(value)) + value
+
+
+def status6(text):
+    return option6(13, struct.pack(">H", int(text))) if text else b""
+
+
+def item6(text):
+    """An address of an IA_NA (RFC 8415, section 21.6)."""
+    address, preferred, valid = text.split("/")
+    return option6(5, ipaddress.IPv6Address(address).packed + struct.pack(">II", int(preferred), int(valid)))
+
+
+def association6(text):
+    """An IA_NA (RFC 8415, section 21.4)."""
+    if "=" in text:
+        iaid, status = text.split("=")
+        return option6(3, struct.pack(">III", int(iaid), 0, 0) + status6(status))
+    iaid, t1, t2, items = text.split(":", 3)
+    head = struct.pack(">III", int(iaid), int(t1), int(t2))
+    return option6(3, head + b"".join(item6(item) for item in items.split("+")))
+
+
+def link_local(text):
+    """The link-local address of a hardware address (RFC 4291, appendix A)."""
+    own = mac(text)
+    return b"\xfe\x80" + bytes(6) + bytes([own[0] ^ 2]) + own[1:3] + b"\xff\xfe" + own[3:]
+
+
+def udp6(source, to, from_port, to_port, payload):
+    """A UDP datagram in an IPv6 packet."""
+    length = 8 + len(payload)
+    udp = struct.pack(">HHHH", from_port, to_port, length, 0) + payload
+    udp_sum = checksum(source + to + struct.pack(">II", length, 17) + udp) or 0xFFFF
+    head = struct.pack(">IHBB", 6 << 28, length, 17, 64) + source + to
+    return head + udp[:6] + struct.pack(">H", udp_sum) + udp[8:]
+
+
+def dhcp6(kind, own, words):
+    fields = {**DEFAULTS6, "client": (b"\0\3\0\1" + mac(own)).hex(), **words}
+    options = option6(1, bytes.fromhex(fields["client"])) + option6(2, bytes.fromhex(fields["server"]))
+    options += status6(fields["status"])
+    if fields["preference"]:
+        options += option6(7, bytes([int(fields["preference"])]))
+    if fields["rapid"]:
+        options += option6(14, b"")
+    if fields["solmax"]:
+        options += option6(82, seconds(fields["solmax"]))
+    if fields["dns"]:
+        options += option6(23, b"".join(ipaddress.IPv6Address(a).packed for a in fields["dns"].split(",")))
+    for text in fields["na"].split(";") if fields["na"] else []:
+        options += association6(text)
+    said = bytes([KINDS6[kind]]) + struct.pack(">I", int(fields["xid"]))[1:] + options
+    packet = udp6(link_local(fields["from"]), link_local(own), 547, 546, said)
+    return ethernet(own, fields["from"], 0x86DD, packet)
+
+
 def arp(own, words):
     fields = {**ARP, "target_mac": own, **words}
     body = struct.pack(">HHBBH", 1, 0x0800, 6, 4, int(fields["op"]))
@@ -131,12 +210,17 @@ def arp(own, words):
 def frame(kind, own, words):
     """The frame of an event on the interface with this hardware address."""
     cut = words.pop("cut", None)
-    spelled = arp(own, words) if kind == "arp" else dhcp(kind, own, words)
+    if kind == "arp":
+        spelled = arp(own, words)
+    elif kind in KINDS6:
+        spelled = dhcp6(kind, own, words)
+    else:
+        spelled = dhcp(kind, own, words)
     return spelled if cut is None else spelled[: int(cut)]
 
 
 def words_of(words):
-    return dict(word.split("=") for word in words)
+    return dict(word.split("=", 1) for word in words)
 
 
 def kept(name, words):
@@ -149,6 +233,15 @@ def kept(name, words):
     return f"file {name}.lease4 {text.encode().hex()}\n"
 
 
+def kept6(name, words):
+    """The file of a kept DHCPv6 lease of one address."""
+    lease = {**KEPT6, "server": SERVER6, **words}
+    addr = " ".join(lease["addr"].split("/"))
+    lines = ["dhcpcd-lease6 1", f"interface {name}", f"server {lease['server']}", f"t1 {lease['t1']}", f"t2 {lease['t2']}"]
+    text = "".join(line + "\n" for line in [*lines, f"ia na {lease['na']}", f"addr {addr}", "end"])
+    return f"file {name}.lease6 {text.encode().hex()}\n"
+
+
 def spell(lines):
     """The lines of the script of a draft."""
     own = {}
@@ -156,11 +249,15 @@ def spell(lines):
         words = line.split()
         if words[:1] == ["if"]:
             own[words[1]] = words[3]
-        if words[:1] == ["turn"] and (words[3] in OPTIONS or words[3] == "arp"):
+        if words[:1] == ["turn"] and (words[3] in OPTIONS or words[3] in KINDS6 or words[3] == "arp"):
             spelled = frame(words[3], own[words[4]], words_of(words[5:]))
             line = " ".join(words[:3] + ["frame", words[4], spelled.hex() or "-"]) + "\n"
         if words[:1] == ["lease4"]:
             line = kept(words[1], words_of(words[2:]))
+        if words[:1] == ["lease6"]:
+            line = kept6(words[1], words_of(words[2:]))
+        if words[:1] == ["duid"]:
+            line = f"file duid {(words[1] + chr(10)).encode().hex()}\n"
         yield line
 
 

@@ -10,7 +10,7 @@ use Rattle.net_types.specs.declared.interface.IfSpec.{IfSpec}
 use Rattle.v4_message.specs.Requests.{AskContent}
 use Rattle.world.specs.Rows.{IsInterface}
 use Rattle.client_model.specs.declared.interfaces.Iface.{Iface}
-use Rattle.client_model.specs.declared.steps.Said.{Said}
+use Rattle.client_model.specs.Messages.{Said}
 use Rattle.client_model.specs.IfaceSteps.{IfaceStep, news_of}
 use Rattle.client_model.specs.Clients.{spelled, sends_of}
 use Rattle.client_model.specs.Fitting.{AreIfaces}

@@ -2,6 +2,7 @@ pub mod Destinations
 pub mod Fit
 pub mod Going
 pub mod InPlace
+pub mod ItemRows
 pub mod Joined
 pub mod LeaseValues
 pub mod SameRows

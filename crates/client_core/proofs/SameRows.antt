@@ -1,15 +1,15 @@
--- Where nothing is new of an interface, its rows are as before, and where it says nothing either, the lease that it keeps.
+-- Where nothing is new of an interface, its rows are as before, and where it says nothing either, the leases that it keeps.
 use Rattle.std.proofs.Common.{◌≡◌, ◌+◌, ◌≤◌, ℕ, Bool, true, false, ◌||◌, nat_lt, List, [], ◌∷◌, ◌++◌, map, length, refl, ap, ◌∙◌, arith, length-append}
 use Rattle.std.proofs.lemmas.Bool.Decides.{nat_tests}
 use Rattle.net_types.specs.declared.address.Mac.{Mac}
 use Rattle.client_model.specs.declared.interfaces.Iface.{Iface}
-use Rattle.client_model.specs.IfaceSteps.{Report, IfaceStep, news_of}
+use Rattle.client_model.specs.IfaceSteps.{IfaceStep, news_of}
 use Rattle.client_model.specs.Clients.{sends_of}
 use Rattle.client_model.specs.IfaceTurns.{Turn, iface_turned}
 use Rattle.client_model.specs.WantedRows.{iface_rows}
-use Rattle.client_model.proofs.QuietTurns.{quiet_rows}
-use Rattle.client_model.proofs.QuietKept.{quiet_kept}
+use Rattle.client_model.proofs.QuietKept.{keeps_in_quiet}
 use Rattle.iface_core.specs.Outcomes.{Asked, Goes}
+use Rattle.client_core.specs.Touched.{KeepsLeases}
 
 none_more : {X : Type 0} (before more : List X) → length (before ++ more) ≤ length before → more ≡ []
 none_more before [] few = refl
@@ -40,8 +40,10 @@ module _ (own : List Mac) (turn : Turn) (iface new : Iface) (before after : Aske
 
   pub unchanged : length after.news ≤ length before.news → iface_rows new ≡ iface_rows iface
   unchanged few =
-      ap iface_rows goes.goes_on ∙ quiet_rows own turn iface (none_mapped (λ (r : Report). r.news) (iface_turned own turn iface).reports (no_news few))
+      ap iface_rows goes.goes_on ∙ (keeps_in_quiet own turn iface).rows (no_news few)
 
-  pub keeps_lease : length after.news ≤ length before.news → length after.sends ≤ length before.sends → new.dhcp4.kept ≡ iface.dhcp4.kept
-  keeps_lease few quiet =
-      ap (λ (i : Iface). i.dhcp4.kept) goes.goes_on ∙ quiet_kept own turn iface (no_news few) (none_said quiet)
+  pub keeps_leases : length after.news ≤ length before.news → length after.sends ≤ length before.sends → KeepsLeases iface new
+  keeps_leases few quiet = record {
+    kept4 = ap (λ (i : Iface). i.dhcp4.kept) goes.goes_on ∙ (keeps_in_quiet own turn iface).kept4 (no_news few) (none_said quiet);
+    kept6 = ap (λ (i : Iface). i.dhcp6.kept) goes.goes_on ∙ (keeps_in_quiet own turn iface).kept6 (no_news few);
+  }

@@ -5,10 +5,12 @@ ghost use Rattle.machine.specs.Moment.{moment_of};
 ghost use Rattle.world.specs.Rows.{IsRow};
 ghost use Rattle.lease_text.specs.Bounds.{FitsLease};
 ghost use Rattle.lease_text.specs.Leases.{lease_content};
+ghost use Rattle.lease6_text.specs.Bounds.{FitsLease6};
+ghost use Rattle.lease6_text.specs.Leases.{lease6_content};
 ghost use Rattle.client_model.specs.IfaceSteps.{index_of};
 ghost use Rattle.client_model.specs.Interfaces.{opened};
 ghost use Rattle.client_model.specs.Fitting.{AreBeginnings, AreIfaces};
-ghost use Rattle.client_model.specs.Clients.{Client, opening, client_turned, client_due, kept_lease, rows_of};
+ghost use Rattle.client_model.specs.Clients.{Client, opening, client_turned, client_due, kept_lease, kept_lease6, rows_of};
 ghost use Rattle.iface_core.specs.Beginnings.{beginning_of};
 ghost use Rattle.iface_core.specs.Inputs.{turn_of};
 ghost use Rattle.iface_core.specs.Outcomes.{asked_in, sends_in};
@@ -20,8 +22,11 @@ use crate::iface_tables::tables_of;
 use crate::turning::turn_all;
 use client_model::Iface;
 use host_tables::Tables;
-use iface_core::{Beginning, Outs, Turn, earlier_of, iface_due, iface_kept, iface_open};
+use iface_core::{
+    Beginning, Outs, Turn, earlier_of, iface_due, iface_kept, iface_kept6, iface_open,
+};
 use lease_text::Lease4;
+use lease6_text::Lease6;
 use machine::clamp_moment;
 use net_types::{IfIndex, IfSpec, Mac, NoMemory};
 use std::alloc::{AllocError, Global};
@@ -107,7 +112,7 @@ pub struct Stepped {
     pub core: Core,
     /// What the outside is asked.
     pub outs: Outs,
-    /// The interfaces that may keep another lease than before; all others keep the one that they kept.
+    /// The interfaces that may keep another lease than before; all others keep those that they kept.
     pub touched: Vec<IfIndex>,
 }
 
@@ -147,20 +152,36 @@ pub fn rows(core: &Core) -> &BTreeSet<HostRow>
     core.tables.wanted()
 }
 
-/// The lease that the interface of this number keeps for its next start, held or not.
-pub fn kept(core: &Core, index: IfIndex) -> Option<&Lease4>
+/// The DHCPv4 lease that the interface of this number keeps for its next start, held or not.
+pub fn kept4(core: &Core, index: IfIndex) -> Option<&Lease4>
     ensures value { option_map (λ lease. lease_content lease.now) result ≡ kept_lease index.number core.now.ifaces }
     ensures fits { IfSome (option_map (λ lease. lease_content lease.now) result) FitsLease }
 {
-    kept_among(&core.ifaces, index)
+    kept4_among(&core.ifaces, index)
 }
 
-fn kept_among(ifaces: &[Iface], index: IfIndex) -> Option<&Lease4>
+fn kept4_among(ifaces: &[Iface], index: IfIndex) -> Option<&Lease4>
     ensures value { option_map (λ lease. lease_content lease.now) result ≡ kept_lease index.number ifaces.now }
     ensures fits { IfSome (option_map (λ lease. lease_content lease.now) result) FitsLease }
 {
     let iface = iface_of(ifaces, index)?;
     iface_kept(iface)
+}
+
+/// The DHCPv6 lease that the interface of this number keeps for its next start, held or not.
+pub fn kept6(core: &Core, index: IfIndex) -> Option<&Lease6>
+    ensures value { option_map (λ lease. lease6_content lease.now) result ≡ kept_lease6 index.number core.now.ifaces }
+    ensures fits { IfSome (option_map (λ lease. lease6_content lease.now) result) FitsLease6 }
+{
+    kept6_among(&core.ifaces, index)
+}
+
+fn kept6_among(ifaces: &[Iface], index: IfIndex) -> Option<&Lease6>
+    ensures value { option_map (λ lease. lease6_content lease.now) result ≡ kept_lease6 index.number ifaces.now }
+    ensures fits { IfSome (option_map (λ lease. lease6_content lease.now) result) FitsLease6 }
+{
+    let iface = iface_of(ifaces, index)?;
+    iface_kept6(iface)
 }
 
 /// The interface of this number.

@@ -1,4 +1,4 @@
-//! The rows that the addresses of an interface bring: its static address, its lease, its link-local address.
+//! The rows that the addresses of an interface bring: its static address, its leases, its link-local address.
 
 ghost use Rattle.std.specs.Prelude.{◌≡◌, ◌++◌, ◌&&◌, not, IfSome, OnOk};
 ghost use Rattle.net_types.specs.AddressText.{FitsIp4, FitsNet4};
@@ -8,9 +8,10 @@ ghost use Rattle.client_model.specs.WantedRows.{static_rows, local_rows, iface_r
 
 use crate::address_rows::{outlet_of, push_address, push_router};
 use crate::lease_rows::push_lease;
+use crate::lease6_rows::push_lease6;
 use client_model::{Iface, Outlet};
 use host_tables::HostRows;
-use iface_core::{iface_held, iface_lease};
+use iface_core::{iface_held, iface_lease, iface_lease6};
 use net_types::{Ip4, Net4, NoMemory};
 use settings::IfConf;
 use std::alloc::{AllocError, Global};
@@ -67,5 +68,6 @@ pub fn push_iface(alloc: Global, rows: &mut HostRows, iface: &Iface) -> Result<(
     push_static(rows, outlet, is_in_force(iface), conf)?;
     push_lease(alloc, rows, outlet, conf.router, iface_lease(iface))?;
     push_local(rows, outlet, iface_held(iface))?;
+    push_lease6(rows, outlet, iface_lease6(iface))?;
     Ok(())
 }

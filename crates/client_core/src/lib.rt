@@ -5,8 +5,9 @@ mod address_rows;
 mod clients;
 mod iface_rows;
 mod iface_tables;
+mod lease6_rows;
 mod lease_rows;
 mod turning;
 
-pub use clients::{Core, Stepped, core_due, core_open, kept, rows, step};
+pub use clients::{Core, Stepped, core_due, core_open, kept4, kept6, rows, step};
 pub use iface_core::{Beginning, Outs, Sending, Turn, TurnInput, earlier_of};

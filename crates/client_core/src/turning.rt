@@ -7,7 +7,7 @@ ghost use Rattle.iface_core.specs.Inputs.{turn_of};
 ghost use Rattle.iface_core.specs.Outcomes.{Goes, asked_in};
 ghost use Rattle.client_core.specs.Running.{IsRunning};
 ghost use Rattle.client_core.specs.Stepping.{GoAll};
-ghost use Rattle.client_core.specs.Touched.{KeepsUntouched, noted};
+ghost use Rattle.client_core.specs.Touched.{KeepsLeases, KeepsUntouched, noted};
 
 use crate::iface_tables::renew_rows;
 use client_model::Iface;
@@ -36,7 +36,7 @@ fn turn_iface(
     requires index { IsInterface (index_of iface.old) }
     ensures goes { OnOk result (Goes (iface_turned own.now (turn_of turn.now) iface.old) iface.new (asked_in outs.old) (asked_in outs.new)) }
     ensures same { IfOk result (λ changes. changes.rows ≡ false → iface_rows iface.new ≡ iface_rows iface.old) }
-    ensures kept { IfOk result (λ changes. changes.kept ≡ false → iface.new.dhcp4.kept ≡ iface.old.dhcp4.kept) }
+    ensures kept { IfOk result (λ changes. changes.kept ≡ false → KeepsLeases iface.old iface.new) }
 {
     let told = outs.news.len();
     let said = outs.sends.len();

@@ -18,7 +18,7 @@ module _ (own : List Mac) (at salt : ℕ) (bytes : List ℕ) where
   taken_elsewhere : (event : Event) (iface : Iface) → NamesOther (index_of iface) event → taken own at salt event bytes iface ≡ silent iface
   taken_elsewhere (Frame index len) iface names = if_other (index_of iface) index _ (silent iface) names
   taken_elsewhere (Carrier index up) iface names = if_other (index_of iface) index _ (silent iface) names
-  taken_elsewhere (Duplicate index addr) iface names = refl
+  taken_elsewhere (Duplicate index addr) iface names = if_other (index_of iface) index _ (silent iface) names
   taken_elsewhere (Release index) iface names = if_other (index_of iface) index _ (silent iface) names
   taken_elsewhere (Rebind index) iface names = if_other (index_of iface) index _ (silent iface) names
   taken_elsewhere Stop iface names = absurd names

@@ -18,11 +18,16 @@ use Rattle.ipv4ll.specs.Table.{held_in}
 use Rattle.v4_options.specs.declared.routes.ClasslessRoute.{ClasslessRoute}
 use Rattle.lease_text.specs.Leases.{LeaseContent}
 use Rattle.v4_client.specs.Clients.{held_of}
+use Rattle.v6_options.specs.declared.ia.IaKind.{IaKind}
+use Rattle.v6_options.specs.declared.ia.IaKind.TheVariants.{Na, Pd}
+use Rattle.lease6_text.specs.declared.lease.Item6.{Item6}
+use Rattle.lease6_text.specs.Leases.{IaLeaseContent, Lease6Content}
+use Rattle.v6_client.specs.Clients as dhcp6
 use Rattle.client_model.specs.declared.outlet.Outlet.{Outlet}
 use Rattle.client_model.specs.declared.interfaces.Iface.{Iface}
 use Rattle.net_types.specs.Networks.{network_of, is_within}
 use Rattle.host_tables.specs.Precedence.{is_kept}
-use Rattle.client_model.specs.WantedRows.{outlet_of, network_routes, gateway_routes, router_routes, address_rows, static_rows, classless_in, classless_rows, router_for, lease_routes, lease_rows, local_net, local_rows, iface_rows, wanted_rows}
+use Rattle.client_model.specs.WantedRows.{outlet_of, network_routes, gateway_routes, router_routes, address_rows, static_rows, classless_in, classless_rows, router_for, lease_routes, lease_rows, local_net, local_rows, item_rows, ia_rows, lease6_rows, iface_rows, wanted_rows}
 use Rattle.settings.specs.ManagedRows.{is_managed}
 use Rattle.host_model.specs.HostTable.{Wantable}
 use Rattle.host_model.proofs.HostTableRows.{in_order_sorted}
@@ -88,6 +93,24 @@ lease_on outlet router (Some lease) =
     All-append (On outlet.iface) (address_rows outlet lease.net) (lease_routes outlet lease.net routes chosen) (address_on outlet lease.net)
     (lease_routes_on outlet lease.net routes chosen)
 
+item_on : (outlet : Outlet) (kind : IaKind) (item : Item6) → All (On outlet.iface) (item_rows outlet kind item)
+item_on outlet Na item = one_on outlet.iface (Addr outlet.iface (Family.V6 item.net)) refl
+item_on outlet Pd item = All-nil (On outlet.iface)
+
+items_on : (outlet : Outlet) (kind : IaKind) (items : List Item6) → All (On outlet.iface) (flat_map (item_rows outlet kind) items)
+items_on outlet kind [] = All-nil (On outlet.iface)
+items_on outlet kind (item ∷ items) =
+    All-append (On outlet.iface) (item_rows outlet kind item) (flat_map (item_rows outlet kind) items) (item_on outlet kind item) (items_on outlet kind items)
+
+ias_on : (outlet : Outlet) (ias : List IaLeaseContent) → All (On outlet.iface) (flat_map (ia_rows outlet) ias)
+ias_on outlet [] = All-nil (On outlet.iface)
+ias_on outlet (ia ∷ ias) =
+    All-append (On outlet.iface) (ia_rows outlet ia) (flat_map (ia_rows outlet) ias) (items_on outlet ia.kind ia.items) (ias_on outlet ias)
+
+lease6_on : (outlet : Outlet) (held : Option Lease6Content) → All (On outlet.iface) (lease6_rows outlet held)
+lease6_on outlet None = All-nil (On outlet.iface)
+lease6_on outlet (Some lease) = ias_on outlet lease.ias
+
 own_rows : (iface : Iface) → All (On iface.managed.spec.index) (iface_rows iface)
 own_rows iface =
     let outlet = outlet_of iface.managed in
@@ -95,10 +118,13 @@ own_rows iface =
     let static = static_rows outlet (iface.up && not iface.stopped) conf.address conf.router in
     let lease = lease_rows outlet conf.router (held_of iface.dhcp4) in
     let local = local_rows outlet (held_in iface.local.state) in
-    All-append (On outlet.iface) (static ++ lease) local
+    let lease6 = lease6_rows outlet (dhcp6.held_of iface.dhcp6) in
+    All-append (On outlet.iface) (static ++ lease ++ local) lease6
+    (All-append (On outlet.iface) (static ++ lease) local
     (All-append (On outlet.iface) static lease (static_on outlet (iface.up && not iface.stopped) conf.address conf.router)
     (lease_on outlet conf.router (held_of iface.dhcp4)))
-    (local_on outlet (held_in iface.local.state))
+    (local_on outlet (held_in iface.local.state)))
+    (lease6_on outlet (dhcp6.held_of iface.dhcp6))
 
 -- ---- those of all interfaces are on managed ones
 

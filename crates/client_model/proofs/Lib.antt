@@ -1,4 +1,5 @@
 pub mod AskFitting
+pub mod HostDuids
 mod AskedOptions
 mod Apart
 mod Elsewhere
@@ -6,7 +7,9 @@ mod OwnTurns
 mod Keepers
 pub mod HostTableWanted
 pub mod SameInterfaces
+mod SpelledTexts
 pub mod KeptTexts
+pub mod KeptTexts6
 mod QuietLeases
 pub mod QuietTurns
 pub mod QuietKept

@@ -1,4 +1,4 @@
--- A turn of which nothing is new and in which nothing is said leaves the lease that an interface keeps.
+-- A turn of which nothing is new and in which nothing is said leaves the DHCPv4 lease that an interface keeps.
 use Rattle.std.proofs.Common.{ℕ, ◌≡◌, ◌+◌, ◌*◌, ◌||◌, Bool, true, false, cond, List, [], ◌∷◌, ◌++◌, map, Option, Some, None, nat_le, nat_eq, refl, ap, ◌∙◌}
 use Rattle.std.specs.Prelude.{option_to_list}
 use Rattle.net_types.proofs.CaseLaws.{gated}
@@ -11,6 +11,8 @@ use Rattle.arp_acd.specs.declared.detection.AcdSays.TheVariants as says
 use Rattle.arp_acd.specs.Table as detection
 use Rattle.lease_text.specs.declared.lease.Terms4.{Terms4}
 use Rattle.v4_frames.specs.Heard.{HeardMessage, heard4_in}
+use Rattle.v6_frames.specs.Heard.{HeardMessage6, heard6_in}
+use Rattle.v6_client.specs.Runs.{rebind_turned}
 use Rattle.v4_client.specs.declared.moments.Backoff.TheVariants.{Four}
 use Rattle.v4_client.specs.declared.moments.TheConstants.{SECOND}
 use Rattle.v4_client.specs.declared.states.Answer4.{Answer4}
@@ -32,7 +34,7 @@ use Rattle.v4_client.specs.Detection.{checked, defended, with_acd}
 use Rattle.v4_client.specs.Due.{due_of}
 use Rattle.v4_client.specs.Hearing.{offered, granted, answered, renewed, heard_row, contested, arp_row}
 use Rattle.v4_client.specs.History.{tick_step}
-use Rattle.v4_client.specs.Inputs.{begins, begin_row, rebind_row}
+use Rattle.v4_client.specs.Inputs.{begins, rebind_row}
 use Rattle.v4_client.specs.Moments.{doubled, expiry, rebinding_at, renewal_at}
 use Rattle.v4_client.specs.Moves.{kept_after}
 use Rattle.v4_client.specs.Steps.{binds, discovers, expires, new_exchange, rebinding, rebooting, renewing, requesting, rests, to_init}
@@ -43,17 +45,18 @@ use Rattle.script_model.specs.IfaceSets.{is_in}
 use Rattle.client_model.specs.declared.interfaces.Iface.{Iface}
 use Rattle.client_model.specs.declared.steps.News.{News}
 use Rattle.client_model.specs.declared.steps.News.TheVariants.{CarrierCame, CarrierWent, Released, Stopped}
-use Rattle.client_model.specs.declared.steps.Said.{Said}
-use Rattle.client_model.specs.declared.steps.Said.TheVariants.{Dhcp4}
-use Rattle.client_model.specs.IfaceSteps.{Report, IfaceStep, index_of, silent, then_step, with_news}
+use Rattle.client_model.specs.Messages.{Said, Dhcp4}
+use Rattle.client_model.specs.IfaceSteps.{Report, IfaceStep, index_of, news_of, silent, then_step, with_news}
 use Rattle.client_model.specs.ClientSettings.{runs_dhcp4}
+use Rattle.client_model.specs.ClientSettings6.{runs_dhcp6}
 use Rattle.client_model.specs.LocalSteps.{armed, local_hears, tick_local}
 use Rattle.client_model.specs.Dhcp4Steps.{arms, arrival_at, dhcp4_packet, dhcp4_step, holds_lease, rebind_dhcp4, tick_dhcp4}
+use Rattle.client_model.specs.Dhcp6Steps.{contested as contested6, dhcp6_step, rebind_dhcp6, tick_dhcp6}
 use Rattle.client_model.specs.Interfaces.{machines_drop, machines_rebind, machines_stop, restarted, unsent_in, ticked, carrier_comes, carrier_goes, carried, released, rebound, told_at_stop}
 use Rattle.client_model.specs.Interfaces as run
-use Rattle.client_model.specs.IfaceTurns.{arp_heard, hears, hears_either, hears_message, hears_packet, taken, input_step, iface_turned}
+use Rattle.client_model.specs.IfaceTurns.{arp_heard, hears, hears_either, hears_message, hears_message6, hears_packet, taken, input_step, Turn, iface_turned}
 use Rattle.client_model.specs.Runs.{KeepsInQuiet}
-use Rattle.client_model.proofs.QuietTurns.{none_first, none_next, no_lease_news}
+use Rattle.client_model.proofs.QuietTurns.{none_first, none_next, no_lease_news, quiet_kept6, quiet_rows}
 
 -- ---- a step of the table
 
@@ -176,18 +179,6 @@ begins_still turn (Some terms) =
     gated Stilly (is_due (expiry terms) turn.at || nat_eq turn.site.reboot 0) (to_init turn)
     (rebooting turn (new_exchange turn terms.net.ip) Four (turn.at + SECOND * turn.site.reboot)) (λ n s. refl) (λ n s. refl)
 
-begin_still : (turn : Turn4) (kept : Option Terms4) (state : State4) → Stilly (begin_row turn kept state)
-begin_still turn kept Off = begins_still turn kept
-begin_still turn kept (Init due) = λ n s. refl
-begin_still turn kept (Selecting xid began secs backoff due) = λ n s. refl
-begin_still turn kept (Requesting exchange secs backoff due) = λ n s. refl
-begin_still turn kept (Rebooting exchange backoff end due) = λ n s. refl
-begin_still turn kept (Checking xid terms origin acd) = λ n s. refl
-begin_still turn kept (Waiting due) = λ n s. refl
-begin_still turn kept (Bound xid terms acd) = λ n s. refl
-begin_still turn kept (Renewing exchange terms acd due) = λ n s. refl
-begin_still turn kept (Rebinding exchange terms acd due) = λ n s. refl
-
 rebind_still : (turn : Turn4) (kept : Option Terms4) (state : State4) → Stilly (rebind_row turn kept state)
 rebind_still turn kept Off = begins_still turn kept
 rebind_still turn kept (Init due) = λ n s. refl
@@ -260,11 +251,20 @@ carried_still at salt false iface =
     gated (KeepsStill iface) iface.up (carrier_goes at salt iface) (silent iface)
     (told iface iface CarrierWent (machines_drop at salt (record iface { up = false }))) (λ n s. refl)
 
+rebind_dhcp6_still : (at salt : ℕ) (iface : Iface) → KeepsStill iface (rebind_dhcp6 at salt iface)
+rebind_dhcp6_still at salt iface =
+    gated (KeepsStill iface) (runs_dhcp6 iface.managed.conf) (dhcp6_step iface (rebind_turned at salt iface.dhcp6)) (silent iface) (λ n s. refl) (λ n s. refl)
+
+rebinds_still : (at salt : ℕ) (iface : Iface) → KeepsStill iface (machines_rebind at salt iface)
+rebinds_still at salt iface =
+    let first : IfaceStep = rebind_dhcp4 at salt iface in
+    let local : IfaceStep = then_step first (arms at) in
+    both_still iface local (rebind_dhcp6 at salt) (both_still iface first (arms at) (rebind_dhcp4_still at salt iface) (arms_still at first.iface))
+    (rebind_dhcp6_still at salt local.iface)
+
 rebound_iface_still : (at salt : ℕ) (iface : Iface) → KeepsStill iface (rebound at salt iface)
 rebound_iface_still at salt iface =
-    gated (KeepsStill iface) iface.up (machines_rebind at salt iface) (silent iface)
-    (both_still iface (rebind_dhcp4 at salt iface) (arms at) (rebind_dhcp4_still at salt iface) (arms_still at (rebind_dhcp4 at salt iface).iface))
-    (λ n s. refl)
+    gated (KeepsStill iface) iface.up (machines_rebind at salt iface) (silent iface) (rebinds_still at salt iface) (λ n s. refl)
 
 module _ (own : List Mac) (at salt : ℕ) (bytes : List ℕ) where
   packet_still : (arp : ArpView) (iface : Iface) → KeepsStill iface (hears_packet own at salt arp iface)
@@ -272,24 +272,32 @@ module _ (own : List Mac) (at salt : ℕ) (bytes : List ℕ) where
       both_still iface (dhcp4_packet own at salt arp iface) (local_hears own at salt arp)
       (dhcp4_still at iface (arp_step own at salt arp iface.dhcp4) (arp_still own (turn_of at salt iface.dhcp4) arp iface.dhcp4.state)) (λ n s. refl)
 
-  message_still : (message : Option HeardMessage) (iface : Iface) → KeepsStill iface (hears_message at salt message iface)
-  message_still None iface = λ n s. refl
-  message_still (Some heard) iface =
+  message6_still : (message : Option HeardMessage6) (iface : Iface) → KeepsStill iface (hears_message6 at salt message iface)
+  message6_still None iface = λ n s. refl
+  message6_still (Some heard) iface = λ n s. refl
+
+  message_still : (message : Option HeardMessage) (message6 : Option HeardMessage6) (iface : Iface)
+      → KeepsStill iface (hears_message at salt message message6 iface)
+  message_still None message6 iface = message6_still message6 iface
+  message_still (Some heard) message6 iface =
       dhcp4_still_from at iface (record iface { dhcp4 = brought (arrival_at at heard) iface.dhcp4 }) (heard_step salt (arrival_at at heard) iface.dhcp4) refl
       (heard_still (turn_of at salt iface.dhcp4) (answer_to (arrival_at at heard) iface.dhcp4) iface.dhcp4.state)
 
-  either_still : (arp : Option ArpView) (message : Option HeardMessage) (iface : Iface) → KeepsStill iface (hears_either own at salt arp message iface)
-  either_still (Some arp) message iface = packet_still arp iface
-  either_still None message iface = message_still message iface
+  either_still : (arp : Option ArpView) (message : Option HeardMessage) (message6 : Option HeardMessage6) (iface : Iface)
+      → KeepsStill iface (hears_either own at salt arp message message6 iface)
+  either_still (Some arp) message message6 iface = packet_still arp iface
+  either_still None message message6 iface = message_still message message6 iface
+
+  hears_still : (iface : Iface) → KeepsStill iface (hears own at salt bytes iface)
+  hears_still iface = either_still (arp_heard bytes) (heard4_in iface.managed.spec.mac bytes) (heard6_in iface.managed.spec.mac bytes) iface
 
   named_still : (index : ℕ) (iface : Iface) (step : IfaceStep) → KeepsStill iface step → KeepsStill iface (cond (nat_eq (index_of iface) index) step (silent iface))
   named_still index iface step still = gated (KeepsStill iface) (nat_eq (index_of iface) index) step (silent iface) still (λ n s. refl)
 
   taken_still : (event : Event) (iface : Iface) → KeepsStill iface (taken own at salt event bytes iface)
-  taken_still (Frame index len) iface =
-      named_still index iface (hears own at salt bytes iface) (either_still (arp_heard bytes) (heard4_in iface.managed.spec.mac bytes) iface)
+  taken_still (Frame index len) iface = named_still index iface (hears own at salt bytes iface) (hears_still iface)
   taken_still (Carrier index up) iface = named_still index iface (carried at salt up iface) (carried_still at salt up iface)
-  taken_still (Duplicate index addr) iface = λ n s. refl
+  taken_still (Duplicate index addr) iface = named_still index iface (contested6 at salt addr iface) (λ n s. refl)
   taken_still (Release index) iface = named_still index iface (released at salt iface) (told iface iface Released (machines_stop Server at salt iface))
   taken_still (Rebind index) iface = named_still index iface (rebound at salt iface) (rebound_iface_still at salt iface)
   taken_still Stop iface = told iface iface Stopped (machines_stop (told_at_stop iface.managed.conf) at salt (record iface { stopped = true }))
@@ -302,17 +310,28 @@ module _ (own : List Mac) (at salt : ℕ) (bytes : List ℕ) where
 
 ticked_still : (at salt : ℕ) (iface : Iface) → KeepsStill iface (ticked at salt iface)
 ticked_still at salt iface =
-    both_still iface (tick_dhcp4 at salt iface) (tick_local at salt)
-    (dhcp4_still at iface (tick_step at salt iface.dhcp4) (tick_step_still at salt iface.dhcp4)) (λ n s. refl)
+    let first : IfaceStep = tick_dhcp4 at salt iface in
+    let local : IfaceStep = then_step first (tick_local at salt) in
+    both_still iface local (tick_dhcp6 at salt)
+    (both_still iface first (tick_local at salt) (dhcp4_still at iface (tick_step at salt iface.dhcp4) (tick_step_still at salt iface.dhcp4)) (λ n s. refl))
+    (λ n s. refl)
 
 no_news_told : (reports : List Report) → map (λ (report : Report). report.news) reports ≡ [] → reports ≡ []
 no_news_told [] none = refl
 no_news_told (report ∷ reports) none = cc
 
-pub quiet_kept : KeepsInQuiet
+pub quiet_kept : (own : List Mac) (turn : Turn) (iface : Iface) → news_of (iface_turned own turn iface) ≡ [] → (iface_turned own turn iface).said ≡ []
+    → (iface_turned own turn iface).iface.dhcp4.kept ≡ iface.dhcp4.kept
 quiet_kept own turn iface n s =
     let anew : Iface = unsent_in turn.unsent turn.at turn.salt iface in
     let first : IfaceStep = ticked turn.at turn.salt anew in
     both_still anew first (input_step own turn.at turn.salt turn.event turn.bytes) (ticked_still turn.at turn.salt anew)
     (input_still own turn.at turn.salt turn.bytes turn.event first.iface) (no_news_told (iface_turned own turn iface).reports n) s
     ∙ unsent_keeps turn.unsent turn.at turn.salt iface
+
+pub keeps_in_quiet : (own : List Mac) (turn : Turn) (iface : Iface) → KeepsInQuiet own turn iface
+keeps_in_quiet own turn iface = record {
+  rows = λ n. quiet_rows own turn iface (no_news_told (iface_turned own turn iface).reports n);
+  kept6 = λ n. quiet_kept6 own turn iface (no_news_told (iface_turned own turn iface).reports n);
+  kept4 = quiet_kept own turn iface;
+}

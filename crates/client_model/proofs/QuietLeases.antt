@@ -14,7 +14,6 @@ use Rattle.lease_text.specs.Leases.{LeaseContent, ValueContent}
 use Rattle.v4_client.specs.declared.moments.Backoff.TheVariants.{Four}
 use Rattle.v4_client.specs.declared.states.Answer4.{Answer4}
 use Rattle.v4_client.specs.declared.states.Answer4.TheVariants as answer
-use Rattle.v4_client.specs.declared.states.Carrier.TheVariants.{Up}
 use Rattle.v4_client.specs.declared.states.News4.TheVariants as news
 use Rattle.v4_client.specs.declared.states.Origin4.{Origin4}
 use Rattle.v4_client.specs.declared.states.Origin4.TheVariants.{Offered, Rebooted}
@@ -22,13 +21,13 @@ use Rattle.v4_client.specs.declared.states.State4.{State4}
 use Rattle.v4_client.specs.declared.states.State4.TheVariants.{Off, Init, Selecting, Requesting, Rebooting, Checking, Waiting, Bound, Renewing, Rebinding}
 use Rattle.v4_client.specs.declared.states.Step4.{Step4}
 use Rattle.v4_client.specs.declared.states.Turn4.{Turn4}
-use Rattle.v4_client.specs.Calls.{answer_to, arp_step, brought, carrier_step, heard_step, rebind_step, unsent_step}
+use Rattle.v4_client.specs.Calls.{answer_to, arp_step, brought, heard_step, rebind_step, unsent_step}
 use Rattle.v4_client.specs.Clients.{ClientContent, held_of, is_held, kept_terms, turn_of}
 use Rattle.v4_client.specs.Detection.{checked, defended, with_acd}
 use Rattle.v4_client.specs.Due.{due_of}
 use Rattle.v4_client.specs.Hearing.{offered, granted, answered, renewed, heard_row, contested, arp_row}
 use Rattle.v4_client.specs.History.{tick_step}
-use Rattle.v4_client.specs.Inputs.{begins, begin_row, rebind_row, unsent_row}
+use Rattle.v4_client.specs.Inputs.{begins, rebind_row, unsent_row}
 use Rattle.v4_client.specs.Messages.{Arrival}
 use Rattle.v4_client.specs.Moments.{doubled, expiry, rebinding_at, renewal_at}
 use Rattle.v4_client.specs.Moves.{kept_after, moved}
@@ -191,18 +190,6 @@ module _ (name : Name) (fresh : List ValueContent) (kept : Option LeaseContent) 
       gated (KeepsHeld Off) (is_due (expiry terms) turn.at || nat_eq turn.site.reboot 0) (to_init turn)
       (rebooting turn (new_exchange turn terms.net.ip) Four (turn.at + SECOND * turn.site.reboot)) (λ e. refl) (λ e. refl)
 
-  begin_keeps : (turn : Turn4) (lease : Option Terms4) (state : State4) → KeepsHeld state (begin_row turn lease state)
-  begin_keeps turn lease Off = begins_keeps turn lease
-  begin_keeps turn lease (Init due) = λ e. refl
-  begin_keeps turn lease (Selecting xid began secs backoff due) = λ e. refl
-  begin_keeps turn lease (Requesting exchange secs backoff due) = λ e. refl
-  begin_keeps turn lease (Rebooting exchange backoff end due) = λ e. refl
-  begin_keeps turn lease (Checking xid terms origin acd) = λ e. refl
-  begin_keeps turn lease (Waiting due) = λ e. refl
-  begin_keeps turn lease (Bound xid terms acd) = λ e. refl
-  begin_keeps turn lease (Renewing exchange terms acd due) = λ e. refl
-  begin_keeps turn lease (Rebinding exchange terms acd due) = λ e. refl
-
   rebind_keeps : (turn : Turn4) (lease : Option Terms4) (state : State4) → KeepsHeld state (rebind_row turn lease state)
   rebind_keeps turn lease Off = begins_keeps turn lease
   rebind_keeps turn lease (Init due) = λ e. refl
@@ -246,9 +233,6 @@ heard_quiet salt arrival c = heard_keeps (of_name c) (brought arrival c).fresh c
 
 pub arp_quiet : (own : List Mac) (at salt : ℕ) (arp : ArpView) (c : ClientContent) → Quietly c (arp_step own at salt arp c)
 arp_quiet own at salt arp c = arp_keeps (of_name c) c.fresh c.kept own (turn_of at salt c) arp c.state
-
-pub begin_quiet : (at salt : ℕ) (c : ClientContent) → Quietly c (carrier_step Up at salt c)
-begin_quiet at salt c = begin_keeps (of_name c) c.fresh c.kept (turn_of at salt c) (kept_terms c) c.state
 
 pub rebind_quiet : (at salt : ℕ) (c : ClientContent) → Quietly c (rebind_step at salt c)
 rebind_quiet at salt c = rebind_keeps (of_name c) c.fresh c.kept (turn_of at salt c) (kept_terms c) c.state

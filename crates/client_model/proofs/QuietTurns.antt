@@ -1,4 +1,4 @@
--- A turn of which nothing is new leaves an interface's rows as they are.
+-- A turn of which nothing is new leaves an interface's rows as they are, and the DHCPv6 lease that it keeps.
 use Rattle.std.proofs.Common.{ℕ, ◌≡◌, ◌+◌, ◌-◌, ◌*◌, Bool, true, false, not, ◌&&◌, List, [], ◌∷◌, ◌++◌, map, Option, Some, None, nat_le, nat_lt, nat_eq, refl, ap, ◌∙◌, if◌then◌else◌}
 use Rattle.std.specs.Prelude.{is_some}
 use Rattle.net_types.proofs.CaseLaws.{split, gated}
@@ -21,14 +21,21 @@ use Rattle.ipv4ll.specs.declared.link_local.Waits.TheVariants.{ForLease, ForNoth
 use Rattle.ipv4ll.specs.declared.link_local.Fallback.{Fallback}
 use Rattle.ipv4ll.specs.declared.link_local.Fallback.TheVariants.{Choose}
 use Rattle.ipv4ll.specs.Table.{chooses, LlStep, moves, tells, choosing, after_conflict, one_more, tick_row, ll_tick, ll_hears, ll_restarts, ll_armed, held_in}
+use Rattle.net_types.specs.declared.address.Ip6.{Ip6}
 use Rattle.v4_frames.specs.Heard.{HeardMessage, heard4_in}
+use Rattle.v6_frames.specs.Heard.{HeardMessage6, heard6_in}
+use Rattle.v6_client.specs.declared.states.News6.{News6}
+use Rattle.v6_client.specs.declared.states.News6.TheVariants as news6
+use Rattle.v6_client.specs.Clients as dhcp6
+use Rattle.v6_client.specs.QuietLaws.{KeepsLeases, RunTells}
+use Rattle.v6_client.specs.Runs.{Turned6, contested_turned, hears_turned, rebind_turned, tick_turned}
+use Rattle.v6_client.proofs.QuietSteps.{all_runs_tell}
 use Rattle.v4_client.specs.declared.moments.TheConstants.{SECOND}
-use Rattle.v4_client.specs.declared.states.Carrier.TheVariants.{Up}
 use Rattle.v4_client.specs.declared.states.News4.{News4}
 use Rattle.v4_client.specs.declared.states.News4.TheVariants as news4
 use Rattle.v4_client.specs.declared.states.Step4.{Step4}
 use Rattle.v4_client.specs.declared.states.Tell.TheVariants.{Server}
-use Rattle.v4_client.specs.Calls.{arp_step, brought, carrier_step, heard_step, rebind_step}
+use Rattle.v4_client.specs.Calls.{arp_step, brought, heard_step, rebind_step}
 use Rattle.v4_client.specs.Clients.{ClientContent, held_of}
 use Rattle.v4_client.specs.History.{tick_step}
 use Rattle.v4_client.specs.Moves.{moved}
@@ -41,12 +48,14 @@ use Rattle.client_model.specs.declared.steps.News.{News}
 use Rattle.client_model.specs.declared.steps.News.TheVariants.{CarrierCame, CarrierWent, Released, Stopped}
 use Rattle.client_model.specs.IfaceSteps.{Report, IfaceStep, index_of, silent, then_step, with_news}
 use Rattle.client_model.specs.ClientSettings.{runs_dhcp4}
+use Rattle.client_model.specs.ClientSettings6.{runs_dhcp6}
 use Rattle.client_model.specs.LocalSteps.{chooses_local, fallback_of, armed, armed_for_lease, local_news, local_step, tick_local, local_hears}
-use Rattle.client_model.specs.Dhcp4Steps.{arms, arrival_at, begin_dhcp4, dhcp4_packet, dhcp4_step, followed, holds_lease, lease_news, rebind_dhcp4, tick_dhcp4}
+use Rattle.client_model.specs.Dhcp4Steps.{arms, arrival_at, dhcp4_packet, dhcp4_step, followed, holds_lease, lease_news, rebind_dhcp4, tick_dhcp4}
+use Rattle.client_model.specs.Dhcp6Steps.{contested, dhcp6_step, lease6_news, rebind_dhcp6, tick_dhcp6}
 use Rattle.client_model.specs.Interfaces.{begins, machines_drop, machines_rebind, machines_stop, restarted, unsent_in, ticked, carrier_comes, carrier_goes, carried, released, rebound, told_at_stop}
-use Rattle.client_model.specs.IfaceTurns.{Turn, arp_heard, hears, hears_either, hears_message, hears_packet, taken, input_step, iface_turned}
-use Rattle.client_model.specs.WantedRows.{outlet_of, static_rows, lease_rows, local_rows, iface_rows}
-use Rattle.client_model.proofs.QuietLeases.{Quietly, arp_quiet, begin_quiet, heard_quiet, rebind_quiet, tick_quiet, unsent_quiet}
+use Rattle.client_model.specs.IfaceTurns.{Turn, arp_heard, hears, hears_either, hears_message, hears_message6, hears_packet, taken, input_step, iface_turned}
+use Rattle.client_model.specs.WantedRows.{outlet_of, static_rows, lease_rows, local_rows, lease6_rows, iface_rows}
+use Rattle.client_model.proofs.QuietLeases.{Quietly, arp_quiet, heard_quiet, rebind_quiet, tick_quiet, unsent_quiet}
 
 -- ---- the link-local machine
 
@@ -136,16 +145,18 @@ armed_stays conf at iface state =
 
 -- ---- the interface
 
--- what its rows come from is the same
+-- what its rows come from is the same, and so is the DHCPv6 lease that it keeps
 record SameSources (old new : Iface) : Type 0 where
   managed : new.managed ≡ old.managed
   up : new.up ≡ old.up
   stopped : new.stopped ≡ old.stopped
   lease : held_of new.dhcp4 ≡ held_of old.dhcp4
   held : held_in new.local.state ≡ held_in old.local.state
+  kept6 : new.dhcp6.kept ≡ old.dhcp6.kept
+  lease6 : dhcp6.held_of new.dhcp6 ≡ dhcp6.held_of old.dhcp6
 
 itself : (iface : Iface) → SameSources iface iface
-itself iface = record { managed = refl; up = refl; stopped = refl; lease = refl; held = refl }
+itself iface = record { managed = refl; up = refl; stopped = refl; lease = refl; held = refl; kept6 = refl; lease6 = refl }
 
 in_turn : (a b c : Iface) → SameSources a b → SameSources b c → SameSources a c
 in_turn a b c first next = record {
@@ -154,6 +165,8 @@ in_turn a b c first next = record {
   stopped = next.stopped ∙ first.stopped;
   lease = next.lease ∙ first.lease;
   held = next.held ∙ first.held;
+  kept6 = next.kept6 ∙ first.kept6;
+  lease6 = next.lease6 ∙ first.lease6;
 }
 
 abbrev IsQuiet : Iface → IfaceStep → Type 0
@@ -205,15 +218,12 @@ dhcp4_quiet_from at iface c step stays e =
       stopped = refl;
       lease = stays none;
       held = ap (λ (local : LinkLocal). held_in local.state) (local_followed iface.managed.conf at (is_some (held_of c)) step.news iface.local none);
+      kept6 = refl;
+      lease6 = refl;
     }
 
 dhcp4_quiet : (at : ℕ) (iface : Iface) (step : Step4) → Quietly iface.dhcp4 step → IsQuiet iface (dhcp4_step at iface step)
 dhcp4_quiet at iface step stays = dhcp4_quiet_from at iface iface.dhcp4 step stays
-
-begin_quietly : (at salt : ℕ) (iface : Iface) → IsQuiet iface (begin_dhcp4 at salt iface)
-begin_quietly at salt iface =
-    gated (IsQuiet iface) (runs_dhcp4 iface.managed.conf) (dhcp4_step at iface (carrier_step Up at salt iface.dhcp4)) (silent iface)
-    (dhcp4_quiet at iface (carrier_step Up at salt iface.dhcp4) (begin_quiet at salt iface.dhcp4)) (silent_quiet iface)
 
 rebind_quietly : (at salt : ℕ) (iface : Iface) → IsQuiet iface (rebind_dhcp4 at salt iface)
 rebind_quietly at salt iface =
@@ -229,7 +239,15 @@ no_news f Gained e = cc
 no_news f (Lost addr) e = cc
 
 local_quiet : (iface : Iface) (step : LlStep) → HeldStays iface.local.state step → IsQuiet iface (local_step iface step)
-local_quiet iface step stays e = record { managed = refl; up = refl; stopped = refl; lease = refl; held = stays (no_news _ step.out.news e) }
+local_quiet iface step stays e = record {
+  managed = refl;
+  up = refl;
+  stopped = refl;
+  lease = refl;
+  held = stays (no_news _ step.out.news e);
+  kept6 = refl;
+  lease6 = refl;
+}
 
 arms_quiet : (at : ℕ) (iface : Iface) → IsQuiet iface (arms at iface)
 arms_quiet at iface =
@@ -240,7 +258,38 @@ arms_quiet at iface =
       stopped = refl;
       lease = refl;
       held = armed_stays iface.managed.conf at iface.local.iface iface.local.state;
+      kept6 = refl;
+      lease6 = refl;
     })
+
+-- ---- DHCPv6
+
+no_lease6_news : (f : News → Report) (said : News6) → map f (lease6_news said) ≡ [] → said ≡ news6.Nothing
+no_lease6_news f news6.Nothing e = refl
+no_lease6_news f news6.Bound e = cc
+no_lease6_news f news6.Reboot e = cc
+no_lease6_news f news6.Renew e = cc
+no_lease6_news f news6.Rebind e = cc
+no_lease6_news f news6.Changed e = cc
+no_lease6_news f news6.Expire e = cc
+no_lease6_news f news6.Stop e = cc
+
+dhcp6_quiet : (iface : Iface) (turned : Turned6) → RunTells iface.dhcp6 turned → IsQuiet iface (dhcp6_step iface turned)
+dhcp6_quiet iface turned tells e =
+    let stays : KeepsLeases iface.dhcp6 turned.client = tells (no_lease6_news _ turned.out.news e) in
+    record { managed = refl; up = refl; stopped = refl; lease = refl; held = refl; kept6 = stays.0; lease6 = stays.1 }
+
+rebind6_quietly : (at salt : ℕ) (iface : Iface) → IsQuiet iface (rebind_dhcp6 at salt iface)
+rebind6_quietly at salt iface =
+    gated (IsQuiet iface) (runs_dhcp6 iface.managed.conf) (dhcp6_step iface (rebind_turned at salt iface.dhcp6)) (silent iface)
+    (dhcp6_quiet iface (rebind_turned at salt iface.dhcp6) (all_runs_tell iface.dhcp6 at salt).rebind) (silent_quiet iface)
+
+tick6_quietly : (at salt : ℕ) (iface : Iface) → IsQuiet iface (tick_dhcp6 at salt iface)
+tick6_quietly at salt iface = dhcp6_quiet iface (tick_turned at salt iface.dhcp6) (all_runs_tell iface.dhcp6 at salt).tick
+
+contested_quietly : (at salt : ℕ) (address : Ip6) (iface : Iface) → IsQuiet iface (contested at salt address iface)
+contested_quietly at salt address iface =
+    dhcp6_quiet iface (contested_turned address at salt iface.dhcp6) ((all_runs_tell iface.dhcp6 at salt).duplicate address)
 
 -- ---- the interface's turn
 
@@ -253,6 +302,8 @@ unsent_quietly set at salt iface =
       stopped = refl;
       lease = unsent_quiet at salt iface.dhcp4;
       held = restart_stays iface.local.iface iface.local.state at salt;
+      kept6 = refl;
+      lease6 = refl;
     })
     (itself iface)
 
@@ -264,11 +315,16 @@ carried_quiet at salt false iface =
     gated (IsQuiet iface) iface.up (carrier_goes at salt iface) (silent iface)
     (news_loud iface iface CarrierWent (machines_drop at salt (record iface { up = false }))) (silent_quiet iface)
 
+rebinds_quiet : (at salt : ℕ) (iface : Iface) → IsQuiet iface (machines_rebind at salt iface)
+rebinds_quiet at salt iface =
+    let first : IfaceStep = rebind_dhcp4 at salt iface in
+    let local : IfaceStep = then_step first (arms at) in
+    both_quiet iface local (rebind_dhcp6 at salt) (both_quiet iface first (arms at) (rebind_quietly at salt iface) (arms_quiet at first.iface))
+    (rebind6_quietly at salt local.iface)
+
 rebound_quiet : (at salt : ℕ) (iface : Iface) → IsQuiet iface (rebound at salt iface)
 rebound_quiet at salt iface =
-    gated (IsQuiet iface) iface.up (machines_rebind at salt iface) (silent iface)
-    (both_quiet iface (rebind_dhcp4 at salt iface) (arms at) (rebind_quietly at salt iface) (arms_quiet at (rebind_dhcp4 at salt iface).iface))
-    (silent_quiet iface)
+    gated (IsQuiet iface) iface.up (machines_rebind at salt iface) (silent iface) (rebinds_quiet at salt iface) (silent_quiet iface)
 
 module _ (own : List Mac) (at salt : ℕ) (bytes : List ℕ) where
   packet_quiet : (arp : ArpView) (iface : Iface) → IsQuiet iface (hears_packet own at salt arp iface)
@@ -277,18 +333,25 @@ module _ (own : List Mac) (at salt : ℕ) (bytes : List ℕ) where
       both_quiet iface first (local_hears own at salt arp) (dhcp4_quiet at iface (arp_step own at salt arp iface.dhcp4) (arp_quiet own at salt arp iface.dhcp4))
       (local_quiet first.iface (ll_hears own first.iface.local arp at salt) (hears_stays own at salt arp first.iface.local.iface first.iface.local.state))
 
-  message_quiet : (message : Option HeardMessage) (iface : Iface) → IsQuiet iface (hears_message at salt message iface)
-  message_quiet None iface = silent_quiet iface
-  message_quiet (Some heard) iface =
+  message6_quiet : (message : Option HeardMessage6) (iface : Iface) → IsQuiet iface (hears_message6 at salt message iface)
+  message6_quiet None iface = silent_quiet iface
+  message6_quiet (Some heard) iface =
+      dhcp6_quiet iface (hears_turned at salt heard.message iface.dhcp6) ((all_runs_tell iface.dhcp6 at salt).message heard.message)
+
+  message_quiet : (message : Option HeardMessage) (message6 : Option HeardMessage6) (iface : Iface)
+      → IsQuiet iface (hears_message at salt message message6 iface)
+  message_quiet None message6 iface = message6_quiet message6 iface
+  message_quiet (Some heard) message6 iface =
       dhcp4_quiet_from at iface (brought (arrival_at at heard) iface.dhcp4) (heard_step salt (arrival_at at heard) iface.dhcp4)
       (heard_quiet salt (arrival_at at heard) iface.dhcp4)
 
-  either_quiet : (arp : Option ArpView) (message : Option HeardMessage) (iface : Iface) → IsQuiet iface (hears_either own at salt arp message iface)
-  either_quiet (Some arp) message iface = packet_quiet arp iface
-  either_quiet None message iface = message_quiet message iface
+  either_quiet : (arp : Option ArpView) (message : Option HeardMessage) (message6 : Option HeardMessage6) (iface : Iface)
+      → IsQuiet iface (hears_either own at salt arp message message6 iface)
+  either_quiet (Some arp) message message6 iface = packet_quiet arp iface
+  either_quiet None message message6 iface = message_quiet message message6 iface
 
   hears_quiet : (iface : Iface) → IsQuiet iface (hears own at salt bytes iface)
-  hears_quiet iface = either_quiet (arp_heard bytes) (heard4_in iface.managed.spec.mac bytes) iface
+  hears_quiet iface = either_quiet (arp_heard bytes) (heard4_in iface.managed.spec.mac bytes) (heard6_in iface.managed.spec.mac bytes) iface
 
   named_quiet : (index : ℕ) (iface : Iface) (step : IfaceStep) → IsQuiet iface step → IsQuiet iface (if nat_eq (index_of iface) index then step else silent iface)
   named_quiet index iface step quiet = gated (IsQuiet iface) (nat_eq (index_of iface) index) step (silent iface) quiet (silent_quiet iface)
@@ -296,7 +359,7 @@ module _ (own : List Mac) (at salt : ℕ) (bytes : List ℕ) where
   taken_quiet : (event : Event) (iface : Iface) → IsQuiet iface (taken own at salt event bytes iface)
   taken_quiet (Frame index len) iface = named_quiet index iface (hears own at salt bytes iface) (hears_quiet iface)
   taken_quiet (Carrier index up) iface = named_quiet index iface (carried at salt up iface) (carried_quiet at salt up iface)
-  taken_quiet (Duplicate index addr) iface = silent_quiet iface
+  taken_quiet (Duplicate index addr) iface = named_quiet index iface (contested at salt addr iface) (contested_quietly at salt addr iface)
   taken_quiet (Release index) iface = named_quiet index iface (released at salt iface) (news_loud iface iface Released (machines_stop Server at salt iface))
   taken_quiet (Rebind index) iface = named_quiet index iface (rebound at salt iface) (rebound_quiet at salt iface)
   taken_quiet Stop iface =
@@ -310,8 +373,11 @@ module _ (own : List Mac) (at salt : ℕ) (bytes : List ℕ) where
 ticked_quiet : (at salt : ℕ) (iface : Iface) → IsQuiet iface (ticked at salt iface)
 ticked_quiet at salt iface =
     let first : IfaceStep = tick_dhcp4 at salt iface in
-    both_quiet iface first (tick_local at salt) (dhcp4_quiet at iface (tick_step at salt iface.dhcp4) (tick_quiet at salt iface.dhcp4))
-    (local_quiet first.iface (ll_tick first.iface.local at salt) (tick_stays first.iface.local.iface first.iface.local.state at salt))
+    let local : IfaceStep = then_step first (tick_local at salt) in
+    both_quiet iface local (tick_dhcp6 at salt)
+    (both_quiet iface first (tick_local at salt) (dhcp4_quiet at iface (tick_step at salt iface.dhcp4) (tick_quiet at salt iface.dhcp4))
+    (local_quiet first.iface (ll_tick first.iface.local at salt) (tick_stays first.iface.local.iface first.iface.local.state at salt)))
+    (tick6_quietly at salt local.iface)
 
 turn_quiet : (own : List Mac) (turn : Turn) (iface : Iface) → IsQuiet iface (iface_turned own turn iface)
 turn_quiet own turn iface e =
@@ -325,7 +391,12 @@ same_rows : (old new : Iface) → SameSources old new → iface_rows new ≡ ifa
 same_rows old new same =
     λ i. static_rows (outlet_of (same.managed i)) (same.up i && not (same.stopped i)) (same.managed i).conf.address (same.managed i).conf.router
     ++ lease_rows (outlet_of (same.managed i)) (same.managed i).conf.router (same.lease i) ++ local_rows (outlet_of (same.managed i)) (same.held i)
+    ++ lease6_rows (outlet_of (same.managed i)) (same.lease6 i)
 
 pub quiet_rows : (own : List Mac) (turn : Turn) (iface : Iface) → (iface_turned own turn iface).reports ≡ []
     → iface_rows (iface_turned own turn iface).iface ≡ iface_rows iface
 quiet_rows own turn iface none = same_rows iface (iface_turned own turn iface).iface (turn_quiet own turn iface none)
+
+pub quiet_kept6 : (own : List Mac) (turn : Turn) (iface : Iface) → (iface_turned own turn iface).reports ≡ []
+    → (iface_turned own turn iface).iface.dhcp6.kept ≡ iface.dhcp6.kept
+quiet_kept6 own turn iface none = (turn_quiet own turn iface none).kept6

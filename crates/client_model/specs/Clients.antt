@@ -6,16 +6,17 @@ use Rattle.net_types.specs.declared.interface.IfSpec.{IfSpec}
 use Rattle.frame_link.specs.Packets.{probe_text, announcement_text}
 use Rattle.machine.specs.Moment.{moment_of}
 use Rattle.lease_text.specs.Leases.{LeaseContent}
+use Rattle.lease6_text.specs.Leases.{Lease6Content}
 use Rattle.v4_message.specs.Requests.{AskContent}
 use Rattle.v4_frames.specs.Spelled as dhcp4
+use Rattle.v6_frames.specs.Spelled.{frame6_of}
 pub use Rattle.v4_client.specs.Moments.{earlier}
 use Rattle.v4_client.specs.Saying.{sent_of}
 use Rattle.arp_acd.specs.declared.detection.ArpSay.TheVariants.{Probe, Announce}
 use Rattle.world.specs.declared.rows.HostRow.{HostRow}
 use Rattle.world.specs.declared.wakes.Begin.{Begin}
 use Rattle.client_model.specs.declared.interfaces.Iface.{Iface}
-use Rattle.client_model.specs.declared.steps.Said.{Said}
-use Rattle.client_model.specs.declared.steps.Said.TheVariants.{Arp, Dhcp4}
+use Rattle.client_model.specs.Messages.{Said, Arp, Dhcp4, Dhcp6}
 use Rattle.client_model.specs.IfaceSteps.{Report, IfaceStep, index_of}
 use Rattle.client_model.specs.Interfaces.{opened, iface_due}
 use Rattle.client_model.specs.KeptLeases.{Beginning}
@@ -39,6 +40,7 @@ abbrev pub frame_of : IfSpec → (ask : AskContent) → Said → List ℕ
 frame_of spec ask (Dhcp4 say) = dhcp4.frame_of ask (sent_of say)
 frame_of spec ask (Arp (Probe addr)) = probe_text spec.mac addr
 frame_of spec ask (Arp (Announce addr)) = announcement_text spec.mac addr
+frame_of spec ask (Dhcp6 sent) = frame6_of sent
 
 abbrev pub spelled : IfSpec → (ask : AskContent) → Said → Sending
 spelled spec ask message = record { iface = spec.index; bytes = frame_of spec ask message }
@@ -73,10 +75,15 @@ client_turned turn client = joined client.own (steps_of turn client)
 abbrev pub rows_of : Client → List HostRow
 rows_of client = wanted_rows client.ifaces
 
--- the lease that the interface of a number keeps, held or not
+-- the DHCPv4 lease that the interface of a number keeps, held or not
 abbrev pub kept_lease : ℕ → List Iface → Option LeaseContent
 kept_lease index [] = None
 kept_lease index (iface ∷ ifaces) = if index_of iface == index then iface.dhcp4.kept else kept_lease index ifaces
+
+-- so of DHCPv6
+abbrev pub kept_lease6 : ℕ → List Iface → Option Lease6Content
+kept_lease6 index [] = None
+kept_lease6 index (iface ∷ ifaces) = if index_of iface == index then iface.dhcp6.kept else kept_lease6 index ifaces
 
 -- the earliest moment at which a machine is due
 abbrev pub client_due : List Iface → Option ℕ

@@ -17,8 +17,7 @@ use Rattle.v4_client.specs.Messages.{Arrival}
 use Rattle.v4_client.specs.Moves.{moved}
 use Rattle.settings.specs.declared.interfaces.IfConf.{IfConf}
 use Rattle.client_model.specs.declared.interfaces.Iface.{Iface}
-use Rattle.client_model.specs.declared.steps.Said.{Said}
-use Rattle.client_model.specs.declared.steps.Said.TheVariants.{Arp, Dhcp4}
+use Rattle.client_model.specs.Messages.{Said, Arp, Dhcp4}
 use Rattle.client_model.specs.declared.steps.News.{News}
 use Rattle.client_model.specs.declared.steps.News.TheVariants.{Lease4}
 use Rattle.client_model.specs.ClientSettings.{runs_dhcp4}

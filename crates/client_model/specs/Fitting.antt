@@ -1,20 +1,26 @@
 -- Which interfaces come about in a run.
-use Rattle.std.specs.Prelude.{IfSome, List}
+use Rattle.std.specs.Prelude.{ℕ, IfSome, List, ◌∷◌, Option}
 use Rattle.std.specs.List.{AllByRecursion}
+use Rattle.net_types.specs.AddressText.{FitsMac}
 use Rattle.ipv4ll.specs.Choice.{IsChoice}
 use Rattle.ipv4ll.specs.Laws.{chosen_address}
 use Rattle.lease_text.specs.Bounds.{FitsLease}
+use Rattle.lease6_text.specs.Bounds.{HasText6, IsDuid}
 use Rattle.v4_message.specs.Requests.{AskFits}
+use Rattle.world.specs.StoreCalls.{Reading}
 use Rattle.settings.specs.declared.interfaces.Managed.{Managed}
 use Rattle.settings.specs.Fitting.{FitsManaged}
 use Rattle.client_model.specs.ClientSettings.{ask_of}
 use Rattle.client_model.specs.declared.interfaces.Iface.{Iface}
+use Rattle.client_model.specs.HostDuid.{host_duid}
 use Rattle.client_model.specs.KeptLeases.{Beginning}
 
--- an interface before its opening: the lease that was kept is within the bounds
+-- an interface before its opening: the DUID, and the leases that were kept, are within the bounds of their texts
 pub record FitsBeginning (beginning : Beginning) : Type 0 where
   pub managed : FitsManaged beginning.managed
-  pub kept : IfSome beginning.kept FitsLease
+  pub duid : IsDuid beginning.duid
+  pub kept4 : IfSome beginning.kept4 FitsLease
+  pub kept6 : IfSome beginning.kept6 HasText6
 
 abbrev pub AreBeginnings : List Beginning → Type 0
 AreBeginnings beginnings = AllByRecursion FitsBeginning beginnings
@@ -29,4 +35,8 @@ AreIfaces ifaces = AllByRecursion FitsIface ifaces
 
 -- What a client says of itself fits its options.
 abbrev pub AsksFit : Type 0
-AsksFit = (managed : Managed) → FitsManaged managed → AskFits (ask_of managed)
+AsksFit = (duid : List ℕ) (managed : Managed) → IsDuid duid → FitsManaged managed → AskFits (ask_of duid managed)
+
+-- The DUID of a host is one, whatever was read of its file: `managed` is the first of the interfaces.
+abbrev pub HostDuidFits : Type 0
+HostDuidFits = (managed : Managed) (others : List Managed) (read : Option Reading) → FitsMac managed.spec.mac → IsDuid (host_duid (managed ∷ others) read)

@@ -1,7 +1,7 @@
 -- A step of an interface: how it goes on, what it says, and what is new.
 use Rattle.std.specs.Prelude.{ℕ, List, [], ◌∷◌, ◌++◌, map}
 use Rattle.client_model.specs.declared.interfaces.Iface.{Iface}
-use Rattle.client_model.specs.declared.steps.Said.{Said}
+use Rattle.client_model.specs.Messages.{Said}
 use Rattle.client_model.specs.declared.steps.News.{News}
 
 abbrev pub index_of : Iface → ℕ

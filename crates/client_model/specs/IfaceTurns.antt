@@ -5,11 +5,13 @@ use Rattle.frame_link.specs.declared.arp.ArpView.{ArpView}
 use Rattle.frame_link.specs.Frames.{Frame as EthernetFrame, frame_in}
 use Rattle.frame_link.specs.Packets.{arp_kind, arp_in}
 use Rattle.v4_frames.specs.Heard.{HeardMessage, heard4_in}
+use Rattle.v6_frames.specs.Heard.{HeardMessage6, heard6_in}
 use Rattle.world.specs.declared.wakes.Event.{Event}
 use Rattle.world.specs.declared.wakes.Event.TheVariants.{Frame, Carrier, Duplicate, Release, Rebind, Stop, Quiet, End}
 use Rattle.client_model.specs.declared.interfaces.Iface.{Iface}
 use Rattle.client_model.specs.IfaceSteps.{IfaceStep, index_of, silent, then_step}
 use Rattle.client_model.specs.Dhcp4Steps.{arrival_at, dhcp4_packet, dhcp4_takes}
+use Rattle.client_model.specs.Dhcp6Steps.{contested, dhcp6_takes}
 use Rattle.client_model.specs.LocalSteps.{local_hears}
 use Rattle.client_model.specs.Interfaces.{unsent_in, ticked, carried, released, rebound, halted}
 
@@ -24,23 +26,29 @@ arp_heard bytes = option_and_then arp_of_frame (frame_in bytes)
 abbrev pub hears_packet : List Mac → (at salt : ℕ) → ArpView → Iface → IfaceStep
 hears_packet own at salt arp iface = then_step (dhcp4_packet own at salt arp iface) (local_hears own at salt arp)
 
-abbrev pub hears_message : (at salt : ℕ) → Option HeardMessage → Iface → IfaceStep
-hears_message at salt None iface = silent iface
-hears_message at salt (Some heard) iface = dhcp4_takes at salt (arrival_at at heard) iface
+abbrev pub hears_message6 : (at salt : ℕ) → Option HeardMessage6 → Iface → IfaceStep
+hears_message6 at salt None iface = silent iface
+hears_message6 at salt (Some heard) iface = dhcp6_takes at salt heard iface
+
+-- a server's message, of DHCPv4 or of DHCPv6
+abbrev pub hears_message : (at salt : ℕ) → Option HeardMessage → Option HeardMessage6 → Iface → IfaceStep
+hears_message at salt (Some heard) message6 iface = dhcp4_takes at salt (arrival_at at heard) iface
+hears_message at salt None message6 iface = hears_message6 at salt message6 iface
 
 -- an ARP packet, or a server's message
-abbrev pub hears_either : List Mac → (at salt : ℕ) → Option ArpView → Option HeardMessage → Iface → IfaceStep
-hears_either own at salt (Some arp) message iface = hears_packet own at salt arp iface
-hears_either own at salt None message iface = hears_message at salt message iface
+abbrev pub hears_either : List Mac → (at salt : ℕ) → Option ArpView → Option HeardMessage → Option HeardMessage6 → Iface → IfaceStep
+hears_either own at salt (Some arp) message message6 iface = hears_packet own at salt arp iface
+hears_either own at salt None message message6 iface = hears_message at salt message message6 iface
 
 abbrev pub hears : List Mac → (at salt : ℕ) → List ℕ → Iface → IfaceStep
-hears own at salt bytes iface = hears_either own at salt (arp_heard bytes) (heard4_in iface.managed.spec.mac bytes) iface
+hears own at salt bytes iface =
+    hears_either own at salt (arp_heard bytes) (heard4_in iface.managed.spec.mac bytes) (heard6_in iface.managed.spec.mac bytes) iface
 
 -- what comes of an input that an interface takes
 abbrev pub taken : List Mac → (at salt : ℕ) → Event → List ℕ → Iface → IfaceStep
 taken own at salt (Frame index len) bytes iface = if index_of iface == index then hears own at salt bytes iface else silent iface
 taken own at salt (Carrier index up) bytes iface = if index_of iface == index then carried at salt up iface else silent iface
-taken own at salt (Duplicate index addr) bytes iface = silent iface
+taken own at salt (Duplicate index addr) bytes iface = if index_of iface == index then contested at salt addr iface else silent iface
 taken own at salt (Release index) bytes iface = if index_of iface == index then released at salt iface else silent iface
 taken own at salt (Rebind index) bytes iface = if index_of iface == index then rebound at salt iface else silent iface
 taken own at salt Stop bytes iface = halted at salt iface

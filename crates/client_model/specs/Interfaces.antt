@@ -6,6 +6,8 @@ use Rattle.v4_client.specs.declared.states.Tell.{Tell}
 use Rattle.v4_client.specs.declared.states.Tell.TheVariants.{Server, Nobody}
 use Rattle.v4_client.specs.Calls.{unsent_step}
 use Rattle.v4_client.specs.Clients.{client_made}
+use Rattle.v6_client.specs.Calls as lease6
+use Rattle.v6_client.specs.Clients as client6
 use Rattle.v4_client.specs.Due as lease
 use Rattle.v4_client.specs.Moments.{earlier}
 use Rattle.settings.specs.declared.interfaces.IfConf.{IfConf}
@@ -13,24 +15,26 @@ use Rattle.script_model.specs.IfaceSets.{is_in, is_up}
 use Rattle.client_model.specs.declared.interfaces.Iface.{Iface}
 use Rattle.client_model.specs.declared.steps.News.TheVariants.{CarrierCame, CarrierWent, Released, Stopped}
 use Rattle.client_model.specs.declared.steps.TimedMachine.{TimedMachine}
-use Rattle.client_model.specs.declared.steps.TimedMachine.TheVariants.{Dhcp4, LinkLocal}
+use Rattle.client_model.specs.declared.steps.TimedMachine.TheVariants.{Dhcp4, LinkLocal, Dhcp6}
 use Rattle.client_model.specs.ClientSettings.{settings_of}
+use Rattle.client_model.specs.ClientSettings6.{settings6_of}
 use Rattle.client_model.specs.Dhcp4Steps.{arms, begin_dhcp4, rebind_dhcp4, drop_dhcp4, stop_dhcp4, tick_dhcp4}
+use Rattle.client_model.specs.Dhcp6Steps.{begin_dhcp6, rebind_dhcp6, drop_dhcp6, stop_dhcp6, tick_dhcp6}
 use Rattle.client_model.specs.IfaceSteps.{IfaceStep, index_of, silent, then_step, with_news}
 use Rattle.client_model.specs.KeptLeases.{Beginning}
 use Rattle.client_model.specs.LocalSteps.{local_off, tick_local}
 
 -- machines that are off begin
 abbrev pub begins : (at salt : ℕ) → Iface → IfaceStep
-begins at salt iface = then_step (begin_dhcp4 at salt iface) (arms at)
+begins at salt iface = then_step (then_step (begin_dhcp4 at salt iface) (arms at)) (begin_dhcp6 at salt)
 
 -- the machines are off, and nobody is told
 abbrev pub machines_drop : (at salt : ℕ) → Iface → IfaceStep
-machines_drop at salt iface = then_step (drop_dhcp4 at salt iface) local_off
+machines_drop at salt iface = then_step (then_step (drop_dhcp4 at salt iface) local_off) (drop_dhcp6 at salt)
 
 -- the machines stop
 abbrev pub machines_stop : Tell → (at salt : ℕ) → Iface → IfaceStep
-machines_stop tell at salt iface = then_step (stop_dhcp4 tell at salt iface) local_off
+machines_stop tell at salt iface = then_step (then_step (stop_dhcp4 tell at salt iface) local_off) (stop_dhcp6 tell at salt)
 
 -- ---- the opening
 
@@ -40,8 +44,9 @@ resting beginning = record {
   managed = beginning.managed;
   up = false;
   stopped = false;
-  dhcp4 = client_made (settings_of beginning.managed) beginning.kept;
+  dhcp4 = client_made (settings_of beginning.duid beginning.managed) beginning.kept4;
   local = off beginning.managed.spec.index;
+  dhcp6 = client6.client_made (settings6_of beginning.duid beginning.managed) beginning.kept6;
 }
 
 abbrev pub carrier_comes : (at salt : ℕ) → Iface → IfaceStep
@@ -64,18 +69,21 @@ unsent_in set at salt iface = if is_in set (index_of iface) then restarted at sa
 abbrev pub machine_due : TimedMachine → Iface → Option ℕ
 machine_due Dhcp4 iface = lease.due_of iface.dhcp4.state
 machine_due LinkLocal iface = local.due_of iface.local.state
+machine_due Dhcp6 iface = lease6.due_of iface.dhcp6
 
 abbrev pub machine_ticked : TimedMachine → (at salt : ℕ) → Iface → IfaceStep
 machine_ticked Dhcp4 at salt iface = tick_dhcp4 at salt iface
 machine_ticked LinkLocal at salt iface = tick_local at salt iface
+machine_ticked Dhcp6 at salt iface = tick_dhcp6 at salt iface
 
 -- all machines tick in order, due or not
 abbrev pub ticked : (at salt : ℕ) → Iface → IfaceStep
-ticked at salt iface = then_step (machine_ticked Dhcp4 at salt iface) (machine_ticked LinkLocal at salt)
+ticked at salt iface =
+    then_step (then_step (machine_ticked Dhcp4 at salt iface) (machine_ticked LinkLocal at salt)) (machine_ticked Dhcp6 at salt)
 
 -- the earliest moment at which a machine of the interface is due
 abbrev pub iface_due : Iface → Option ℕ
-iface_due iface = earlier (machine_due Dhcp4 iface) (machine_due LinkLocal iface)
+iface_due iface = earlier (earlier (machine_due Dhcp4 iface) (machine_due LinkLocal iface)) (machine_due Dhcp6 iface)
 
 -- ---- inputs
 
@@ -93,7 +101,7 @@ released at salt iface = with_news Released iface (machines_stop Server at salt 
 
 -- a lease that is held is confirmed anew, and machines that are off begin
 abbrev pub machines_rebind : (at salt : ℕ) → Iface → IfaceStep
-machines_rebind at salt iface = then_step (rebind_dhcp4 at salt iface) (arms at)
+machines_rebind at salt iface = then_step (then_step (rebind_dhcp4 at salt iface) (arms at)) (rebind_dhcp6 at salt)
 
 -- so where there is carrier
 abbrev pub rebound : (at salt : ℕ) → Iface → IfaceStep

@@ -1,5 +1,5 @@
 -- The lease with which an interface begins: that of its file, where the file's text is a lease of this interface.
-use Rattle.std.specs.Prelude.{◌≡◌, ℕ, bytes_eq, ◌==◌, if◌then◌else◌, List, [], ◌∷◌, Option, Some, None, option_map, option_and_then}
+use Rattle.std.specs.Prelude.{◌≡◌, ℕ, bytes_eq, if◌then◌else◌, List, Option, Some, None, option_and_then}
 use Rattle.net_types.specs.declared.interface.Name.{Name}
 use Rattle.net_types.specs.FirstBadLine.{IsSpelled}
 use Rattle.net_types.specs.LineReading.{run}
@@ -8,20 +8,12 @@ use Rattle.net_types.specs.TextLines.{Line}
 use Rattle.lease_text.specs.LeaseLines.{SpellsLease4}
 use Rattle.lease_text.specs.LeaseReading.{step, start, given}
 use Rattle.lease_text.specs.Leases.{LeaseContent}
+use Rattle.lease6_text.specs.Leases.{Lease6Content}
 use Rattle.world.specs.StoreCalls.{Reading, Found, Missing, Unread}
 use Rattle.settings.specs.declared.interfaces.Managed.{Managed}
+use Rattle.client_model.specs.TextsByLine.{lines_in}
 
 -- ---- the lease that a text spells
-
--- a text's lines; none where its last line isn't ended
-abbrev pub with_byte : ℕ → Option (List Line) → Option (List Line)
-with_byte byte None = None
-with_byte byte (Some []) = None
-with_byte byte (Some (line ∷ lines)) = Some ((byte ∷ line) ∷ lines)
-
-abbrev pub lines_in : List ℕ → Option (List Line)
-lines_in [] = Some []
-lines_in (byte ∷ text) = if byte == 10 then option_map (λ lines. [] ∷ lines) (lines_in text) else with_byte byte (lines_in text)
 
 abbrev pub lease_by_lines : List Line → Option LeaseContent
 lease_by_lines lines = option_and_then given (run step lines start)
@@ -46,7 +38,9 @@ kept_by name (Found bytes) = option_and_then (own_lease name) (lease_spelled byt
 kept_by name Missing = None
 kept_by name Unread = None
 
--- a managed interface, and the lease that was kept for it
+-- a managed interface, the DUID of the host, and the leases that were kept for the interface
 pub record Beginning : Type 0 where
   pub managed : Managed
-  pub kept : Option LeaseContent
+  pub duid : List ℕ
+  pub kept4 : Option LeaseContent
+  pub kept6 : Option Lease6Content

@@ -1,8 +1,14 @@
 pub mod IfaceSteps
+pub mod Messages
 pub mod ClientSettings
+pub mod ClientSettings6
 pub mod LocalSteps
 pub mod Dhcp4Steps
+pub mod Dhcp6Steps
+pub mod TextsByLine
 pub mod KeptLeases
+pub mod KeptLeases6
+pub mod HostDuid
 pub mod Interfaces
 pub mod IfaceTurns
 pub mod WantedRows

@@ -12,7 +12,7 @@ use Rattle.ipv4ll.specs.Table.{LlStep, ll_tick, ll_hears, ll_armed, off}
 use Rattle.v4_client.specs.declared.moments.TheConstants.{SECOND}
 use Rattle.settings.specs.declared.interfaces.IfConf.{IfConf}
 use Rattle.client_model.specs.declared.interfaces.Iface.{Iface}
-use Rattle.client_model.specs.declared.steps.Said.TheVariants.{Arp}
+use Rattle.client_model.specs.Messages.{Arp}
 use Rattle.client_model.specs.declared.steps.News.{News}
 use Rattle.client_model.specs.declared.steps.News.TheVariants.{Timeout, LocalGained, LocalLost}
 use Rattle.client_model.specs.ClientSettings.{runs_dhcp4}

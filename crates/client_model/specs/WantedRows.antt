@@ -17,6 +17,11 @@ use Rattle.v4_options.specs.Numbers.{addrs_in}
 use Rattle.v4_options.specs.Routes.{routes_in}
 use Rattle.lease_text.specs.Leases.{ValueContent, LeaseContent}
 use Rattle.v4_client.specs.Clients.{held_of}
+use Rattle.lease6_text.specs.declared.lease.Item6.{Item6}
+use Rattle.lease6_text.specs.Leases.{IaLeaseContent, Lease6Content}
+use Rattle.v6_client.specs.Clients as dhcp6
+use Rattle.v6_options.specs.declared.ia.IaKind.{IaKind}
+use Rattle.v6_options.specs.declared.ia.IaKind.TheVariants.{Na, Pd}
 use Rattle.settings.specs.declared.interfaces.Managed.{Managed}
 use Rattle.client_model.specs.declared.outlet.Outlet.{Outlet}
 use Rattle.client_model.specs.declared.interfaces.Iface.{Iface}
@@ -109,11 +114,25 @@ abbrev pub local_rows : Outlet → Option Ip4 → List HostRow
 local_rows outlet None = []
 local_rows outlet (Some ip) = address_rows outlet (local_net ip)
 
+-- ---- the addresses of a DHCPv6 lease, each by itself (RFC 8415, section 18.2.10.1, leaves it to routers to tell the network)
+
+abbrev pub item_rows : Outlet → IaKind → Item6 → List HostRow
+item_rows outlet Na item = Addr outlet.iface (Family.V6 item.net) ∷ []
+item_rows outlet Pd item = []
+
+abbrev pub ia_rows : Outlet → IaLeaseContent → List HostRow
+ia_rows outlet ia = flat_map (item_rows outlet ia.kind) ia.items
+
+abbrev pub lease6_rows : Outlet → Option Lease6Content → List HostRow
+lease6_rows outlet None = []
+lease6_rows outlet (Some lease) = flat_map (ia_rows outlet) lease.ias
+
 abbrev pub iface_rows : Iface → List HostRow
 iface_rows iface =
     static_rows (outlet_of iface.managed) (iface.up && not iface.stopped) iface.managed.conf.address iface.managed.conf.router
     ++ lease_rows (outlet_of iface.managed) iface.managed.conf.router (held_of iface.dhcp4)
     ++ local_rows (outlet_of iface.managed) (held_in iface.local.state)
+    ++ lease6_rows (outlet_of iface.managed) (dhcp6.held_of iface.dhcp6)
 
 -- the rows that are wanted, in row order
 abbrev pub wanted_rows : List Iface → List HostRow

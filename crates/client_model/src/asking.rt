@@ -4,6 +4,9 @@ use v4_options::code;
 /// section 9.14).
 pub const ETHERNET: u8 = 1;
 
+/// The type of an identifier that is an IAID and a DUID (RFC 4361, section 6.1).
+pub const BY_DUID: u8 = 255;
+
 /// The codes that a client asks for (RFC 2132, section 9.8; RFC 3442 wants classless routes before routers).
 pub const WANTED_CODES: [u8; 11] = [
     code::SUBNET_MASK,

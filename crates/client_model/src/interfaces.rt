@@ -1,6 +1,7 @@
 use ipv4ll::LinkLocal;
 use settings::Managed;
 use v4_client::Client4;
+use v6_client::Client6;
 
 /// A managed interface in a life.
 #[derive(Drop)]
@@ -14,4 +15,6 @@ pub struct Iface {
     pub dhcp4: Client4,
     /// Its link-local address.
     pub local: LinkLocal,
+    /// Its DHCPv6 client.
+    pub dhcp6: Client6,
 }

@@ -1,5 +1,7 @@
 ghost use Rattle.std.specs.Prelude.{ℕ, List, map};
+ghost use Rattle.net_types.specs.declared.address.Mac.{Mac};
 ghost use Rattle.lease_text.specs.Leases.{LeaseContent};
+ghost use Rattle.lease6_text.specs.Leases.{Lease6Content};
 ghost use Rattle.world.specs.declared.rows.HostRow.{HostRow};
 ghost use Rattle.world.specs.RowOrder.{in_row_order};
 ghost use Rattle.host_model.specs.HostTable.{InRowOrder, Wantable};
@@ -7,8 +9,9 @@ ghost use Rattle.client_model.specs.declared.interfaces.Iface.{Iface};
 ghost use Rattle.client_model.specs.IfaceTurns.{Turn};
 ghost use Rattle.client_model.specs.Clients.{Client};
 ghost use Rattle.client_model.specs.AskedOptions.{AsksRightly};
-ghost use Rattle.client_model.specs.Fitting.{AsksFit};
+ghost use Rattle.client_model.specs.Fitting.{AsksFit, HostDuidFits};
 ghost use Rattle.client_model.specs.KeptLeases.{IsReading};
+ghost use Rattle.client_model.specs.KeptLeases6.{IsReading6};
 ghost use Rattle.client_model.specs.WantedRows.{wanted_rows};
 ghost use Rattle.client_model.specs.Runs.{RunsApart, IsQuietElsewhere, KeepsInQuiet};
 ghost use Rattle.client_model.specs.OwnInputs.{OwnInputsCount};
@@ -33,6 +36,11 @@ pub fn own_inputs_alone_count()
 /// Law: what the client of a managed interface says of itself fits the options of its messages, however much is configured.
 pub fn what_is_asked_fits()
     ensures { AsksFit }
+{}
+
+/// Law: the DUID of a host with managed interfaces is one (RFC 8415, section 11.1), whatever was read of its file.
+pub fn the_hosts_duid_fits()
+    ensures { HostDuidFits }
 {}
 
 /// Law of the options that a client asks for (RFC 2132, section 9.8): every client's and those configured, each once, none that
@@ -61,7 +69,13 @@ pub fn kept_texts_are_leases()
     ensures { (text : List ℕ) (lease : LeaseContent) → IsReading text lease }
 {}
 
-/// Law: the lease that an interface keeps changes only in turns of which something is new, or in which it says something.
-pub fn kept_leases_stay_in_quiet_turns()
-    ensures { KeepsInQuiet }
+/// Law: the DHCPv6 lease of `text` is the one whose text this is.
+pub fn kept_texts_are_leases6()
+    ensures { (text : List ℕ) (lease : Lease6Content) → IsReading6 text lease }
+{}
+
+/// Law: an interface's rows and the DHCPv6 lease that it keeps change only in turns of which something is new, and the DHCPv4 lease
+/// that it keeps only in those or where it says something.
+pub fn rows_and_leases_stay_in_quiet_turns()
+    ensures { (own : List Mac) (turn : Turn) (iface : Iface) → KeepsInQuiet own turn iface }
 {}

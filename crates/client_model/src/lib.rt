@@ -7,12 +7,13 @@ mod laws;
 mod outlet;
 mod steps;
 
-pub use asking::{ETHERNET, WANTED_CODES};
+pub use asking::{BY_DUID, ETHERNET, WANTED_CODES};
 pub use interfaces::Iface;
 pub use laws::{
-    interfaces_run_apart, kept_leases_stay_in_quiet_turns, kept_rows_are_unlike,
-    kept_texts_are_leases, options_are_asked_for_rightly, other_inputs_are_quiet,
-    own_inputs_alone_count, wanted_rows_can_be_wanted, what_is_asked_fits,
+    interfaces_run_apart, kept_rows_are_unlike, kept_texts_are_leases, kept_texts_are_leases6,
+    options_are_asked_for_rightly, other_inputs_are_quiet, own_inputs_alone_count,
+    rows_and_leases_stay_in_quiet_turns, the_hosts_duid_fits, wanted_rows_can_be_wanted,
+    what_is_asked_fits,
 };
 pub use outlet::Outlet;
-pub use steps::{News, Said, TimedMachine};
+pub use steps::{News, TimedMachine};

@@ -1,13 +1,6 @@
-use arp_acd::ArpSay;
 use net_types::Ip4;
-use v4_client::{News4, Say4};
-
-/// What an interface says: a message of one of its protocols.
-#[derive(Clone, Copy, Debug, PartialEq, Eq)]
-pub enum Said {
-    Dhcp4(Say4),
-    Arp(ArpSay),
-}
+use v4_client::News4;
+use v6_client::News6;
 
 /// What is new on an interface.
 #[derive(Clone, Copy, Debug, PartialEq, Eq)]
@@ -21,6 +14,8 @@ pub enum News {
     Stopped,
     /// What has become of its DHCPv4 lease.
     Lease4(News4),
+    /// What has become of its DHCPv6 lease.
+    Lease6(News6),
     /// The time for a lease is over.
     Timeout,
     /// A link-local address passed its probes and is held.
@@ -34,4 +29,5 @@ pub enum News {
 pub enum TimedMachine {
     Dhcp4,
     LinkLocal,
+    Dhcp6,
 }

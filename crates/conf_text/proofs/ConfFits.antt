@@ -1,28 +1,34 @@
 -- What is in force for a managed interface is within bounds.
-use Rattle.std.proofs.Common.{◌≡◌, ℕ, ◌<◌, ◌^◌, Bool, true, false, cond, List, [], ◌∷◌, length, map, find, filter_map, Option, Some, None, option_map, sym, subst, arith}
+use Rattle.std.proofs.Common.{◌≡◌, ℕ, ◌<◌, ◌≤◌, ◌^◌, Bool, true, false, cond, List, [], ◌∷◌, ◌++◌, length, map, find, filter_map, Option, Some, None, option_map, sym, subst, arith}
 use Rattle.std.specs.Prelude.{IfSome, option_and_then, unwrap_or}
-use Rattle.std.specs.List.{AllByRecursion, cons_option, last_or}
+use Rattle.std.specs.List.{AllByRecursion, cons_option, filter, last_or}
 use Rattle.std.specs.Option.{option_or}
+use Rattle.std.proofs.lemmas.List.{length-append}
 use Rattle.net_types.specs.declared.address.Ip4.{Ip4}
 use Rattle.net_types.specs.declared.interface.IfSpec.{IfSpec}
 use Rattle.net_types.specs.declared.interface.Name.{Name}
 use Rattle.net_types.specs.AddressText.{FitsIp4, FitsNet4}
+use Rattle.settings.specs.Dhcp4Settings as settings
 use Rattle.settings.specs.Fitting.{FitsManaged, AreManaged}
 use Rattle.conf_words.specs.Directives.{Directive}
 use Rattle.conf_directives.specs.declared.names.HeadingName.{HeadingName}
 use Rattle.conf_directives.specs.declared.names.HeadingName.TheVariants.{Interface, Profile, Ssid}
 use Rattle.conf_directives.specs.Names.{directive_at, heading_at}
-use Rattle.conf_directives.specs.Contents.{noticed, DirectiveContent, Flag, Seconds, Metric, HostName, VendorClass, ClientIs, Codes, Static, Ia, Variable, Blacklist, Interfaces, Script, IdentifierContent, Hardware, Bytes, Duid, StaticContent, Address, Routers, NameServers, DomainName, DomainSearch, Address6, SaidContent}
+use Rattle.conf_directives.specs.Contents.{noticed, DirectiveContent, Metric, HostName, VendorClass, ClientIs, Static, Ia, IdentifierContent, Hardware, Bytes, Duid, StaticContent, Address, Routers, IaContent, SaidContent}
+use Rattle.conf_text.specs.Associations.{ia_with, is_kept}
 use Rattle.conf_text.specs.Configurations.{BlockContent, Configuration, block_of, configured}
 use Rattle.conf_text.specs.Faults.{names_in}
 use Rattle.conf_text.specs.Fits.{FitsSpec, SettingsFit}
 use Rattle.conf_text.specs.Places.{Place, Global, Block, Skipped, is_named, is_place}
 use Rattle.conf_text.specs.Sayings.{directive_of, said_at_place, said_there}
 use Rattle.conf_text.specs.Scopes.{ScopeContent, scope_of, last_of, address_in, routers_in}
-use Rattle.conf_text.specs.Settings.{identifier_bytes, first_router, in_force, is_managed, managed_of, managed_with, scope_for, settings_for, settings_of}
+use Rattle.conf_text.specs.Settings.{identifier_or_hardware, first_router, in_force, is_managed, managed_of, managed_with, scope_for, settings_for, settings_of}
 use Rattle.conf_text.specs.Standings.{Standing, standing, of_interface, is_global_alone, SaysInBlock, SaysAt, StandsUnder, StandFrom, place_after}
-use Rattle.conf_text.specs.Values.{metric_said, host_said, vendor_said, identifier_said, static_said}
-use Rattle.conf_text.proofs.SaidFits.{FitsDirective, FitsSaid, says_fits, some_guard}
+use Rattle.conf_text.specs.Values.{metric_said, host_said, vendor_said, identifier_said, ia_said, static_said}
+use Rattle.conf_text.proofs.IaFits.{all_join, ias_fit}
+use Rattle.conf_text.proofs.IaLaws.{few_ias}
+use Rattle.conf_text.proofs.OnceLaws.{each_unlike, ias_few}
+use Rattle.conf_text.proofs.SaidFits.{FitsDirective, FitsIa, FitsSaid, says_fits, some_guard}
 
 -- ---- lines
 
@@ -77,7 +83,7 @@ last_fits P o (x ∷ xs) fits fit = last_fits P (Some x) xs fit.0 fit.1
 said_fit : (place : Place) (front : List Standing) → AllByRecursion FitsStanding front → AllByRecursion FitsDirective (said_at_place place front)
 said_fit place front fit = found_fit (said_there place) FitsStanding FitsDirective (λ stands fits. some_guard (is_place place stands.place) (directive_of stands) FitsDirective fits) front fit
 
-abbrev pub FitsIdentifier : IdentifierContent → Type 0
+abbrev FitsIdentifier : IdentifierContent → Type 0
 FitsIdentifier identifier = FitsDirective (ClientIs identifier)
 
 abbrev FitsStatic : StaticContent → Type 0
@@ -90,97 +96,39 @@ pub record FitsScope (scope : ScopeContent) : Type 0 where
   pub identifier : IfSome scope.identifier FitsIdentifier
   pub address : IfSome scope.statics.address FitsNet4
   pub routers : IfSome scope.statics.routers (AllByRecursion FitsIp4)
+  pub ias : AllByRecursion FitsIa scope.ias
 
 metric_one : (said : DirectiveContent) → FitsDirective said → IfSome (metric_said said) (λ n. n < 2 ^ 32)
-metric_one (Flag name) fits = tt
-metric_one (Seconds name seconds) fits = tt
 metric_one (Metric metric) fits = fits
-metric_one (HostName name) fits = tt
-metric_one (VendorClass class) fits = tt
-metric_one (ClientIs identifier) fits = tt
-metric_one (Codes list codes) fits = tt
-metric_one (Static value) fits = tt
-metric_one (Ia ia) fits = tt
-metric_one (Variable env) fits = tt
-metric_one (Blacklist nets) fits = tt
-metric_one (Interfaces list patterns) fits = tt
-metric_one (Script path) fits = tt
+metric_one _ fits = tt
 
 host_one : (said : DirectiveContent) → FitsDirective said → IfSome (host_said said) (λ name. length name < 256)
-host_one (Flag name) fits = tt
-host_one (Seconds name seconds) fits = tt
-host_one (Metric metric) fits = tt
 host_one (HostName name) fits = fits
-host_one (VendorClass class) fits = tt
-host_one (ClientIs identifier) fits = tt
-host_one (Codes list codes) fits = tt
-host_one (Static value) fits = tt
-host_one (Ia ia) fits = tt
-host_one (Variable env) fits = tt
-host_one (Blacklist nets) fits = tt
-host_one (Interfaces list patterns) fits = tt
-host_one (Script path) fits = tt
+host_one _ fits = tt
 
 vendor_one : (said : DirectiveContent) → FitsDirective said → IfSome (vendor_said said) (λ class. length class < 256)
-vendor_one (Flag name) fits = tt
-vendor_one (Seconds name seconds) fits = tt
-vendor_one (Metric metric) fits = tt
-vendor_one (HostName name) fits = tt
 vendor_one (VendorClass class) fits = fits
-vendor_one (ClientIs identifier) fits = tt
-vendor_one (Codes list codes) fits = tt
-vendor_one (Static value) fits = tt
-vendor_one (Ia ia) fits = tt
-vendor_one (Variable env) fits = tt
-vendor_one (Blacklist nets) fits = tt
-vendor_one (Interfaces list patterns) fits = tt
-vendor_one (Script path) fits = tt
+vendor_one _ fits = tt
 
 identifier_one : (said : DirectiveContent) → FitsDirective said → IfSome (identifier_said said) FitsIdentifier
-identifier_one (Flag name) fits = tt
-identifier_one (Seconds name seconds) fits = tt
-identifier_one (Metric metric) fits = tt
-identifier_one (HostName name) fits = tt
-identifier_one (VendorClass class) fits = tt
 identifier_one (ClientIs identifier) fits = fits
-identifier_one (Codes list codes) fits = tt
-identifier_one (Static value) fits = tt
-identifier_one (Ia ia) fits = tt
-identifier_one (Variable env) fits = tt
-identifier_one (Blacklist nets) fits = tt
-identifier_one (Interfaces list patterns) fits = tt
-identifier_one (Script path) fits = tt
+identifier_one _ fits = tt
 
 static_one : (said : DirectiveContent) → FitsDirective said → IfSome (static_said said) FitsStatic
-static_one (Flag name) fits = tt
-static_one (Seconds name seconds) fits = tt
-static_one (Metric metric) fits = tt
-static_one (HostName name) fits = tt
-static_one (VendorClass class) fits = tt
-static_one (ClientIs identifier) fits = tt
-static_one (Codes list codes) fits = tt
 static_one (Static value) fits = fits
-static_one (Ia ia) fits = tt
-static_one (Variable env) fits = tt
-static_one (Blacklist nets) fits = tt
-static_one (Interfaces list patterns) fits = tt
-static_one (Script path) fits = tt
+static_one _ fits = tt
+
+ia_one : (said : DirectiveContent) → FitsDirective said → IfSome (ia_said said) FitsIa
+ia_one (Ia ia) fits = fits
+ia_one _ fits = tt
 
 address_one : (value : StaticContent) → FitsStatic value → IfSome (address_in value) FitsNet4
 address_one (Address net) fits = fits
-address_one (Routers addresses) fits = tt
-address_one (NameServers addresses) fits = tt
-address_one (DomainName name) fits = tt
-address_one (DomainSearch names) fits = tt
-address_one (Address6 net) fits = tt
+address_one _ fits = tt
 
 routers_one : (value : StaticContent) → FitsStatic value → IfSome (routers_in value) (AllByRecursion FitsIp4)
-routers_one (Address net) fits = tt
 routers_one (Routers addresses) fits = fits
-routers_one (NameServers addresses) fits = tt
-routers_one (DomainName name) fits = tt
-routers_one (DomainSearch names) fits = tt
-routers_one (Address6 net) fits = tt
+routers_one _ fits = tt
 
 last_found_fits : {C X : Type 0} (f : C → Option X) (Q : C → Type 0) (P : X → Type 0) → ((c : C) → Q c → IfSome (f c) P) → (cs : List C) → AllByRecursion Q cs → IfSome (last_of f cs) P
 last_found_fits f Q P each cs fit = last_fits P None (filter_map f cs) tt (found_fit f Q P each cs fit)
@@ -195,6 +143,7 @@ scope_fits lines fit =
       identifier = last_found_fits identifier_said FitsDirective FitsIdentifier identifier_one lines fit;
       address = last_found_fits address_in FitsStatic FitsNet4 address_one (filter_map static_said lines) statics;
       routers = last_found_fits routers_in FitsStatic (AllByRecursion FitsIp4) routers_one (filter_map static_said lines) statics;
+      ias = found_fit ia_said FitsDirective FitsIa ia_one lines fit;
     }
 
 -- ---- what is in force
@@ -207,58 +156,84 @@ text_fits : (o : Option (List ℕ)) → IfSome o (λ t. length t < 256) → leng
 text_fits None fits = omega arith
 text_fits (Some text) fits = fits
 
-bytes_fit : (o : Option IdentifierContent) → IfSome o FitsIdentifier → IfSome (option_and_then identifier_bytes o) (λ bytes. length bytes < 256)
-bytes_fit None fits = tt
-bytes_fit (Some Hardware) fits = tt
-bytes_fit (Some (Bytes bytes)) fits = fits
-bytes_fit (Some Duid) fits = tt
+identifier_fits : (o : Option IdentifierContent) → IfSome o FitsIdentifier → settings.FitsIdentifier (identifier_or_hardware o)
+identifier_fits None fits = tt
+identifier_fits (Some Hardware) fits = tt
+identifier_fits (Some (Bytes bytes)) fits = fits
+identifier_fits (Some Duid) fits = tt
 
 router_fits : (o : Option (List Ip4)) → IfSome o (AllByRecursion FitsIp4) → IfSome (option_and_then first_router o) FitsIp4
 router_fits None fits = tt
 router_fits (Some []) fits = tt
 router_fits (Some (router ∷ routers)) fits = fits.0
 
-managed_fits : (spec : IfSpec) (global block : ScopeContent) → FitsSpec spec → FitsScope global → FitsScope block → FitsManaged (record { spec = spec; conf = in_force global block })
-managed_fits spec global block one all here = record {
-  index = one.index;
-  name = one.name;
-  mac = one.mac;
-  metric = either_fits (λ n. n < 2 ^ 32) block.metric global.metric here.metric all.metric;
-  address = either_fits FitsNet4 block.statics.address global.statics.address here.address all.address;
-  router = router_fits (option_or block.statics.routers global.statics.routers) (either_fits (AllByRecursion FitsIp4) block.statics.routers global.statics.routers here.routers all.routers);
-  dhcp4 = record {
-    host = text_fits (option_or block.host global.host) (either_fits (λ t. length t < 256) block.host global.host here.host all.host);
-    vendor = text_fits (option_or block.vendor global.vendor) (either_fits (λ t. length t < 256) block.vendor global.vendor here.vendor all.vendor);
-    identifier = bytes_fit (option_or block.identifier global.identifier) (either_fits FitsIdentifier block.identifier global.identifier here.identifier all.identifier);
-  };
-}
+-- a block's scope fits after that of the global lines
+record FitsAfter (global scope : ScopeContent) : Type 0 where
+  fits : FitsScope scope
+  few : length (global.ias ++ scope.ias) ≤ 6
 
-found_scope : (o : Option BlockContent) → IfSome o (λ block. FitsScope block.scope) → FitsScope (unwrap_or (option_map (λ (block : BlockContent). block.scope) o) (scope_of []))
-found_scope None fits = scope_fits [] tt
-found_scope (Some block) fits = fits
+managed_fits : (spec : IfSpec) (global block : ScopeContent) → FitsSpec spec → FitsScope global → FitsAfter global block → FitsManaged (record { spec = spec; conf = in_force spec.index.number global block })
+managed_fits spec global block one all after =
+    let here = after.fits in
+    let few = after.few in
+    let lines : List IaContent = global.ias ++ block.ias in
+    record {
+      index = one.index;
+      name = one.name;
+      mac = one.mac;
+      metric = either_fits (λ n. n < 2 ^ 32) block.metric global.metric here.metric all.metric;
+      address = either_fits FitsNet4 block.statics.address global.statics.address here.address all.address;
+      router = router_fits (option_or block.statics.routers global.statics.routers) (either_fits (AllByRecursion FitsIp4) block.statics.routers global.statics.routers here.routers all.routers);
+      dhcp4 = record {
+        host = text_fits (option_or block.host global.host) (either_fits (λ t. length t < 256) block.host global.host here.host all.host);
+        vendor = text_fits (option_or block.vendor global.vendor) (either_fits (λ t. length t < 256) block.vendor global.vendor here.vendor all.vendor);
+        identifier = identifier_fits (option_or block.identifier global.identifier) (either_fits FitsIdentifier block.identifier global.identifier here.identifier all.identifier);
+      };
+      dhcp6 = record {
+        few = omega (arith, ias_few spec.index.number lines, few);
+        each = ias_fit spec.index.number (omega (arith, one.index.1)) lines (all_join FitsIa global.ias block.ias all.ias here.ias);
+        unlike = each_unlike (map (ia_with spec.index.number) (filter (is_kept spec.index.number lines) lines));
+      };
+    }
 
-find_fits : (test : BlockContent → Bool) (front : List Standing) → AllByRecursion FitsStanding front → (names : List Name) → IfSome (find test (map (block_of front) names)) (λ block. FitsScope block.scope)
-find_fits test front fit [] = tt
-find_fits test front fit (name ∷ names) = by (test (block_of front name)) (find_fits test front fit names)
+scope_found : (P : ScopeContent → Type 0) (o : Option BlockContent) → P (scope_of []) → IfSome o (λ block. P block.scope) → P (unwrap_or (option_map (λ (block : BlockContent). block.scope) o) (scope_of []))
+scope_found P None none fits = none
+scope_found P (Some block) none fits = fits
+
+find_fits : (P : ScopeContent → Type 0) (test : BlockContent → Bool) (front : List Standing) → ((name : Name) → P (scope_of (said_at_place (Block name) front))) → (names : List Name) → IfSome (find test (map (block_of front) names)) (λ block. P block.scope)
+find_fits P test front each [] = tt
+find_fits P test front each (name ∷ names) = by (test (block_of front name)) (find_fits P test front each names)
   where
-    by : (b : Bool) → IfSome (find test (map (block_of front) names)) (λ block. FitsScope block.scope) → IfSome (cond b (Some (block_of front name)) (find test (map (block_of front) names))) (λ block. FitsScope block.scope)
-    by true later = scope_fits (said_at_place (Block name) front) (said_fit (Block name) front fit)
+    by : (b : Bool) → IfSome (find test (map (block_of front) names)) (λ block. P block.scope) → IfSome (cond b (Some (block_of front name)) (find test (map (block_of front) names))) (λ block. P block.scope)
+    by true later = each name
     by false later = later
 
-one_fits : (front : List Standing) → AllByRecursion FitsStanding front → (spec : IfSpec) → FitsSpec spec → IfSome (managed_with spec (settings_of (configured front) spec)) FitsManaged
+abbrev AreFew : List Standing → Type 0
+AreFew front = (name : Name) → length ((scope_of (said_at_place Global front)).ias ++ (scope_of (said_at_place (Block name) front)).ias) ≤ 6
+
+few_alone : {X : Type 0} (xs ys : List X) → length (xs ++ ys) ≤ 6 → length (xs ++ []) ≤ 6
+few_alone xs ys few = omega (arith, few, length-append xs ys, length-append xs [])
+
+one_fits : (front : List Standing) → AllByRecursion FitsStanding front → AreFew front → (spec : IfSpec) → FitsSpec spec → IfSome (managed_with spec (settings_of (configured front) spec)) FitsManaged
 unfolding configured
-one_fits front fit spec one = by (is_managed (configured front) spec.name)
+one_fits front fit few spec one = by (is_managed (configured front) spec.name)
   where
-    by : (b : Bool) → IfSome (managed_with spec (cond b (Some (settings_for (configured front) spec.name)) None)) FitsManaged
-    by true = managed_fits spec (scope_of (said_at_place Global front)) (scope_for (map (block_of front) (names_in front)) spec.name) one
+    global : ScopeContent
+    global = scope_of (said_at_place Global front)
+
+    by : (b : Bool) → IfSome (managed_with spec (cond b (Some (settings_for (configured front) spec)) None)) FitsManaged
+    by true = managed_fits spec global (scope_for (map (block_of front) (names_in front)) spec.name) one
         (scope_fits (said_at_place Global front) (said_fit Global front fit))
-        (found_scope (find (λ block. is_named spec.name block.name) (map (block_of front) (names_in front))) (find_fits (λ block. is_named spec.name block.name) front fit (names_in front)))
+        (scope_found (FitsAfter global) (find (λ block. is_named spec.name block.name) (map (block_of front) (names_in front)))
+        (record { fits = scope_fits [] tt; few = few_alone global.ias (scope_of (said_at_place (Block spec.name) front)).ias (few spec.name) })
+        (find_fits (FitsAfter global) (λ block. is_named spec.name block.name) front
+        (λ name. record { fits = scope_fits (said_at_place (Block name) front) (said_fit (Block name) front fit); few = few name }) (names_in front)))
     by false = tt
 
-all_fit : (front : List Standing) → AllByRecursion FitsStanding front → (specs : List IfSpec) → AllByRecursion FitsSpec specs → AreManaged (managed_of (configured front) specs)
-all_fit front fit specs each = found_fit (λ spec. managed_with spec (settings_of (configured front) spec)) FitsSpec FitsManaged (λ spec one. one_fits front fit spec one) specs each
+all_fit : (front : List Standing) → AllByRecursion FitsStanding front → AreFew front → (specs : List IfSpec) → AllByRecursion FitsSpec specs → AreManaged (managed_of (configured front) specs)
+all_fit front fit few specs each = found_fit (λ spec. managed_with spec (settings_of (configured front) spec)) FitsSpec FitsManaged (λ spec one. one_fits front fit few spec one) specs each
 
 pub settings_fit : SettingsFit
 settings_fit text conf is specs each =
     let front : List Standing = is.front in
-    subst (λ (c : Configuration). AreManaged (managed_of c specs)) (sym is.tells.3) (all_fit front (front_fits Global is.read.found front is.rest is.stand) specs each)
+    subst (λ (c : Configuration). AreManaged (managed_of c specs)) (sym is.tells.3) (all_fit front (front_fits Global is.read.found front is.rest is.stand) (few_ias is.read.found front is.rest is.stand is.tells.1) specs each)

@@ -1,3 +1,6 @@
+mod IaFits
+mod IaLaws
+mod OnceLaws
 pub mod ListLaws
 pub mod ScopeLaws
 pub mod TakeLaws

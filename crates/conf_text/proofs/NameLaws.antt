@@ -2,7 +2,7 @@
 use Rattle.std.proofs.Common.{◌≡◌, ℕ, suc, Bool, true, false, ◌||◌, cond, List, [], ◌∷◌, ◌++◌, map, Option, Some, None, option_map, refl, sym, ap, ◌∙◌, subst}
 use Rattle.std.specs.Prelude.{slice_get, bytes_eq}
 use Rattle.std.specs.List.{list_any}
-use Rattle.std.proofs.lemmas.Bool.{true≢false}
+use Rattle.std.proofs.lemmas.Bool.{or_parts, true≢false}
 use Rattle.std.proofs.lemmas.List.Folds.{list_any-append}
 use Rattle.std.proofs.lemmas.Option.{none-some, same_Some}
 use Rattle.std.proofs.lemmas.Slice.Eq.{bytes_eq-Decides}
@@ -46,10 +46,6 @@ any_alike : (one other : Name → Bool) → ((name : Name) → one name ≡ othe
 any_alike one other same [] = refl
 any_alike one other same (name ∷ names) = ap (λ b. b || list_any one names) (same name) ∙ ap (λ b. other name || b) (any_alike one other same names)
 
-or_none : (a b : Bool) → (a || b) ≡ false → (a ≡ false) × (b ≡ false)
-or_none false b e = (refl, e)
-or_none true b e = absurd (true≢false e)
-
 none_or : (a b : Bool) → a ≡ false → b ≡ false → (a || b) ≡ false
 none_or a b e h = ap (λ c. c || b) e ∙ h
 
@@ -66,7 +62,7 @@ AreUnlike (name ∷ names) = (list_any (is_named name) names ≡ false) × AreUn
 unlike_join : (names : List Name) (name : Name) → list_any (is_named name) names ≡ false → AreUnlike names → AreUnlike (names ++ name ∷ [])
 unlike_join [] name none unlike = (refl, tt)
 unlike_join (first ∷ names) name none unlike =
-    let parts = or_none (is_named name first) (list_any (is_named name) names) none in
+    let parts = or_parts (is_named name first) (list_any (is_named name) names) none in
     let last : list_any (is_named first) (name ∷ []) ≡ false = none_or (is_named first name) false (named_back first name ∙ parts.0) refl in
     (list_any-append (is_named first) names (name ∷ []) ∙ none_or (list_any (is_named first) names) (list_any (is_named first) (name ∷ [])) unlike.0 last, unlike_join names name parts.1 unlike.1)
 
@@ -91,8 +87,8 @@ none_added before first name =
             refl,
       ))
       | false ↦ (λ e none.
-          let parts = or_none (list_any (is_named name) before) (list_any (is_named name) (first ∷ [])) (sym (list_any-append (is_named name) before (first ∷ [])) ∙ none) in
-          (parts.0, (or_none (is_named name first) false parts.1).0))
+          let parts = or_parts (list_any (is_named name) before) (list_any (is_named name) (first ∷ [])) (sym (list_any-append (is_named name) before (first ∷ [])) ∙ none) in
+          (parts.0, (or_parts (is_named name first) false parts.1).0))
     ]
     refl
 
@@ -129,7 +125,7 @@ at_place name (first ∷ names) place e =
 map_alike : {X : Type 0} (f g : Name → X) (test : Name → Bool) (names : List Name) → list_any test names ≡ false → ((name : Name) → test name ≡ false → g name ≡ f name) → map g names ≡ map f names
 map_alike f g test [] none same = refl
 map_alike f g test (name ∷ names) none same =
-    let parts = or_none (test name) (list_any test names) none in
+    let parts = or_parts (test name) (list_any test names) none in
     ap (λ x. x ∷ map g names) (same name parts.0) ∙ ap (λ xs. f name ∷ xs) (map_alike f g test names parts.1 same)
 
 set_later : (block : BlockContent) (blocks : List BlockContent) (place : ℕ) (o : Option BlockContent) → set_to (block ∷ blocks) (suc place) o ≡ block ∷ set_to blocks place o

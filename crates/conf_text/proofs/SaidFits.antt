@@ -1,5 +1,5 @@
 -- What a line says is within bounds.
-use Rattle.std.proofs.Common.{◌≡◌, inl, inr, ℕ, ◌<◌, ◌≤◌, ◌^◌, suc, Bool, true, false, nat_lt, nat_le, cond, List, [], ◌∷◌, length, Option, Some, None, option_map, refl, sym, ◌∙◌, subst, arith}
+use Rattle.std.proofs.Common.{◌≡◌, ◌⊎◌, inl, inr, ℕ, ◌<◌, ◌≤◌, ◌^◌, suc, Bool, true, false, nat_lt, nat_le, cond, List, [], ◌∷◌, length, Option, Some, None, option_map, refl, sym, ◌∙◌, subst, arith}
 use Rattle.std.specs.Prelude.{IfSome, option_and_then, bytes_eq, ◌==◌}
 use Rattle.std.specs.List.{AllByRecursion, flat_map}
 use Rattle.std.proofs.lemmas.Bool.{and_parts, true≢false}
@@ -21,17 +21,19 @@ use Rattle.conf_directives.specs.declared.names.DirectiveName.{DirectiveName}
 use Rattle.conf_directives.specs.declared.names.DirectiveName.TheVariants as names
 use Rattle.conf_directives.specs.declared.names.ValueName.{ValueName}
 use Rattle.conf_directives.specs.declared.names.ValueName.TheVariants as values
-use Rattle.conf_directives.specs.Contents.{noticed, DirectiveContent, Flag, Seconds, Metric, HostName, VendorClass, ClientIs, Static, Ia, Variable, Blacklist, Interfaces, Script, Bytes, Duid, StaticContent, Address, Routers, NameServers, DomainName, DomainSearch, Address6, SaidContent, taken}
+use Rattle.conf_directives.specs.Contents.{noticed, IaContent, DirectiveContent, Flag, Seconds, Metric, HostName, VendorClass, ClientIs, Static, Ia, Variable, Blacklist, Interfaces, Script, Bytes, Duid, StaticContent, Address, Routers, NameServers, DomainName, DomainSearch, Address6, SaidContent, taken}
 use Rattle.conf_directives.specs.Names.{named}
 use Rattle.conf_directives.specs.Words.{only, one_or_more, colon_parts, slash_parts, members_of, options_of}
 use Rattle.conf_directives.specs.Texts.{domain_name, domain_names, equals_sign, is_printed, printed, variable}
 use Rattle.conf_directives.specs.Identifiers.{are_enough, identifier, identifier_by, pair, pairs, typed_text}
 use Rattle.conf_directives.specs.Nets.{class_len, first_byte, net_by, own_net, server_net}
 use Rattle.conf_directives.specs.Patterns.{pattern}
-use Rattle.conf_directives.specs.Shares.{addresses, are_planned, asked_by, left_over, prefix, prefix_by, share}
+use Rattle.conf_directives.specs.Shares.{addresses, are_planned, asked, asked_by, hint_at, ia, id_at, left_over, prefix, prefix_by, share}
 use Rattle.conf_directives.specs.Statics.{is_key, named_value, only_name, static_by, static_rows, static_said}
 use Rattle.conf_directives.specs.Codes.{are_right, codes_of, codes_said}
+use Rattle.conf_directives.specs.SayLaws.{FitsAsked}
 use Rattle.conf_directives.specs.Says.{vendor_class, client_id, value_said, host_said, ia_said, SaysNamed}
+use Rattle.conf_directives.proofs.LengthLaws.{hints_fit}
 
 -- ---- what a reading gives
 
@@ -50,6 +52,13 @@ some_unit (Some x) = tt
 pub some_then : {X Y : Type 0} (o : Option X) (f : X → Option Y) (P : Y → Type 0) → ((x : X) → IfSome (f x) P) → IfSome (option_and_then f o) P
 some_then None f P each = tt
 some_then (Some x) f P each = each x
+
+some_then_by : {X Y : Type 0} (o : Option X) (f : X → Option Y) (P : Y → Type 0) → ((x : X) → o ≡ Some x → IfSome (f x) P) → IfSome (option_and_then f o) P
+some_then_by None f P each = tt
+some_then_by (Some x) f P each = each x refl
+
+some_at : {X : Type 0} (o : Option X) (x : X) (P : X → Type 0) → o ≡ Some x → IfSome o P → P x
+some_at o x P e fits = subst (λ o. IfSome o P) e fits
 
 pub some_if : {X : Type 0} (b : Bool) (x : X) (P : X → Type 0) → (b ≡ true → P x) → IfSome (cond b (Some x) None) P
 some_if true x P fits = fits refl
@@ -74,11 +83,15 @@ all_read {X = X} read P each (text ∷ texts) = one_more (read text) (read_all r
 
 -- ---- bounds of what is said
 
+abbrev pub FitsIa : IaContent → Type 0
+FitsIa ia = IfSome ia.iaid (λ iaid. iaid < 2 ^ 32) × (ia.hint ≤ 128)
+
 abbrev pub FitsDirective : DirectiveContent → Type 0
 FitsDirective (Metric metric) = metric < 2 ^ 32
 FitsDirective (HostName name) = length name < 256
 FitsDirective (VendorClass class) = length class < 256
 FitsDirective (ClientIs (Bytes bytes)) = length bytes < 256
+FitsDirective (Ia ia) = FitsIa ia
 FitsDirective (Static (Address net)) = FitsNet4 net
 FitsDirective (Static (Routers addresses)) = AllByRecursion FitsIp4 addresses
 FitsDirective _ = Unit {0}
@@ -217,13 +230,36 @@ static_fits text = some_then (split_at_byte equals_sign text) static_by FitsSaid
 
 -- ---- lines
 
+id_below : (text : List ℕ) (id : ℕ) → id_at text ≡ Some id → id < 2 ^ 32
+id_below text id e = ((number_reads (2 ^ 32) (omega arith)).sound text id e).1
+
+addresses_fit : (arguments : List (List ℕ)) → IfSome (addresses arguments) FitsIa
+addresses_fit [] = (tt, omega arith)
+addresses_fit (text ∷ []) = some_map (id_at text) (λ id. ia Na (Some id) 0 []) FitsIa (some_by (id_at text) (λ id. FitsIa (ia Na (Some id) 0 [])) (λ id e. (id_below text id e, omega arith)))
+addresses_fit (text ∷ other ∷ texts) = tt
+
+asked_below : (parts : List (List ℕ)) → IfSome (asked_by parts) (λ asked. asked.iaid < 2 ^ 32)
+asked_below [] = tt
+asked_below (iaid ∷ []) = some_then_by (id_at iaid) (λ id. Some (asked id 0)) (λ asked. asked.iaid < 2 ^ 32) (λ id e. id_below iaid id e)
+asked_below (iaid ∷ prefix ∷ []) = tt
+asked_below (iaid ∷ prefix ∷ len ∷ []) =
+    some_then_by (id_at iaid) (λ id. option_and_then (λ hint. Some (asked id hint)) (hint_at prefix len)) (λ asked. asked.iaid < 2 ^ 32)
+    (λ id e. some_then (hint_at prefix len) (λ hint. Some (asked id hint)) (λ asked. asked.iaid < 2 ^ 32) (λ hint. id_below iaid id e))
+asked_below (iaid ∷ prefix ∷ len ∷ more ∷ parts) = tt
+
+hint_most : (hint : ℕ) → (hint ≡ 0) ⊎ ((8 ≤ hint) × (hint ≤ 127)) → hint ≤ 128
+hint_most hint fits = elim fits [ inl none ↦ omega (arith, none) | inr within ↦ omega (arith, within.1) ]
+
 ia_fits : (kind : IaKind) (arguments : List (List ℕ)) → IfSome (ia_said kind arguments) FitsSaid
-ia_fits Na arguments = some_map (addresses arguments) (λ ia. taken (Ia ia)) FitsSaid (some_unit (addresses arguments))
-ia_fits Pd [] = tt
+ia_fits Na arguments = some_map (addresses arguments) (λ ia. taken (Ia ia)) FitsSaid (addresses_fit arguments)
+ia_fits Pd [] = (tt, omega arith)
 ia_fits Pd (text ∷ words) =
-    some_then (asked_by (slash_parts text)) (λ asked. option_and_then (prefix_by words asked) (read_all share words)) FitsSaid
-    (λ asked. some_then (read_all share words) (prefix_by words asked) FitsSaid
-    (λ shares. some_if (are_planned asked.hint shares) (record { directive = Some (Ia (prefix asked shares)); notices = flat_map left_over words }) FitsSaid (λ e. tt)))
+    some_then_by (asked_by (slash_parts text)) (λ asked. option_and_then (prefix_by words asked) (read_all share words)) FitsSaid
+    (λ asked e. some_then (read_all share words) (prefix_by words asked) FitsSaid
+    (λ shares. some_if (are_planned asked.hint shares) (record { directive = Some (Ia (prefix asked shares)); notices = flat_map left_over words }) FitsSaid (λ planned. (
+      some_at (asked_by (slash_parts text)) asked (λ asked. asked.iaid < 2 ^ 32) e (asked_below (slash_parts text)),
+      hint_most asked.hint (some_at (asked_by (slash_parts text)) asked FitsAsked e (hints_fit (slash_parts text))),
+    ))))
 
 codes_line_fits : (list : CodeList) (arguments : List (List ℕ)) → IfSome (codes_said list arguments) FitsSaid
 codes_line_fits list arguments = some_if (are_right list (flat_map options_of arguments)) (codes_of list (flat_map options_of arguments)) FitsSaid (λ e. tt)

@@ -1,7 +1,7 @@
 -- Lines that stand one after another, and what they say at a place.
-use Rattle.std.proofs.Common.{◌≡◌, Bool, true, false, ◌||◌, cond, List, [], ◌∷◌, ◌++◌, filter_map, Option, Some, None, unwrap_or, refl, sym, ap, ◌∙◌, subst}
+use Rattle.std.proofs.Common.{◌≡◌, Bool, true, false, cond, List, [], ◌∷◌, ◌++◌, filter_map, Option, Some, None, unwrap_or, refl, sym, ap, ◌∙◌, subst}
 use Rattle.std.specs.List.{cons_option, list_any}
-use Rattle.std.proofs.lemmas.Bool.{true≢false}
+use Rattle.std.proofs.lemmas.Bool.{or_parts}
 use Rattle.net_types.specs.declared.interface.Name.{Name}
 use Rattle.net_types.specs.NameText.{name_text}
 use Rattle.conf_words.specs.Directives.{Directive}
@@ -81,10 +81,6 @@ said_by_text name other e front = said_alike name other e front
 
 abbrev pub begun : Standing → Option Name
 begun stands = interface_of stands.begins
-
-or_parts : (a b : Bool) → (a || b) ≡ false → (a ≡ false) × (b ≡ false)
-or_parts false b e = (refl, e)
-or_parts true b e = absurd (true≢false e)
 
 apart_after : (name : Name) (begins : Option Place) (place : Place) (names : List Name) → is_place (Block name) place ≡ false → list_any (is_named name) (cons_option (interface_of begins) names) ≡ false → (is_place (Block name) (unwrap_or begins place) ≡ false) × (list_any (is_named name) names ≡ false)
 apart_after name None place names apart none = (apart, none)

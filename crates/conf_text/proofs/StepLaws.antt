@@ -191,7 +191,7 @@ abbrev pub Outcome : List Standing → Standing → Result ReadSoFar ConfCause �
 Outcome front stands (Err cause) = cause_at front stands ≡ Some cause
 Outcome front stands (Ok next) = Goes front stands next
 
-abbrev stand_so : ℕ → Place → Option Place → Option SaidContent → Standing
+abbrev pub stand_so : ℕ → Place → Option Place → Option SaidContent → Standing
 stand_so number place begins said = record { number = number; place = place; begins = begins; said = said }
 
 any_placed : (name : Name) (names : List Name) (index : ℕ) → first_place (is_named name) names ≡ Some index → list_any (is_named name) names ≡ true

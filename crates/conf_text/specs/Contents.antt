@@ -1,5 +1,6 @@
 -- What a configuration and its parts say, without where they lie in memory.
-use Rattle.std.specs.Prelude.{map, option_map, string_bytes}
+use Rattle.std.specs.Prelude.{ℕ, List, map, Option, option_map, string_bytes}
+use Rattle.std.specs.Global.{Vec}
 use Rattle.conf_directives.specs.Contents.{identifier_content, codes_content, ia_content, env_content}
 use Rattle.conf_text.specs.declared.statics.Statics.{Statics}
 use Rattle.conf_text.specs.declared.scope.Scope.{Scope}
@@ -9,12 +10,15 @@ use Rattle.conf_text.specs.declared.conf.Conf.{Conf}
 use Rattle.conf_text.specs.Scopes.{StaticsContent, ScopeContent}
 use Rattle.conf_text.specs.Configurations.{NoticeContent, BlockContent, Configuration}
 
+abbrev pub text_content : Option (Vec ℕ) → Option (List ℕ)
+text_content text = option_map (λ t. t.items) text
+
 abbrev pub statics_content : Statics → StaticsContent
 statics_content statics = record {
   address = statics.address;
   routers = option_map (λ addresses. addresses.items) statics.routers;
   name_servers = option_map (λ addresses. addresses.items) statics.name_servers;
-  domain_name = option_map (λ name. name.items) statics.domain_name;
+  domain_name = text_content statics.domain_name;
   domain_search = option_map (λ names. map (λ name. name.items) names.items) statics.domain_search;
   address6 = statics.address6;
 }
@@ -25,8 +29,8 @@ scope_content scope = record {
   timeout = scope.timeout;
   reboot = scope.reboot;
   metric = scope.metric;
-  host = option_map (λ name. name.items) scope.host;
-  vendor = option_map (λ class. class.items) scope.vendor;
+  host = text_content scope.host;
+  vendor = text_content scope.vendor;
   identifier = option_map identifier_content scope.identifier;
   asked = codes_content scope.asked;
   refused = codes_content scope.refused;
@@ -49,7 +53,7 @@ configuration conf = record {
   blocks = map block_content conf.blocks.items;
   allowed = conf.allowed.items;
   denied = conf.denied.items;
-  script = option_map (λ path. path.items) conf.script;
+  script = text_content conf.script;
   notices = map notice_content conf.notices.items;
   not_built = conf.not_built;
 }

@@ -10,6 +10,8 @@ pub mod Faults
 pub mod Configurations
 pub mod Contents
 pub mod Laws
+pub mod Associations
 pub mod Settings
 pub mod Steps
+pub mod AssociationSteps
 pub mod Fits

@@ -9,12 +9,15 @@ use Rattle.net_types.specs.NameText.{name_text}
 use Rattle.settings.specs.declared.interfaces.IfConf.{IfConf}
 use Rattle.settings.specs.declared.interfaces.Managed.{Managed}
 use Rattle.settings.specs.Dhcp4Settings.{Dhcp4Settings}
+use Rattle.settings.specs.Dhcp4Settings as settings
+use Rattle.settings.specs.Dhcp6Settings.{Dhcp6Settings}
 use Rattle.conf_directives.specs.declared.values.Pattern.{Pattern}
 use Rattle.conf_directives.specs.declared.values.Pattern.TheVariants.{Exactly, Any, Beginning}
-use Rattle.conf_directives.specs.Contents.{IdentifierContent, Bytes}
+use Rattle.conf_directives.specs.Contents.{IdentifierContent, Hardware, Bytes, Duid}
 use Rattle.conf_text.specs.declared.managing.TheConstants.{DEFAULT_TIMEOUT, DEFAULT_REBOOT}
 use Rattle.conf_text.specs.declared.managing.ManagedAnswer.{ManagedAnswer}
 use Rattle.conf_text.specs.declared.managing.ManagedAnswer.TheVariants.{NotBuilt, NoMemory}
+use Rattle.conf_text.specs.Associations.{ias_of}
 use Rattle.conf_text.specs.Flags.{either}
 use Rattle.conf_text.specs.Places.{is_named}
 use Rattle.conf_text.specs.Scopes.{ScopeContent, scope_of}
@@ -46,9 +49,12 @@ first_said block global = option_or block global
 abbrev pub text_or_none : (block global : Option (List ℕ)) → List ℕ
 text_or_none block global = unwrap_or (first_said block global) []
 
-abbrev pub identifier_bytes : IdentifierContent → Option (List ℕ)
-identifier_bytes (Bytes bytes) = Some bytes
-identifier_bytes _ = None
+-- the hardware address where no line says it
+abbrev pub identifier_or_hardware : Option IdentifierContent → settings.IdentifierContent
+identifier_or_hardware None = settings.Hardware
+identifier_or_hardware (Some Hardware) = settings.Hardware
+identifier_or_hardware (Some (Bytes bytes)) = settings.Bytes bytes
+identifier_or_hardware (Some Duid) = settings.Duid
 
 abbrev pub first_router : List Ip4 → Option Ip4
 first_router [] = None
@@ -59,16 +65,23 @@ abbrev pub dhcp4_in_force : (global block : ScopeContent) → Dhcp4Settings
 dhcp4_in_force global block = record {
   host = text_or_none block.host global.host;
   vendor = text_or_none block.vendor global.vendor;
-  identifier = option_and_then identifier_bytes (first_said block.identifier global.identifier);
+  identifier = identifier_or_hardware (first_said block.identifier global.identifier);
   asked = global.asked.codes ++ block.asked.codes;
   refused = global.refused.codes ++ block.refused.codes;
   required = global.required.codes ++ block.required.codes;
   blacklist = global.blacklist ++ block.blacklist;
 }
 
+-- `option rapid_commit` of either
+abbrev pub dhcp6_in_force : (index : ℕ) → (global block : ScopeContent) → Dhcp6Settings
+dhcp6_in_force index global block = record {
+  rapid = global.asked.rapid || block.asked.rapid;
+  ias = ias_of index (global.ias ++ block.ias);
+}
+
 -- single values are the block's, else the global ones; flags are on in either
-abbrev pub in_force : (global block : ScopeContent) → IfConf
-in_force global block =
+abbrev pub in_force : (index : ℕ) → (global block : ScopeContent) → IfConf
+in_force index global block =
     let flags = either global.flags block.flags in
     record {
       ipv4only = flags.ipv4only;
@@ -86,14 +99,15 @@ in_force global block =
       address = first_said block.statics.address global.statics.address;
       router = option_and_then first_router (first_said block.statics.routers global.statics.routers);
       dhcp4 = dhcp4_in_force global block;
+      dhcp6 = dhcp6_in_force index global block;
     }
 
-abbrev pub settings_for : Configuration → Name → IfConf
-settings_for conf name = in_force conf.global (scope_for conf.blocks name)
+abbrev pub settings_for : Configuration → IfSpec → IfConf
+settings_for conf spec = in_force spec.index.number conf.global (scope_for conf.blocks spec.name)
 
 -- what is in force for an interface, where it is managed
 abbrev pub settings_of : Configuration → IfSpec → Option IfConf
-settings_of conf spec = if is_managed conf spec.name then Some (settings_for conf spec.name) else None
+settings_of conf spec = if is_managed conf spec.name then Some (settings_for conf spec) else None
 
 abbrev pub managed_with : IfSpec → Option IfConf → Option Managed
 managed_with spec settings = option_map (λ conf. record { spec = spec; conf = conf }) settings

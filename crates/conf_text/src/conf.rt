@@ -11,9 +11,10 @@ ghost use Rattle.conf_text.specs.Values.{is_unbuilt};
 use crate::answers::line_number;
 use crate::counting::Counts;
 use crate::scope::Scope;
-use conf_directives::{Directive, Identifier, InterfaceList, Pattern, StaticValue};
+use conf_directives::{Directive, InterfaceList, Pattern, StaticValue};
 use net_types::{Name, NoMemory};
 use std::alloc::Global;
+use v6_options::IaKind;
 
 /// The path that turns hooks off.
 const NO_HOOKS: &[u8] = b"/dev/null";
@@ -71,10 +72,6 @@ fn is_unbuilt(directive: &Directive) -> bool
     ensures { result ≡ is_unbuilt (directive_content directive.now) }
 {
     match directive {
-        Directive::Identifier(identifier) => match identifier {
-            Identifier::Duid => true,
-            Identifier::Hardware | Identifier::Bytes(_) => false,
-        },
         Directive::Static(value) => match value {
             StaticValue::Address6(_) => true,
             StaticValue::Address(_)
@@ -83,12 +80,16 @@ fn is_unbuilt(directive: &Directive) -> bool
             | StaticValue::DomainName(_)
             | StaticValue::DomainSearch(_) => false,
         },
-        Directive::Ia(_) => true,
+        Directive::Ia(ia) => match ia.kind {
+            IaKind::Na => false,
+            IaKind::Pd => true,
+        },
         Directive::Flag(_)
         | Directive::Seconds(_, _)
         | Directive::Metric(_)
         | Directive::HostName(_)
         | Directive::VendorClass(_)
+        | Directive::Identifier(_)
         | Directive::Codes(_, _)
         | Directive::Env(_)
         | Directive::Blacklist(_)
@@ -141,8 +142,8 @@ impl Conf {
         }
     }
 
-    /// The first line of what isn't built yet: `duid`, `ia_na`, `ia_pd` and `static ip6_address`, also in the block of an
-    /// interface that doesn't exist.
+    /// The first line of what isn't built yet: `ia_pd` and `static ip6_address`, also in the block of an interface that doesn't
+    /// exist.
     pub fn not_built(&self) -> Option<u32>
         ensures { result ≡ (configuration self.now).not_built }
     {

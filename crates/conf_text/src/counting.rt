@@ -128,7 +128,8 @@ pub fn is_too_much(global: &Counts, block: &Counts, directive: &Directive) -> bo
     }
 }
 
-fn is_same_kind(one: IaKind, other: IaKind) -> bool
+/// Whether both are of addresses, or both of prefixes.
+pub fn is_same_kind(one: IaKind, other: IaKind) -> bool
     ensures { result ≡ is_same_kind one other }
 {
     match (one, other) {
@@ -146,7 +147,8 @@ fn is_ia(kind: IaKind, iaid: u32, ia: &IaLine) -> bool
     }
 }
 
-fn has_ia(kind: IaKind, iaid: u32, ias: &[IaLine]) -> bool
+/// Whether an association of this kind has this IAID written.
+pub fn has_ia(kind: IaKind, iaid: u32, ias: &[IaLine]) -> bool
     ensures { result ≡ list_any (λ ia. is_ia kind iaid (ia_content ia)) ias.now }
 {
     ias.iter().any(|ia| is_ia(kind, iaid, ia))

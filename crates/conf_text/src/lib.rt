@@ -5,6 +5,7 @@
 #![tactic(auto)]
 
 mod answers;
+mod associations;
 mod conf;
 mod counting;
 mod flags;

@@ -2,22 +2,23 @@
 ghost use Rattle.std.specs.Prelude.{◌≡◌, ◌++◌, Some, None, find, map, option_and_then, option_map, IfOk, IfErr, OnOk, []};
 ghost use Rattle.std.specs.List.{cons_option, list_any};
 ghost use Rattle.std.specs.Option.{option_copied};
-ghost use Rattle.settings.specs.Dhcp4Settings.{bytes_in};
+ghost use Rattle.settings.specs.Dhcp4Settings.{identifier_in};
 ghost use Rattle.conf_directives.specs.Contents.{identifier_content};
-ghost use Rattle.conf_text.specs.Contents.{block_content, configuration, scope_content};
+ghost use Rattle.conf_text.specs.Contents.{block_content, configuration, scope_content, text_content};
 ghost use Rattle.conf_text.specs.Fits.{SettingsFit};
 ghost use Rattle.conf_text.specs.Places.{is_named};
 ghost use Rattle.conf_text.specs.Scopes.{scope_of};
-ghost use Rattle.conf_text.specs.Settings.{AnswersUnbuilt, dhcp4_in_force, first_router, identifier_bytes, in_force, is_managed};
-ghost use Rattle.conf_text.specs.Settings.{is_meant, managed_of, managed_with, settings_for, settings_of, text_or_none};
+ghost use Rattle.conf_text.specs.Settings.{AnswersUnbuilt, dhcp4_in_force, dhcp6_in_force, first_router, identifier_or_hardware};
+ghost use Rattle.conf_text.specs.Settings.{in_force, is_managed, is_meant, managed_of, managed_with, settings_for, settings_of, text_or_none};
 ghost use Rattle.conf_text.specs.declared.managing.ManagedAnswer.TheVariants.{NoMemory as no_memory};
 
+use crate::associations::ias_of;
 use crate::conf::{Block, Conf};
 use crate::reader::is_named;
 use crate::scope::Scope;
-use conf_directives::{Identifier, Pattern};
-use net_types::{IfSpec, Ip4, Name, NoMemory};
-use settings::{Dhcp4Conf, IfConf, Managed};
+use conf_directives::{Identifier as IdentifierSaid, Pattern};
+use net_types::{IfIndex, IfSpec, Ip4, Name, NoMemory};
+use settings::{Dhcp4Conf, Dhcp6Conf, Identifier, IfConf, Managed};
 use std::alloc::Global;
 
 /// For how many seconds a lease is waited for where no line says it.
@@ -54,7 +55,7 @@ fn text_of(
     block: &Option<Vec<u8>>,
     global: &Option<Vec<u8>>,
 ) -> Result<Vec<u8>, NoMemory>
-    ensures { IfOk result (λ text. text.items ≡ text_or_none (bytes_in block.now) (bytes_in global.now)) }
+    ensures { IfOk result (λ text. text.items ≡ text_or_none (text_content block.now) (text_content global.now)) }
 {
     match (block, global) {
         (Some(text), _) => Ok(text.to_vec(alloc)?),
@@ -72,16 +73,14 @@ fn going_on<T: Copy>(alloc: Global, global: &[T], block: &[T]) -> Result<Vec<T>,
     Ok(list)
 }
 
-/// The bytes of an identifier, where it isn't the hardware address.
-fn identifier_of(
-    alloc: Global,
-    identifier: &Option<Identifier>,
-) -> Result<Option<Vec<u8>>, NoMemory>
-    ensures { IfOk result (λ bytes. bytes_in bytes ≡ option_and_then identifier_bytes (option_map identifier_content identifier.now)) }
+/// What tells the client apart: the hardware address where no line says it.
+fn identifier_of(alloc: Global, identifier: &Option<IdentifierSaid>) -> Result<Identifier, NoMemory>
+    ensures { IfOk result (λ said. identifier_in said ≡ identifier_or_hardware (option_map identifier_content identifier.now)) }
 {
     match identifier {
-        Some(Identifier::Bytes(bytes)) => Ok(Some(bytes.to_vec(alloc)?)),
-        Some(Identifier::Hardware | Identifier::Duid) | None => Ok(None),
+        Some(IdentifierSaid::Bytes(bytes)) => Ok(Identifier::Bytes(bytes.to_vec(alloc)?)),
+        Some(IdentifierSaid::Duid) => Ok(Identifier::Duid),
+        Some(IdentifierSaid::Hardware) | None => Ok(Identifier::Hardware),
     }
 }
 
@@ -104,6 +103,20 @@ fn dhcp4_in_force(alloc: Global, global: &Scope, block: &Scope) -> Result<Dhcp4C
     })
 }
 
+/// What is in force for the DHCPv6 client of the interface with this index.
+fn dhcp6_in_force(
+    alloc: Global,
+    index: IfIndex,
+    global: &Scope,
+    block: &Scope,
+) -> Result<Dhcp6Conf, NoMemory>
+    ensures { IfOk result (λ conf. conf ≡ dhcp6_in_force index.number (scope_content global.now) (scope_content block.now)) }
+{
+    let rapid = global.asked.rapid || block.asked.rapid;
+    let ias = ias_of(alloc, index.number, &global.ias, &block.ias)?;
+    Ok(Dhcp6Conf { rapid, ias })
+}
+
 fn first_router(routers: &Option<Vec<Ip4>>) -> Option<Ip4>
     ensures { result ≡ option_and_then first_router (option_map (λ r. r.items) routers.now) }
 {
@@ -114,8 +127,13 @@ fn first_router(routers: &Option<Vec<Ip4>>) -> Option<Ip4>
 }
 
 /// What is in force for the interface of a block.
-fn in_force(alloc: Global, global: &Scope, block: &Scope) -> Result<IfConf, NoMemory>
-    ensures { IfOk result (λ conf. conf ≡ in_force (scope_content global.now) (scope_content block.now)) }
+fn in_force(
+    alloc: Global,
+    index: IfIndex,
+    global: &Scope,
+    block: &Scope,
+) -> Result<IfConf, NoMemory>
+    ensures { IfOk result (λ conf. conf ≡ in_force index.number (scope_content global.now) (scope_content block.now)) }
 {
     let flags = global.flags.or(block.flags);
     let routers = if block.statics.routers.is_some() {
@@ -125,6 +143,7 @@ fn in_force(alloc: Global, global: &Scope, block: &Scope) -> Result<IfConf, NoMe
     };
     let router = first_router(routers);
     let dhcp4 = dhcp4_in_force(alloc, global, block)?;
+    let dhcp6 = dhcp6_in_force(alloc, index, global, block)?;
     Ok(IfConf {
         ipv4only: flags.ipv4only,
         ipv6only: flags.ipv6only,
@@ -141,6 +160,7 @@ fn in_force(alloc: Global, global: &Scope, block: &Scope) -> Result<IfConf, NoMe
         address: block.statics.address.or(global.statics.address),
         router,
         dhcp4,
+        dhcp6,
     })
 }
 
@@ -157,12 +177,12 @@ fn block_of<'a>(blocks: &'a [Block], name: &Name) -> Option<&'a Block>
 }
 
 /// What is in force for an interface, whether or not it is managed.
-fn settings_for(alloc: Global, conf: &Conf, name: &Name) -> Result<IfConf, NoMemory>
-    ensures { IfOk result (λ settings. settings ≡ settings_for (configuration conf.now) name.now) }
+fn settings_for(alloc: Global, conf: &Conf, spec: &IfSpec) -> Result<IfConf, NoMemory>
+    ensures { IfOk result (λ settings. settings ≡ settings_for (configuration conf.now) spec.now) }
 {
-    match block_of(&conf.blocks, name) {
-        Some(block) => in_force(alloc, &conf.global, &block.scope),
-        None => in_force(alloc, &conf.global, &Scope::empty(alloc)),
+    match block_of(&conf.blocks, &spec.name) {
+        Some(block) => in_force(alloc, spec.index, &conf.global, &block.scope),
+        None => in_force(alloc, spec.index, &conf.global, &Scope::empty(alloc)),
     }
 }
 
@@ -171,7 +191,7 @@ pub fn settings(alloc: Global, conf: &Conf, spec: &IfSpec) -> Result<Option<IfCo
     ensures { IfOk result (λ settings. settings ≡ settings_of (configuration conf.now) spec.now) }
 {
     if is_managed(conf, &spec.name) {
-        Ok(Some(settings_for(alloc, conf, &spec.name)?))
+        Ok(Some(settings_for(alloc, conf, spec)?))
     } else {
         Ok(None)
     }

@@ -1,8 +1,9 @@
 use crate::{Conf, ConfAnswer, ConfCause, ConfFault, managed, notices, read_conf, settings};
 use net_types::{IfIndex, IfSpec, Mac, name_of};
-use settings::IfConf;
+use settings::{Identifier, IfConf};
 use std::alloc::Global;
 use std::test::*;
+use v6_options::IaKind;
 
 fn fault_of(answer: Result<Conf, ConfAnswer>) -> Option<ConfFault> {
     match answer {
@@ -122,7 +123,7 @@ fn the_words_that_do_nothing(rt: HostRuntime) -> Result<(), Fail> {
         assert_eq!(rt; notice.line, *line);
         assert!(rt; notice.word.as_str() == *word);
     }
-    assert_eq!(rt; conf.not_built(), Some(2));
+    assert_eq!(rt; conf.not_built(), None);
     assert!(rt; !conf.turns_hooks_off());
     Ok(())
 }
@@ -166,6 +167,90 @@ fn what_is_in_force(rt: HostRuntime) -> Result<(), Fail> {
     assert_eq!(rt; all.len(), 2);
     if let Some(last) = all.last() {
         assert_eq!(rt; last.conf.metric, Some(5));
+    }
+    Ok(())
+}
+
+/// What is in force for eth0, whose index is 1.
+fn set_on_eth0(alloc: Global, text: &[u8]) -> Result<IfConf, Fail> {
+    let conf = read_conf(alloc, text).ok().ok_or("it has no fault")?;
+    let eth0 = spec_of(b"eth0").ok_or("a name")?;
+    let set = settings(alloc, &conf, &eth0)
+        .ok()
+        .ok_or("memory")?
+        .ok_or("it is managed")?;
+    Ok(set)
+}
+
+#[test]
+fn iaids_that_are_not_written(rt: HostRuntime) -> Result<(), Fail> {
+    let readings: [(&[u8], &[(IaKind, u32)]); 4] = [
+        (b"ia_na\nia_pd\n", &[(IaKind::Na, 1), (IaKind::Pd, 1)]),
+        // the index is written before it, or after it, for an association of its kind
+        (
+            b"ia_na 1\nia_na 7\nia_na\nia_pd\n",
+            &[(IaKind::Na, 1), (IaKind::Na, 7), (IaKind::Pd, 1)],
+        ),
+        (
+            b"ia_na\nia_na 7\ninterface eth0\nia_na 1\n",
+            &[(IaKind::Na, 7), (IaKind::Na, 1)],
+        ),
+        // of two of a kind the later goes
+        (
+            b"ia_na\nia_pd 2\ninterface eth0\nia_na\nia_pd\n",
+            &[(IaKind::Na, 1), (IaKind::Pd, 2), (IaKind::Pd, 1)],
+        ),
+    ];
+    for (text, expected) in readings {
+        let set = set_on_eth0(rt.alloc(), text)?;
+        assert_eq!(rt; set.dhcp6.ias.len(), expected.len());
+        for (ia, (kind, iaid)) in set.dhcp6.ias.iter().zip(expected.iter()) {
+            assert_eq!(rt; (ia.kind, ia.iaid), (*kind, *iaid));
+        }
+    }
+    Ok(())
+}
+
+fn is_duid(identifier: &Identifier) -> bool {
+    match identifier {
+        Identifier::Duid => true,
+        Identifier::Hardware | Identifier::Bytes(_) => false,
+    }
+}
+
+#[test]
+fn the_duid_as_identifier(rt: HostRuntime) -> Result<(), Fail> {
+    let readings: [(&[u8], bool); 4] = [
+        (b"", false),
+        (b"clientid x\nduid\noption rapid_commit\n", true),
+        (b"duid\ninterface eth0\nclientid x\n", false),
+        (
+            b"clientid x\ninterface eth0\nduid\noption rapid_commit\n",
+            true,
+        ),
+    ];
+    for (text, expected) in readings {
+        let set = set_on_eth0(rt.alloc(), text)?;
+        assert_eq!(rt; is_duid(&set.dhcp4.identifier), expected);
+        assert_eq!(rt; set.dhcp6.rapid, expected);
+    }
+    Ok(())
+}
+
+#[test]
+fn the_first_line_that_is_not_built(rt: HostRuntime) -> Result<(), Fail> {
+    let readings: [(&[u8], Option<u32>); 4] = [
+        (b"duid\nia_na\nia_na 5\n", None),
+        (b"ia_na\nia_pd\n", Some(2)),
+        (
+            b"interface a\nduid\nstatic ip6_address=::1/64\nia_pd\n",
+            Some(3),
+        ),
+        (b"ssid a\nia_pd\n", None),
+    ];
+    for (text, expected) in readings {
+        let conf = read_conf(rt.alloc(), text).ok().ok_or("it has no fault")?;
+        assert_eq!(rt; conf.not_built(), expected);
     }
     Ok(())
 }

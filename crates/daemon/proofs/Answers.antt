@@ -1,6 +1,6 @@
 -- What one device answered at one question.
 use Rattle.std.proofs.Common.{ℕ, ◌≡◌, inl, inr, Bool, true, false, List, [], ◌∷◌, ◌++◌, Option, Some, None, Result, Ok, Err, refl, sym, ap, subst, ◌∙◌}
-use Rattle.std.specs.Prelude.{not, cond, map, option_map}
+use Rattle.std.specs.Prelude.{not, cond, option_map}
 use Rattle.world.specs.declared.faults.DeviceAnswer.TheVariants as Answer
 use Rattle.world.specs.declared.faults.DeviceAnswer.{DeviceAnswer}
 use Rattle.world.specs.Causes.{Foretold}

@@ -5,7 +5,7 @@ use Rattle.device_calls.specs.Programs.{Asks, Done, Then}
 use Rattle.device_calls.specs.Worlds.{Seen}
 use Rattle.device_calls.specs.Does.{Does}
 use Rattle.device_calls.proofs.Doing.{does_done, does_then}
-use Rattle.turn_model.specs.LeaseFiles.{if_done, bringing}
+use Rattle.turn_model.specs.KeptFiles.{if_done, bringing}
 
 -- ---- a call that wasn't done ends it, and one that was done lets it go on
 

@@ -1,4 +1,4 @@
--- The names of the files of leases are names of files.
+-- The names of the files that a life keeps are names of files.
 use Rattle.std.proofs.Common.{ℕ, ◌≡◌, Bool, true, false, eqb, ◌&&◌, ◌||◌, List, [], ◌∷◌, ◌++◌, codes, take, refl, sym, subst, ◌∙◌}
 use Rattle.std.specs.Prelude.{if◌then◌else◌, slice_index}
 use Rattle.std.specs.Char.{is_ascii_alphanumeric, is_ascii_digit, is_ascii_lowercase, is_ascii_uppercase}
@@ -9,7 +9,7 @@ use Rattle.net_types.specs.NameText.{FitsName, is_name, is_name_byte, name_text}
 use Rattle.world.specs.FileNames.{IsFileName, is_file_byte}
 use Rattle.settings.specs.declared.interfaces.Managed.{Managed}
 use Rattle.settings.specs.Fitting.{FitsManaged}
-use Rattle.turn_model.specs.LeaseFiles.{lease_file_name}
+use Rattle.turn_model.specs.Loading.{lease4_file, lease6_file}
 
 -- ---- the bytes of an interface's name are bytes of a file's name
 
@@ -46,14 +46,19 @@ unfolding is_name
 name_fits text h =
     bytes_fit text (of_name (is_ascii_alphanumeric (slice_index text 0)) _ (list_all is_name_byte text) h)
 
-lease_file_fits : (name : Name) → FitsName name → IsFileName (name_text name ++ codes ".lease4")
-lease_file_fits name fits =
-    list_all-append is_file_byte (name_text name) (codes ".lease4") ∙ and_so (list_all is_file_byte (name_text name)) _ (name_fits (name_text name) fits.spelled) refl
+-- with an end of such bytes it is a file's name
+with_end : (name : Name) (end : List ℕ) → FitsName name → list_all is_file_byte end ≡ true → IsFileName (name_text name ++ end)
+with_end name end fits ends =
+    list_all-append is_file_byte (name_text name) end
+    ∙ and_so (list_all is_file_byte (name_text name)) (list_all is_file_byte end) (name_fits (name_text name) fits.spelled) ends
 
 -- the bytes of a name are its text
 pub text_of_name : (name : Name) → take name.len name.bytes ≡ name_text name
 unfolding name_text
 text_of_name name = refl
 
-pub lease_name_fits : (managed : Managed) (text : List ℕ) → FitsManaged managed → text ≡ lease_file_name managed → IsFileName text
-lease_name_fits managed text fits is = subst IsFileName (sym is) (lease_file_fits managed.spec.name fits.name)
+pub lease4_name_fits : (managed : Managed) (text : List ℕ) → FitsManaged managed → text ≡ lease4_file managed → IsFileName text
+lease4_name_fits managed text fits is = subst IsFileName (sym is) (with_end managed.spec.name (codes ".lease4") fits.name refl)
+
+pub lease6_name_fits : (managed : Managed) (text : List ℕ) → FitsManaged managed → text ≡ lease6_file managed → IsFileName text
+lease6_name_fits managed text fits is = subst IsFileName (sym is) (with_end managed.spec.name (codes ".lease6") fits.name refl)

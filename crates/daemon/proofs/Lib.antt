@@ -7,6 +7,8 @@ pub mod OpeningSteps
 pub mod Bringing
 pub mod KeptFiles
 pub mod LoadedFiles
+pub mod SpelledLeases
+pub mod SpelledLeases6
 pub mod StopMoments
 pub mod TurnSteps
 pub mod Waitings

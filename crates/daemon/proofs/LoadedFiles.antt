@@ -1,67 +1,54 @@
--- The files of leases that the opening reads.
-use Rattle.std.proofs.Common.{ℕ, ◌≡◌, ◌+◌, ◌<◌, ◌≤◌, add-one, Bool, true, false, cond, List, [], ◌∷◌, ◌++◌, length, get_or, take, drop, drop-cons, map, Option, Some, None, refl, sym, ap, subst, ◌∙◌, append-nil, append_assoc}
-use Rattle.std.specs.Prelude.{flat_map, IfSome, option_map, option_and_then, option_to_list}
+-- The files that the opening reads.
+use Rattle.std.proofs.Common.{ℕ, ◌≡◌, ◌+◌, ◌<◌, ◌≤◌, add-one, Bool, true, false, List, [], ◌∷◌, ◌++◌, length, get_or, drop, drop-cons, map, Option, Some, None, sym, ap, subst, ◌∙◌, append-nil, append_assoc}
+use Rattle.std.specs.Prelude.{flat_map, option_to_list, slice_get}
 use Rattle.std.proofs.lemmas.List.{drop_all, map-append}
 use Rattle.std.proofs.lemmas.List.Concat.{flat_map-append}
 use Rattle.std.specs.List.{AllByRecursion}
-use Rattle.net_types.specs.declared.fault.BadText.{BadText}
-use Rattle.net_types.specs.declared.interface.Name.{Name}
-use Rattle.net_types.specs.FirstBadLine.{FirstBad, IsSpelled}
-use Rattle.lease_text.specs.Bounds.{FitsLease}
-use Rattle.lease_text.specs.Leases.{LeaseContent}
-use Rattle.lease_text.specs.LeaseLines.{SpellsLease4}
-use Rattle.lease_text.specs.LeaseReading.{AnyCause}
-use Rattle.lease_text.proofs.SpelledOnce.{no_bad_line}
+use Rattle.net_types.proofs.ReadsLaws.{some_same}
 use Rattle.world.specs.StoreCalls.{Reading}
 use Rattle.settings.specs.declared.interfaces.Managed.{Managed}
 use Rattle.client_model.specs.ClientSettings.{runs_dhcp4}
-use Rattle.client_model.specs.KeptLeases.{IsReading, lease_spelled, own_lease, Beginning}
+use Rattle.client_model.specs.ClientSettings6.{runs_dhcp6, some_need_duid}
+use Rattle.client_model.specs.HostDuid.{host_duid}
+use Rattle.client_model.specs.KeptLeases.{Beginning}
 use Rattle.device_calls.specs.Calls.{Read}
 use Rattle.device_calls.specs.Programs.{Asks, Done, Then, after}
 use Rattle.device_calls.specs.Worlds.{Seen}
 use Rattle.device_calls.specs.Does.{Does}
 use Rattle.device_calls.proofs.Doing.{does_done, does_then, does_after}
-use Rattle.turn_model.specs.LeaseFiles.{Loaded, LeaseFile, loaded, loading_one, loading, lease_file_name, files_of, beginning_of}
-
--- ---- the lease that a text spells
-
-pub spelled_some : (text : List ℕ) (lease : LeaseContent) → ((t : List ℕ) (l : LeaseContent) → IsReading t l) → IsSpelled SpellsLease4 text lease → Some lease ≡ lease_spelled text
-spelled_some text lease readings spelled = sym ((readings text lease).whole spelled)
-
-none_of : (found : Option LeaseContent) → ((lease : LeaseContent) → found ≡ Some lease → ⊥) → None ≡ found
-none_of None nothing = refl
-none_of (Some lease) nothing = absurd (nothing lease refl)
-
-pub spelled_none : (text : List ℕ) (number : ℕ) (cause : BadText) → ((t : List ℕ) (l : LeaseContent) → IsReading t l) → FirstBad SpellsLease4 AnyCause text number cause → None ≡ lease_spelled text
-spelled_none text number cause readings bad = none_of (lease_spelled text) (λ lease is. no_bad_line text lease number cause ((readings text lease).sound is) bad)
-
-pub spelled_fits : (text : List ℕ) (lease : LeaseContent) → IsSpelled SpellsLease4 text lease → FitsLease lease
-spelled_fits text lease spelled = spelled.spells.1.fits
-
--- ---- the lease that a text keeps for an interface
-
-pub none_kept : (name : Name) (text : List ℕ) (lease : Option LeaseContent) → lease ≡ lease_spelled text → lease ≡ None → None ≡ option_and_then (own_lease name) (lease_spelled text)
-none_kept name text lease is none = ap (option_and_then (own_lease name)) (sym none ∙ is)
-
-pub one_kept : (name : Name) (text : List ℕ) (lease : Option LeaseContent) (one : LeaseContent) (kept : Option LeaseContent) → lease ≡ lease_spelled text → lease ≡ Some one → kept ≡ own_lease name one
-    → kept ≡ option_and_then (own_lease name) (lease_spelled text)
-one_kept name text lease one kept is some kept_is = kept_is ∙ ap (option_and_then (own_lease name)) (sym some ∙ is)
+use Rattle.turn_model.specs.KeptFiles.{KeptFile, Duid}
+use Rattle.turn_model.specs.Loading.{reading_if, duid_file, lease4_file, lease6_file, Loaded, loaded, loading_one, loading, files_loaded, file_with, files_by, beginning_of, duid_with}
+use Rattle.daemon.specs.Loading.{LoadsLeases, LoadsAll}
 
 -- ---- one file
 
-pub loads_none : (managed : Managed) (runs : Bool) (seen : Seen) (text : List ℕ) → runs ≡ runs_dhcp4 managed.conf → runs ≡ false → Does (loading_one managed) (loaded managed None) seen seen text text
-loads_none managed runs seen text is none =
-    subst (λ (b : Bool). Does (cond b (Then (Read (lease_file_name managed)) (λ reading. Done (loaded managed (Some reading)))) (Done (loaded managed None))) (loaded managed None) seen seen text text) (sym (sym is ∙ none))
-    (does_done (loaded managed None) seen text)
+pub reads_none : (is_kept : Bool) (name : List ℕ) (seen : Seen) (text : List ℕ) → is_kept ≡ false → Does (reading_if is_kept name) None seen seen text text
+reads_none is_kept name seen text none = subst (λ (b : Bool). Does (reading_if b name) None seen seen text text) (sym none) (does_done None seen text)
 
-pub loads_some : (managed : Managed) (runs : Bool) (name : List ℕ) (reading : Reading) (old new : Seen) (t u : List ℕ) → runs ≡ runs_dhcp4 managed.conf → runs ≡ true → name ≡ lease_file_name managed
-    → Does (Then (Read name) Done) reading old new t u → Does (loading_one managed) (loaded managed (Some reading)) old new t u
-loads_some managed runs name reading old new t u is some name_is did =
-    subst (λ (b : Bool). Does (cond b (Then (Read (lease_file_name managed)) (λ reading. Done (loaded managed (Some reading)))) (Done (loaded managed None))) (loaded managed (Some reading)) old new t u) (sym (sym is ∙ some))
-    (does_then (Read (lease_file_name managed)) (λ reading. Done (loaded managed (Some reading))) reading (loaded managed (Some reading)) old new new t u u
-    (subst (λ (n : List ℕ). Does (Then (Read n) Done) reading old new t u) name_is did) (does_done (loaded managed (Some reading)) new u))
+pub reads_some : (is_kept : Bool) (name : List ℕ) (reading : Reading) (old new : Seen) (t u : List ℕ) → is_kept ≡ true → Does (Then (Read name) Done) reading old new t u
+    → Does (reading_if is_kept name) (Some reading) old new t u
+reads_some is_kept name reading old new t u some did =
+    subst (λ (b : Bool). Does (reading_if b name) (Some reading) old new t u) (sym some)
+    (does_then (Read name) (λ reading. Done (Some reading)) reading (Some reading) old new new t u u did (does_done (Some reading) new u))
 
--- ---- all files
+-- ---- the files of one interface
+
+pub loads_one : (managed : Managed) (runs4 runs6 : Bool) (name4 name6 : List ℕ) (lease4 lease6 : Option Reading) (old mid new : Seen) (t u v : List ℕ)
+    → runs4 ≡ runs_dhcp4 managed.conf → runs6 ≡ runs_dhcp6 managed.conf → name4 ≡ lease4_file managed → name6 ≡ lease6_file managed
+    → Does (reading_if runs4 name4) lease4 old mid t u → Does (reading_if runs6 name6) lease6 mid new u v
+    → Does (loading_one managed) (loaded managed lease4 lease6) old new t v
+loads_one managed runs4 runs6 name4 name6 lease4 lease6 old mid new t u v is4 is6 named4 named6 first later =
+    let did4 : Does (reading_if (runs_dhcp4 managed.conf) (lease4_file managed)) lease4 old mid t u =
+    subst (λ (asks : Asks (Option Reading)). Does asks lease4 old mid t u) (λ i. reading_if (is4 i) (named4 i)) first in
+    let did6 : Does (reading_if (runs_dhcp6 managed.conf) (lease6_file managed)) lease6 mid new u v =
+    subst (λ (asks : Asks (Option Reading)). Does asks lease6 mid new u v) (λ i. reading_if (is6 i) (named6 i)) later in
+    does_after (reading_if (runs_dhcp4 managed.conf) (lease4_file managed))
+    (λ l4. after (reading_if (runs_dhcp6 managed.conf) (lease6_file managed)) (λ l6. Done (loaded managed l4 l6))) lease4 (loaded managed lease4 lease6)
+    old mid new t u v did4
+    (does_after (reading_if (runs_dhcp6 managed.conf) (lease6_file managed)) (λ l6. Done (loaded managed lease4 l6)) lease6 (loaded managed lease4 lease6)
+    mid new new u v v did6 (does_done (loaded managed lease4 lease6) new v))
+
+-- ---- those of all interfaces
 
 drop_one : (managed : List Managed) (i : ℕ) (d : Managed) → i < length managed → drop i managed ≡ get_or managed i d ∷ drop (i + 1) managed
 drop_one managed i d lt = rw add-one (drop-cons managed i d lt)
@@ -85,17 +72,23 @@ loading_all managed front old new t u did = subst (λ (all : List Loaded). Does 
 pub front_more : (front : List Loaded) (first : Loaded) (rest : List Loaded) → front ++ first ∷ rest ≡ (front ++ first ∷ []) ++ rest
 front_more front first rest = sym (append_assoc front (first ∷ []) rest)
 
-pub beginnings_more : {X : Type 0} (content : X → Beginning) (front : List Loaded) (first : Loaded) (all next : List X) (one : X) → next ≡ all ++ one ∷ [] → map content all ≡ map beginning_of front → content one ≡ beginning_of first
-    → map content next ≡ map beginning_of (front ++ first ∷ [])
-beginnings_more content front first all next one next_is are is =
-    ap (map content) next_is ∙ map-append content all (one ∷ []) ∙ ap (λ (bs : List Beginning). bs ++ content one ∷ []) are ∙ ap (λ (b : Beginning). map beginning_of front ++ b ∷ []) is
-    ∙ sym (map-append beginning_of front (first ∷ []))
+pub beginnings_more : {X : Type 0} (content : X → Beginning) (duid : List ℕ) (front : List Loaded) (first : Loaded) (all next : List X) (one : X)
+    → next ≡ all ++ one ∷ [] → map content all ≡ map (beginning_of duid) front → content one ≡ beginning_of duid first
+    → map content next ≡ map (beginning_of duid) (front ++ first ∷ [])
+beginnings_more content duid front first all next one next_is are is =
+    ap (map content) next_is ∙ map-append content all (one ∷ []) ∙ ap (λ (bs : List Beginning). bs ++ content one ∷ []) are
+    ∙ ap (λ (b : Beginning). map (beginning_of duid) front ++ b ∷ []) is ∙ sym (map-append (beginning_of duid) front (first ∷ []))
 
-pub files_more : (front : List Loaded) (first : Loaded) (files next : List LeaseFile) (file : Option LeaseFile) → next ≡ files ++ option_to_list file → files ≡ flat_map files_of front → option_to_list file ≡ files_of first
-    → next ≡ flat_map files_of (front ++ first ∷ [])
-files_more front first files next file next_is are is =
-    next_is ∙ ap (λ (fs : List LeaseFile). fs ++ option_to_list file) are ∙ ap (λ (fs : List LeaseFile). flat_map files_of front ++ fs) (is ∙ sym (append-nil (files_of first)))
-    ∙ sym (flat_map-append files_of front (first ∷ []))
+-- both files of one more interface
+pub files_more : (before : List KeptFile) (front : List Loaded) (first : Loaded) (files mid next : List KeptFile) (file4 file6 : Option KeptFile)
+    → mid ≡ files ++ option_to_list file4 → next ≡ mid ++ option_to_list file6 → files ≡ before ++ flat_map files_by front
+    → option_to_list file4 ++ option_to_list file6 ≡ files_by first → next ≡ before ++ flat_map files_by (front ++ first ∷ [])
+files_more before front first files mid next file4 file6 mid_is next_is are is =
+    next_is ∙ ap (λ (fs : List KeptFile). fs ++ option_to_list file6) mid_is ∙ append_assoc files (option_to_list file4) (option_to_list file6)
+    ∙ ap (λ (fs : List KeptFile). files ++ fs) is ∙ ap (λ (fs : List KeptFile). fs ++ files_by first) are
+    ∙ append_assoc before (flat_map files_by front) (files_by first)
+    ∙ ap (λ (fs : List KeptFile). before ++ (flat_map files_by front ++ fs)) (sym (append-nil (files_by first)))
+    ∙ ap (λ (fs : List KeptFile). before ++ fs) (sym (flat_map-append files_by front (first ∷ [])))
 
 all_with : {X : Type 0} (P : X → Type 0) (xs : List X) (x : X) → AllByRecursion P xs → P x → AllByRecursion P (xs ++ x ∷ [])
 all_with P [] x all holds = (holds, tt)
@@ -104,3 +97,41 @@ all_with P (y ∷ xs) x all holds = (all.0, all_with P xs x all.1 holds)
 pub fit_more : {X : Type 0} (P : Beginning → Type 0) (content : X → Beginning) (all next : List X) (one : X) → next ≡ all ++ one ∷ [] → AllByRecursion P (map content all) → P (content one) → AllByRecursion P (map content next)
 fit_more P content all next one next_is fit holds =
     subst (AllByRecursion P) (sym (ap (map content) next_is ∙ map-append content all (one ∷ []))) (all_with P (map content all) (content one) fit holds)
+
+-- ---- all that a life keeps
+
+-- none, where no interface is managed
+pub loads_nothing : (managed : List Managed) (beginnings : List Beginning) (files : List KeptFile) (seen : Seen) (text : List ℕ)
+    → slice_get managed 0 ≡ None → beginnings ≡ [] → files ≡ [] → LoadsAll managed beginnings files seen seen text text
+loads_nothing [] beginnings files seen text none no_beginnings no_files = record {
+  loaded = files_loaded None [];
+  does = does_done (files_loaded None []) seen text;
+  beginnings_are = no_beginnings;
+  files_are = no_files;
+}
+loads_nothing (m ∷ managed) beginnings files seen text none no_beginnings no_files = absurd cc
+
+-- the first of them is the host's, whose hardware address makes a DUID where none was read
+made_by_first : (managed : List Managed) (first : Managed) (read : Option Reading) → slice_get managed 0 ≡ Some first → host_duid (first ∷ []) read ≡ host_duid managed read
+made_by_first [] first read is = absurd cc
+made_by_first (m ∷ managed) first read is = ap (λ (one : Managed). host_duid (one ∷ []) read) (sym (some_same is))
+
+pub loads_with : (managed : List Managed) (first : Managed) (is_kept : Bool) (name duid : List ℕ) (read : Option Reading) (before : List KeptFile)
+    (beginnings : List Beginning) (files : List KeptFile) (old mid new : Seen) (t u v : List ℕ)
+    → slice_get managed 0 ≡ Some first → is_kept ≡ some_need_duid managed → name ≡ duid_file → duid ≡ host_duid (first ∷ []) read
+    → before ≡ file_with (Duid duid) duid_file read → Does (reading_if is_kept name) read old mid t u
+    → LoadsLeases managed duid before beginnings files mid new u v → LoadsAll managed beginnings files old new t v
+loads_with managed first is_kept name duid read before beginnings files old mid new t u v first_is kept_is name_is duid_is before_is reads loads =
+    let same : duid ≡ duid_with managed (files_loaded read loads.loaded) = duid_is ∙ made_by_first managed first read first_is in
+    let did : Does (reading_if (some_need_duid managed) duid_file) read old mid t u =
+    subst (λ (asks : Asks (Option Reading)). Does asks read old mid t u) (λ i. reading_if (kept_is i) (name_is i)) reads in
+    record {
+      loaded = files_loaded read loads.loaded;
+      does = does_after (reading_if (some_need_duid managed) duid_file) (λ d. after (loading managed) (λ ifaces. Done (files_loaded d ifaces))) read (files_loaded read loads.loaded)
+          old mid new t u v did
+          (does_after (loading managed) (λ ifaces. Done (files_loaded read ifaces)) loads.loaded (files_loaded read loads.loaded) mid new new u v v loads.does
+          (does_done (files_loaded read loads.loaded) new v));
+      beginnings_are = loads.beginnings_are ∙ ap (λ (d : List ℕ). map (beginning_of d) loads.loaded) same;
+      files_are = loads.files_are ∙ ap (λ (fs : List KeptFile). fs ++ flat_map files_by loads.loaded) before_is
+          ∙ ap (λ (d : List ℕ). file_with (Duid d) duid_file read ++ flat_map files_by loads.loaded) same;
+    }

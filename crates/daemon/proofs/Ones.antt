@@ -1,6 +1,6 @@
 -- One question to one device among all.
-use Rattle.std.proofs.Common.{ℕ, ◌≡◌, Bool, List, [], ◌∷◌, ◌++◌, Option, Some, None, refl, sym, ap, append-nil}
-use Rattle.std.specs.Prelude.{IfSome, option_map}
+use Rattle.std.proofs.Common.{ℕ, ◌≡◌, Bool, List, Option, Some, None, refl, ap}
+use Rattle.std.specs.Prelude.{IfSome}
 use Rattle.world.specs.declared.rows.HostRow.{HostRow}
 use Rattle.world.specs.StoreFails.{StoreFails}
 use Rattle.world.specs.LinkCalls.{LinkTold, offered}

@@ -1,5 +1,5 @@
 -- What beginning and waiting leave of what the devices tell.
-use Rattle.std.proofs.Common.{ℕ, ◌≡◌, Bool, true, false, List, [], ◌∷◌, ◌++◌, ◌+◌, length, take, drop, Option, Some, None, Result, Ok, Err, refl, sym, ap, subst, ◌∙◌, append-nil}
+use Rattle.std.proofs.Common.{ℕ, ◌≡◌, true, false, List, [], ◌∷◌, ◌++◌, ◌+◌, length, take, drop, Option, Some, None, Result, Ok, Err, refl, sym, ap, subst, ◌∙◌}
 use Rattle.std.specs.Prelude.{IfSome, option_map}
 use Rattle.net_types.specs.declared.fault.Failed.{Failed}
 use Rattle.world.specs.declared.faults.DeviceAnswer.{DeviceAnswer}
@@ -12,7 +12,7 @@ use Rattle.world.specs.StoreFails.{StoreFails}
 use Rattle.world.specs.LinkCalls.{LinkCall, LinkTold, Given, Waited, frame_len, cut_event, cut_wake, Comes, Waits, Begins}
 use Rattle.world.specs.HostCalls.{HostTold}
 use Rattle.world.specs.StoreCalls.{StoreTold}
-use Rattle.device_calls.specs.Calls.{Call, Link}
+use Rattle.device_calls.specs.Calls.{Link}
 use Rattle.device_calls.specs.Worlds.{Seen, World, Told, told_from, told_of, world_from, world_of}
 use Rattle.device_calls.specs.Telling.{Adds, Tells}
 use Rattle.device_calls.proofs.Doing.{adds_none}

@@ -14,12 +14,12 @@ use Rattle.device_calls.proofs.Doing.{tells_then}
 use Rattle.device_calls.proofs.Running.{run_coming}
 use Rattle.turn_model.specs.Turns.{Life}
 use Rattle.turn_model.specs.Opening.{opening_asks}
-use Rattle.turn_model.specs.Lives.{OpeningMet, Met, IsLast, life_after, turns_calls, opening_lines, turn_lines, closing_lines}
+use Rattle.turn_model.specs.Lives.{Met, IsLast, life_after, turns_calls, opening_lines, turn_lines, closing_lines}
 use Rattle.turn_model.specs.Foretold.{foretold_turns, foretold_life, left_in}
 use Rattle.daemon.specs.declared.serving.ServeEnd.{ServeEnd}
 use Rattle.daemon.specs.declared.serving.ServeEnd.TheVariants as ends
 use Rattle.daemon.specs.Waits.{BeginsThere}
-use Rattle.daemon.specs.Streams.{WritesBytes, WritesSome, WritesLines, WritesFront}
+use Rattle.daemon.specs.Streams.{WritesBytes, WritesSome, WritesLines}
 use Rattle.daemon.specs.Serving.{opening_with, told_last, MakesOpening, Ends, AreManyTurns, HasServeCause}
 use Rattle.daemon.specs.Served.{IsLifeOf, Served}
 use Rattle.daemon.specs.Cuts.{cut_lines, turns_left, TellsUnlessMemory, BreaksOff, CutOpening, CutLife, BeginFails, Leaves}

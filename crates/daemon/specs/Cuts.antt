@@ -1,12 +1,12 @@
 -- What stands written where a life was cut off, and what was asked then.
-use Rattle.std.specs.Prelude.{ℕ, ◌≡◌, ◌⊎◌, false, List, [], ◌∷◌, ◌++◌, flat_map, Option, Some, None, IfSome, Err}
+use Rattle.std.specs.Prelude.{ℕ, ◌≡◌, ◌⊎◌, false, List, [], ◌∷◌, ◌++◌, flat_map, Option, None, Err}
 use Rattle.net_types.specs.declared.interface.IfSpec.{IfSpec}
 use Rattle.net_types.specs.declared.fault.Failed.{Failed}
 use Rattle.world.specs.LinkCalls.{Waited}
 use Rattle.settings.specs.declared.interfaces.Managed.{Managed}
 use Rattle.script_model.specs.Lines.{Line}
 use Rattle.device_calls.specs.Calls.{Call, Link}
-use Rattle.device_calls.specs.Worlds.{Seen, World, world_of}
+use Rattle.device_calls.specs.Worlds.{Seen}
 use Rattle.device_calls.specs.Telling.{Tells}
 use Rattle.turn_model.specs.Turns.{Life, until, is_over}
 use Rattle.turn_model.specs.Lives.{OpeningMet, IsOpening, Met, AreTurns, IsLast, life_after, turn_calls, turns_calls, opening_lines, turn_lines, closing_lines}

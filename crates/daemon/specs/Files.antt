@@ -1,7 +1,9 @@
--- The files of leases, as the code has them.
+-- The files that a life keeps, as the code has them.
 use Rattle.std.specs.Prelude.{ℕ, List, Option, option_map}
 use Rattle.std.specs.Global.{Vec}
-use Rattle.turn_model.specs.LeaseFiles as model
+use Rattle.turn_model.specs.KeptFiles as model
+use Rattle.daemon.specs.declared.keeping.Keeps.{Keeps}
+use Rattle.daemon.specs.declared.keeping.Keeps.TheVariants as kept
 use Rattle.daemon.specs.declared.keeping.Known.{Known}
 use Rattle.daemon.specs.declared.keeping.Known.TheVariants as code
 
@@ -13,3 +15,8 @@ abbrev pub known_of : Known → model.Known
 known_of (code.Holds content) = model.Holds (content_of content)
 known_of code.Unknown = model.Unknown
 known_of code.Unread = model.Unread
+
+abbrev pub keeps_of : Keeps → model.Keeps
+keeps_of (kept.Duid duid) = model.Duid duid.bytes.items
+keeps_of (kept.Lease4 iface) = model.Lease4 iface.number
+keeps_of (kept.Lease6 iface) = model.Lease6 iface.number

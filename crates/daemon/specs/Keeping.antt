@@ -1,13 +1,11 @@
 -- Files that hold what they are to hold, so that nothing is asked for them.
-use Rattle.std.specs.Prelude.{ℕ, ◌≡◌, Bool, true, false, List, Option}
+use Rattle.std.specs.Prelude.{ℕ, ◌≡◌, Bool, true, false, List}
 use Rattle.std.specs.List.{AllByRecursion}
-use Rattle.lease_text.specs.Leases.{LeaseContent}
 use Rattle.client_model.specs.declared.interfaces.Iface.{Iface}
-use Rattle.client_model.specs.Clients.{kept_lease}
 use Rattle.client_core.specs.Touched.{is_touched}
 use Rattle.device_calls.specs.Does.{Does}
 use Rattle.device_calls.specs.Worlds.{Seen}
-use Rattle.turn_model.specs.LeaseFiles.{LeaseFile, content_for, is_settled, is_unknown, keeping_one}
+use Rattle.turn_model.specs.KeptFiles.{Keeps, Duid, Lease4, Lease6, KeptFile, wanted_in, is_settled, is_unknown, keeping_one}
 use Rattle.daemon.specs.declared.keeping.Touched.{Touched}
 use Rattle.daemon.specs.declared.keeping.Touched.TheVariants.{All, These}
 
@@ -16,17 +14,27 @@ abbrev pub is_among : ℕ → Touched → Bool
 is_among index All = true
 is_among index (These touched) = is_touched index touched.now
 
--- a file holds what it is to hold, where it is known what it holds
-abbrev pub IsKept : List Iface → LeaseFile → Type 0
-IsKept ifaces file = is_unknown file.known ≡ false → is_settled file.known (content_for (kept_lease file.iface ifaces)) ≡ true
+abbrev pub are_all : Touched → Bool
+are_all All = true
+are_all (These touched) = false
 
-abbrev pub AreKept : List Iface → List LeaseFile → Type 0
+-- what the file is to hold may be another than before; the DUID stays as it is once the life is opened
+abbrev pub may_differ : Keeps → Touched → Bool
+may_differ (Duid bytes) touched = are_all touched
+may_differ (Lease4 iface) touched = is_among iface touched
+may_differ (Lease6 iface) touched = is_among iface touched
+
+-- a file holds what it is to hold, where it is known what it holds
+abbrev pub IsKept : List Iface → KeptFile → Type 0
+IsKept ifaces file = is_unknown file.known ≡ false → is_settled file.keeps file.known (wanted_in ifaces file.keeps) ≡ true
+
+abbrev pub AreKept : List Iface → List KeptFile → Type 0
 AreKept ifaces files = AllByRecursion (IsKept ifaces) files
 
--- the same of the files of all other interfaces
-abbrev pub AreKeptBut : Touched → List Iface → List LeaseFile → Type 0
-AreKeptBut touched ifaces files = AllByRecursion (λ file. is_among file.iface touched ≡ false → IsKept ifaces file) files
+-- the same of the files whose content can't have changed
+abbrev pub AreKeptBut : Touched → List Iface → List KeptFile → Type 0
+AreKeptBut touched ifaces files = AllByRecursion (λ file. may_differ file.keeps touched ≡ false → IsKept ifaces file) files
 
--- a file is brought to what it is to hold, where this lease is kept
-abbrev pub KeepsFile : Option LeaseContent → (old new : LeaseFile) → (seen_old seen_new : Seen) → (text_old text_new : List ℕ) → Type 0
-KeepsFile lease old new seen_old seen_new text_old text_new = Does (keeping_one (content_for lease) old) new seen_old seen_new text_old text_new
+-- a file is brought to what it is to hold
+abbrev pub KeepsFile : List Iface → (old new : KeptFile) → (seen_old seen_new : Seen) → (text_old text_new : List ℕ) → Type 0
+KeepsFile ifaces old new seen_old seen_new text_old text_new = Does (keeping_one (wanted_in ifaces old.keeps) old) new seen_old seen_new text_old text_new

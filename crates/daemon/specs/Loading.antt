@@ -1,24 +1,32 @@
--- The files of leases that the opening reads, and what they give.
-use Rattle.std.specs.Prelude.{ℕ, ◌≡◌, List, map, flat_map, option_to_list}
+-- The files that the opening reads, and what they give.
+use Rattle.std.specs.Prelude.{ℕ, ◌≡◌, List, ◌++◌, map, flat_map, option_to_list}
 use Rattle.settings.specs.declared.interfaces.Managed.{Managed}
 use Rattle.client_model.specs.KeptLeases.{Beginning}
 use Rattle.device_calls.specs.Worlds.{Seen}
 use Rattle.device_calls.specs.Does.{Does}
 use Rattle.iface_core.specs.Beginnings as code
-use Rattle.turn_model.specs.LeaseFiles as model
-use Rattle.turn_model.specs.LeaseFiles.{LeaseFile, loading_one, loading, files_of, beginning_of}
+use Rattle.turn_model.specs.KeptFiles.{KeptFile}
+use Rattle.turn_model.specs.Loading as model
+use Rattle.turn_model.specs.Loading.{FilesLoaded, loading_one, loading, loading_files, files_by, files_of, beginning_of, beginnings_of}
 use Rattle.daemon.specs.declared.files.Loaded.{Loaded}
 
--- the file of one interface's lease was read, where DHCPv4 runs
-pub record LoadsOne (managed : Managed) (one : Loaded) (old new : Seen) (text_old text_new : List ℕ) : Type 0 where
+-- the files of one interface's leases were read, where its protocols run
+pub record LoadsOne (managed : Managed) (duid : List ℕ) (one : Loaded) (old new : Seen) (text_old text_new : List ℕ) : Type 0 where
   pub loaded : model.Loaded
   pub does : Does (loading_one managed) loaded old new text_old text_new
-  pub beginning_is : code.beginning_of one.beginning ≡ beginning_of loaded
-  pub file_is : option_to_list one.file ≡ files_of loaded
+  pub beginning_is : code.beginning_of one.beginning ≡ beginning_of duid loaded
+  pub files_are : option_to_list one.file4 ++ option_to_list one.file6 ≡ files_by loaded
 
--- those of all were read
-pub record LoadsAll (managed : List Managed) (beginnings : List Beginning) (files : List LeaseFile) (old new : Seen) (text_old text_new : List ℕ) : Type 0 where
+-- those of all interfaces were read, after other files
+pub record LoadsLeases (managed : List Managed) (duid : List ℕ) (before : List KeptFile) (beginnings : List Beginning) (files : List KeptFile) (old new : Seen) (text_old text_new : List ℕ) : Type 0 where
   pub loaded : List model.Loaded
   pub does : Does (loading managed) loaded old new text_old text_new
-  pub beginnings_are : beginnings ≡ map beginning_of loaded
-  pub files_are : files ≡ flat_map files_of loaded
+  pub beginnings_are : beginnings ≡ map (beginning_of duid) loaded
+  pub files_are : files ≡ before ++ flat_map files_by loaded
+
+-- all files that a life keeps were read
+pub record LoadsAll (managed : List Managed) (beginnings : List Beginning) (files : List KeptFile) (old new : Seen) (text_old text_new : List ℕ) : Type 0 where
+  pub loaded : FilesLoaded
+  pub does : Does (loading_files managed) loaded old new text_old text_new
+  pub beginnings_are : beginnings ≡ beginnings_of managed loaded
+  pub files_are : files ≡ files_of managed loaded

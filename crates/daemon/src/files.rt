@@ -1,111 +1,53 @@
 //! The files that a life reads as it opens.
-ghost use Rattle.std.specs.Prelude.{◌≡◌, ◌++◌, bytes_eq, map, Some, IfOk, IfSome, OnOk, option_and_then, option_map, option_to_list};
+ghost use Rattle.std.specs.Prelude.{◌≡◌, ◌++◌, Some, map, slice_get, IfOk, OnOk, option_map, option_to_list};
 ghost use Rattle.std.specs.String.{string_bytes};
-ghost use Rattle.net_types.specs.NameText.{name_text};
 ghost use Rattle.world.specs.FileNames.{IsFileName};
 ghost use Rattle.lease_file.specs.FileReads.{got_reading};
-ghost use Rattle.lease_text.specs.Bounds.{FitsLease};
-ghost use Rattle.lease_text.specs.Leases.{lease_content};
 ghost use Rattle.settings.specs.Fitting.{AreManaged, FitsManaged};
 ghost use Rattle.client_model.specs.Fitting.{AreBeginnings, FitsBeginning};
-ghost use Rattle.client_model.specs.KeptLeases.{lease_spelled, own_lease, kept_by};
 ghost use Rattle.iface_core.specs.Beginnings.{beginning_of};
 ghost use Rattle.device_calls.specs.Calls.{Read};
 ghost use Rattle.device_calls.specs.Programs.{Then, Done};
 ghost use Rattle.device_calls.specs.Does.{Does};
-ghost use Rattle.turn_model.specs.LeaseFiles as model;
-ghost use Rattle.turn_model.specs.LeaseFiles.{lease_file_name, known_by};
+ghost use Rattle.turn_model.specs.KeptFiles as model;
+ghost use Rattle.turn_model.specs.Loading as loading;
+ghost use Rattle.turn_model.specs.Loading.{known_by, file_with, reading_if};
 ghost use Rattle.turn_model.specs.Opening.{resolver_file};
-ghost use Rattle.daemon.specs.Files.{known_of};
-ghost use Rattle.daemon.specs.Loading.{LoadsOne, LoadsAll};
+ghost use Rattle.daemon.specs.Files.{known_of, keeps_of};
+ghost use Rattle.daemon.specs.Loading.{LoadsOne, LoadsLeases, LoadsAll};
 
-use crate::keeping::{Known, LeaseFile};
+use crate::duids::{duid_copied, host_duid, some_need_duid};
+use crate::keeping::{Keeps, KeptFile, Known};
+use crate::leases4::first_lease;
+use crate::leases6::first_lease6;
+use crate::names::{DUID_FILE, RESOLVER_FILE, lease4_file, lease6_file};
 use crate::outside::Outside;
 use crate::stores::read;
 use client_core::Beginning;
-use client_model::kept_texts_are_leases;
-use iface_core::runs_dhcp4;
+use iface_core::{runs_dhcp4, runs_dhcp6};
 use lease_file::Got;
-use lease_text::{Lease4, read_lease4};
-use net_types::{Name, NoMemory, TextFault};
+use net_types::NoMemory;
 use settings::Managed;
 use std::alloc::{AllocError, Global};
+use v6_options::Duid;
 
-/// The file of the resolver.
-const RESOLVER_FILE: &str = "resolv.conf";
-
-/// The name of the file in which the lease of an interface is kept.
-#[tactic(auto, using(crate::proofs::FileNames::lease_name_fits))]
-fn lease_file_name(alloc: Global, managed: &Managed) -> Result<String, NoMemory>
-    requires { FitsManaged managed.now }
-    ensures name { IfOk result (λ name. string_bytes name ≡ lease_file_name managed.now) }
-    ensures fits { IfOk result (λ name. IsFileName (string_bytes name)) }
+/// Reads a file, where one is kept.
+fn read_if<W: Outside>(
+    alloc: Global,
+    outside: &mut W,
+    is_kept: bool,
+    name: &str,
+    text: &mut Vec<u8>,
+) -> Result<Option<Got>, NoMemory>
+    requires { IsFileName name.now }
+    ensures does { IfOk result (λ got. Does (reading_if is_kept name.now) (option_map got_reading got) (W.seen outside.old) (W.seen outside.new) text.old.items text.new.items) }
+    ensures waiting { (W.seen outside.new).waiting ≡ (W.seen outside.old).waiting }
 {
-    Ok(format!(in alloc; "{}.lease4", managed.spec.name)?)
-}
-
-/// The lease that a text spells.
-#[tactic(auto, using(crate::proofs::LoadedFiles::spelled_some, crate::proofs::LoadedFiles::spelled_none, crate::proofs::LoadedFiles::spelled_fits))]
-fn lease_of(alloc: Global, text: &[u8]) -> Result<Option<Lease4>, NoMemory>
-    ensures lease { IfOk result (λ lease. option_map lease_content lease ≡ lease_spelled text.now) }
-    ensures fits { IfOk result (λ lease. IfSome (option_map lease_content lease) FitsLease) }
-{
-    kept_texts_are_leases();
-    match read_lease4(alloc, text) {
-        Ok(lease) => Ok(Some(lease)),
-        Err(TextFault::Bad { .. }) => Ok(None),
-        Err(TextFault::NoMemory) => Err(NoMemory),
+    if !is_kept {
+        return Ok(None);
     }
-}
-
-fn are_equal(a: &[u8], b: &[u8]) -> bool
-    ensures { result ≡ bytes_eq a.now b.now }
-{
-    a == b
-}
-
-/// Whether two names are one.
-fn is_same(a: &Name, b: &Name) -> bool
-    ensures { result ≡ bytes_eq (name_text a.now) (name_text b.now) }
-{
-    are_equal(a.as_bytes(), b.as_bytes())
-}
-
-/// A lease of this interface. That of another counts as none.
-fn own_lease(name: &Name, lease: Lease4) -> Option<Lease4>
-    requires { FitsLease (lease_content lease) }
-    ensures own { option_map lease_content result ≡ own_lease name.now (lease_content lease) }
-    ensures fits { IfSome (option_map lease_content result) FitsLease }
-{
-    if is_same(&lease.name, name) {
-        Some(lease)
-    } else {
-        None
-    }
-}
-
-/// The lease that the text of a file keeps for an interface.
-#[tactic(auto, using(crate::proofs::LoadedFiles::none_kept, crate::proofs::LoadedFiles::one_kept))]
-fn kept_in(alloc: Global, name: &Name, text: &[u8]) -> Result<Option<Lease4>, NoMemory>
-    ensures kept { IfOk result (λ kept. option_map lease_content kept ≡ option_and_then (own_lease name.now) (lease_spelled text.now)) }
-    ensures fits { IfOk result (λ kept. IfSome (option_map lease_content kept) FitsLease) }
-{
-    match lease_of(alloc, text)? {
-        None => Ok(None),
-        Some(lease) => Ok(own_lease(name, lease)),
-    }
-}
-
-/// The lease that a file keeps for an interface. One that isn't there, couldn't be read, or has another text keeps none.
-fn kept_by(alloc: Global, name: &Name, got: &Got) -> Result<Option<Lease4>, NoMemory>
-    ensures kept { IfOk result (λ kept. option_map lease_content kept ≡ kept_by name.now (got_reading got.now)) }
-    ensures fits { IfOk result (λ kept. IfSome (option_map lease_content kept) FitsLease) }
-{
-    match got {
-        Got::Text(text) => kept_in(alloc, name, text),
-        Got::Missing => Ok(None),
-        Got::Unread => Ok(None),
-    }
+    let got = read(alloc, outside, name, text)?;
+    Ok(Some(got))
 }
 
 /// What is known of a file that was read.
@@ -119,60 +61,18 @@ fn known_by(got: Got) -> Known
     }
 }
 
-/// What the opening found for an interface: with which lease it begins, and the file of its lease, where DHCPv4 runs.
-#[derive(Drop)]
-pub struct Loaded {
-    pub beginning: Beginning,
-    pub file: Option<LeaseFile>,
-}
-
-/// What a file that was read gives for an interface.
-fn found_by(alloc: Global, managed: &Managed, name: String, got: Got) -> Result<Loaded, NoMemory>
-    requires managed { FitsManaged managed.now }
-    requires name { string_bytes name ≡ lease_file_name managed.now }
-    requires fits { IsFileName (string_bytes name) }
-    ensures beginning { IfOk result (λ one. beginning_of one.beginning ≡ model.beginning_of (model.loaded managed.now (Some (got_reading got)))) }
-    ensures file { IfOk result (λ one. one.file ≡ Some (model.lease_file managed.now (got_reading got))) }
-    ensures fit { IfOk result (λ one. FitsBeginning (beginning_of one.beginning)) }
+/// The file that was read, where one is kept.
+fn file_with(keeps: Keeps, name: String, got: Option<Got>) -> Option<KeptFile>
+    requires { IsFileName (string_bytes name) }
+    ensures { option_to_list result ≡ file_with (keeps_of keeps) (string_bytes name) (option_map got_reading got) }
 {
-    let kept = kept_by(alloc, &managed.spec.name, &got)?;
-    Ok(Loaded {
-        beginning: Beginning {
-            managed: managed.to_owned(alloc)?,
-            kept,
-        },
-        file: Some(LeaseFile::new(managed.spec.index, name, known_by(got))),
-    })
-}
-
-/// Reads the file of an interface's lease, where DHCPv4 runs.
-fn load_one<W: Outside>(
-    alloc: Global,
-    outside: &mut W,
-    managed: &Managed,
-    text: &mut Vec<u8>,
-) -> Result<Loaded, NoMemory>
-    requires { FitsManaged managed.now }
-    ensures loads { IfOk result (λ one. LoadsOne managed.now one (W.seen outside.old) (W.seen outside.new) text.old.items text.new.items) }
-    ensures fit { IfOk result (λ one. FitsBeginning (beginning_of one.beginning)) }
-    ensures waiting { (W.seen outside.new).waiting ≡ (W.seen outside.old).waiting }
-{
-    if !runs_dhcp4(&managed.conf) {
-        return Ok(Loaded {
-            beginning: Beginning {
-                managed: managed.to_owned(alloc)?,
-                kept: None,
-            },
-            file: None,
-        });
+    match got {
+        Some(got) => Some(KeptFile::new(keeps, name, known_by(got))),
+        None => None,
     }
-    let name = lease_file_name(alloc, managed)?;
-    let got = read(alloc, outside, &name, text)?;
-    let one = found_by(alloc, managed, name, got)?;
-    Ok(one)
 }
 
-fn push_file(files: &mut Vec<LeaseFile>, file: Option<LeaseFile>) -> Result<(), AllocError>
+fn push_file(files: &mut Vec<KeptFile>, file: Option<KeptFile>) -> Result<(), AllocError>
     ensures { OnOk result (files.new.items ≡ files.old.items ++ option_to_list file) }
 {
     if let Some(file) = file {
@@ -181,14 +81,131 @@ fn push_file(files: &mut Vec<LeaseFile>, file: Option<LeaseFile>) -> Result<(), 
     Ok(())
 }
 
-/// What the opening found for all interfaces: with which lease each begins, and the files of leases.
+/// How an interface begins, by what reading the files of its leases gave. `duid` is that of the host.
+fn begin_with(
+    alloc: Global,
+    managed: &Managed,
+    duid: &Duid,
+    lease4: &Option<Got>,
+    lease6: &Option<Got>,
+) -> Result<Beginning, NoMemory>
+    requires { FitsManaged managed.now }
+    ensures is { IfOk result (λ begun. beginning_of begun ≡ loading.beginning_of duid.now.bytes.items (loading.loaded managed.now (option_map got_reading lease4.now) (option_map got_reading lease6.now))) }
+    ensures fit { IfOk result (λ begun. FitsBeginning (beginning_of begun)) }
+{
+    let name = &managed.spec.name;
+    Ok(Beginning {
+        managed: managed.to_owned(alloc)?,
+        duid: duid_copied(alloc, duid)?,
+        kept4: first_lease(alloc, name, lease4)?,
+        kept6: first_lease6(alloc, name, lease6)?,
+    })
+}
+
+/// What the opening found for an interface: how it begins, and the files of its leases.
+#[derive(Drop)]
+pub struct Loaded {
+    pub beginning: Beginning,
+    /// That of its DHCPv4 lease, where DHCPv4 runs.
+    pub file4: Option<KeptFile>,
+    /// That of its DHCPv6 lease, where DHCPv6 runs.
+    pub file6: Option<KeptFile>,
+}
+
+/// Reads the files of an interface's leases, each where its protocol runs.
+fn load_one<W: Outside>(
+    alloc: Global,
+    outside: &mut W,
+    managed: &Managed,
+    duid: &Duid,
+    text: &mut Vec<u8>,
+) -> Result<Loaded, NoMemory>
+    requires { FitsManaged managed.now }
+    ensures loads { IfOk result (λ one. LoadsOne managed.now duid.now.bytes.items one (W.seen outside.old) (W.seen outside.new) text.old.items text.new.items) }
+    ensures fit { IfOk result (λ one. FitsBeginning (beginning_of one.beginning)) }
+    ensures waiting { (W.seen outside.new).waiting ≡ (W.seen outside.old).waiting }
+{
+    let name4 = lease4_file(alloc, managed)?;
+    let name6 = lease6_file(alloc, managed)?;
+    let runs4 = runs_dhcp4(&managed.conf);
+    let lease4 = read_if(alloc, outside, runs4, &name4, text)?;
+    let runs6 = runs_dhcp6(&managed.conf);
+    let lease6 = read_if(alloc, outside, runs6, &name6, text)?;
+    let beginning = begin_with(alloc, managed, duid, &lease4, &lease6)?;
+    let index = managed.spec.index;
+    Ok(Loaded {
+        beginning,
+        file4: file_with(Keeps::Lease4(index), name4, lease4),
+        file6: file_with(Keeps::Lease6(index), name6, lease6),
+    })
+}
+
+/// What the opening found: how each interface begins, and the files that the life keeps.
 #[derive(Drop)]
 pub struct Found {
     pub beginnings: Vec<Beginning>,
-    pub files: Vec<LeaseFile>,
+    pub files: Vec<KeptFile>,
 }
 
-/// Reads the files of the interfaces' leases, one after another. One that can't be read doesn't stop the others.
+/// Reads the files of the interfaces' leases, one interface after another. One that can't be read doesn't stop the others.
+/// `files` are those that were read before.
+fn load_leases<W: Outside>(
+    alloc: Global,
+    outside: &mut W,
+    managed: &[Managed],
+    duid: &Duid,
+    files: Vec<KeptFile>,
+    text: &mut Vec<u8>,
+) -> Result<Found, NoMemory>
+    requires { AreManaged managed.now }
+    ensures loads { IfOk result (λ found. LoadsLeases managed.now duid.now.bytes.items files.items (map beginning_of found.beginnings.items) found.files.items (W.seen outside.old) (W.seen outside.new) text.old.items text.new.items) }
+    ensures fit { IfOk result (λ found. AreBeginnings (map beginning_of found.beginnings.items)) }
+    ensures waiting { (W.seen outside.new).waiting ≡ (W.seen outside.old).waiting }
+{
+    let mut beginnings = Vec::new(alloc);
+    let mut files = files;
+    for m in managed {
+        let one = load_one(alloc, outside, m, duid, text)?;
+        beginnings.push(one.beginning)?;
+        push_file(&mut files, one.file4)?;
+        push_file(&mut files, one.file6)?;
+    }
+    Ok(Found { beginnings, files })
+}
+
+/// The file of the DUID, where it was read. What isn't the text of a DUID is to be replaced by this one.
+fn duid_files(alloc: Global, duid: &Duid, read: Option<Got>) -> Result<Vec<KeptFile>, NoMemory>
+    ensures { IfOk result (λ files. files.items ≡ file_with (model.Duid duid.now.bytes.items) loading.duid_file (option_map got_reading read)) }
+{
+    let name = String::from_str(alloc, DUID_FILE)?;
+    let keeps = Keeps::Duid(duid_copied(alloc, duid)?);
+    let mut files = Vec::new(alloc);
+    push_file(&mut files, file_with(keeps, name, read))?;
+    Ok(files)
+}
+
+/// Reads the DUID, where some client needs one, and then the files of leases. `first` is the first interface.
+fn load_with<W: Outside>(
+    alloc: Global,
+    outside: &mut W,
+    managed: &[Managed],
+    first: &Managed,
+    text: &mut Vec<u8>,
+) -> Result<Found, NoMemory>
+    requires managed { AreManaged managed.now }
+    requires first { slice_get managed.now 0 ≡ Some first.now }
+    ensures loads { IfOk result (λ found. LoadsAll managed.now (map beginning_of found.beginnings.items) found.files.items (W.seen outside.old) (W.seen outside.new) text.old.items text.new.items) }
+    ensures fit { IfOk result (λ found. AreBeginnings (map beginning_of found.beginnings.items)) }
+    ensures waiting { (W.seen outside.new).waiting ≡ (W.seen outside.old).waiting }
+{
+    let is_kept = some_need_duid(managed);
+    let read = read_if(alloc, outside, is_kept, DUID_FILE, text)?;
+    let duid = host_duid(alloc, first, &read)?;
+    let files = duid_files(alloc, &duid, read)?;
+    load_leases(alloc, outside, managed, &duid, files, text)
+}
+
+/// Reads the files that a life keeps. Where no interface is managed there are none.
 pub fn load_all<W: Outside>(
     alloc: Global,
     outside: &mut W,
@@ -200,14 +217,13 @@ pub fn load_all<W: Outside>(
     ensures fit { IfOk result (λ found. AreBeginnings (map beginning_of found.beginnings.items)) }
     ensures waiting { (W.seen outside.new).waiting ≡ (W.seen outside.old).waiting }
 {
-    let mut beginnings = Vec::new(alloc);
-    let mut files = Vec::new(alloc);
-    for m in managed {
-        let one = load_one(alloc, outside, m, text)?;
-        beginnings.push(one.beginning)?;
-        push_file(&mut files, one.file)?;
+    match managed.first() {
+        Some(first) => load_with(alloc, outside, managed, first, text),
+        None => Ok(Found {
+            beginnings: Vec::new(alloc),
+            files: Vec::new(alloc),
+        }),
     }
-    Ok(Found { beginnings, files })
 }
 
 /// Reads the file of the resolver.

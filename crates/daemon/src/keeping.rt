@@ -1,23 +1,28 @@
-//! The files of leases: what is known of each, and how it is brought to what it is to hold.
+//! The files that a life keeps: what is known of each, and how it is brought to what it is to hold.
 ghost use Rattle.std.specs.Prelude.{◌≡◌, ◌||◌, false, length, IfOk, OnOk, Some, None, option_map};
 ghost use Rattle.std.specs.List.{AllByRecursion, list_any};
 ghost use Rattle.std.specs.String.{string_bytes};
 ghost use Rattle.world.specs.FileNames.{IsFileName};
 ghost use Rattle.lease_text.specs.Leases.{lease_content};
-ghost use Rattle.client_model.specs.Clients.{kept_lease};
+ghost use Rattle.lease_text.specs.LeaseLines.{lease4_text};
+ghost use Rattle.lease6_text.specs.Leases.{lease6_content};
+ghost use Rattle.lease6_text.specs.LeaseLines.{lease6_text};
 ghost use Rattle.client_core.specs.Touched.{is_touched};
 ghost use Rattle.device_calls.specs.Does.{Does};
-ghost use Rattle.turn_model.specs.LeaseFiles.{same_content, is_settled, content_for, bringing, known_after, keeping, is_unknown};
-ghost use Rattle.daemon.specs.Files.{content_of, known_of};
-ghost use Rattle.daemon.specs.Keeping.{is_among, IsKept, AreKept, AreKeptBut, KeepsFile};
+ghost use Rattle.turn_model.specs.KeptFiles.{wanted_in, same_content, is_left, is_settled, bringing, known_after, keeping, is_unknown};
+ghost use Rattle.daemon.specs.Files.{content_of, known_of, keeps_of};
+ghost use Rattle.daemon.specs.Keeping.{are_all, is_among, may_differ, IsKept, AreKept, AreKeptBut, KeepsFile};
 
 use crate::outside::Outside;
 use crate::stores::{remove, rename, settle, sync, write};
-use client_core::{Core, kept};
+use client_core::{Core, kept4, kept6};
+use duid_text::print_duid;
 use lease_text::{Lease4, print4};
+use lease6_text::{Lease6, print6};
 use net_types::IfIndex;
 use std::alloc::Global;
 use std::marker::Model;
+use v6_options::Duid;
 use world::NoMemory;
 
 /// What is known of a file.
@@ -27,7 +32,7 @@ pub enum Known {
     Holds(Option<Vec<u8>>),
     /// A call that was to change it failed.
     Unknown,
-    /// The opening couldn't read it, and no lease was kept since.
+    /// The opening couldn't read it, and nothing was to be kept in it since.
     Unread,
 }
 
@@ -46,6 +51,16 @@ fn is_touched(these: &[IfIndex], iface: IfIndex) -> bool
 }
 
 impl Touched<'_> {
+    /// Whether they are all interfaces.
+    fn are_all(self) -> bool
+        ensures { result ≡ are_all self.entry }
+    {
+        match self {
+            Touched::All => true,
+            Touched::These(_) => false,
+        }
+    }
+
     /// Whether an interface is one of them.
     fn has(self, iface: IfIndex) -> bool
         ensures { result ≡ is_among iface.number self.entry }
@@ -57,23 +72,47 @@ impl Touched<'_> {
     }
 }
 
-/// The file of an interface's lease.
+/// What a file keeps.
 #[derive(Drop)]
-pub struct LeaseFile {
-    iface: IfIndex,
+pub enum Keeps {
+    /// The DUID of the host.
+    Duid(Duid),
+    /// The DHCPv4 lease of an interface.
+    Lease4(IfIndex),
+    /// The DHCPv6 lease of an interface.
+    Lease6(IfIndex),
+}
+
+impl Keeps {
+    /// Whether a file that keeps this is to hold something else than before, where these were touched. The DUID stays.
+    fn may_differ(&self, touched: Touched<'_>) -> bool
+        ensures { result ≡ may_differ (keeps_of self.now) touched.entry }
+    {
+        match self {
+            Keeps::Duid(_) => touched.are_all(),
+            Keeps::Lease4(iface) => touched.has(*iface),
+            Keeps::Lease6(iface) => touched.has(*iface),
+        }
+    }
+}
+
+/// A file that a life keeps.
+#[derive(Drop)]
+pub struct KeptFile {
+    keeps: Keeps,
     name: String,
     known: Known,
 }
 
-impl Model for LeaseFile {
+impl Model for KeptFile {
     ghost use Rattle.std.specs.String.{string_bytes};
     ghost use Rattle.world.specs.FileNames.{IsFileName};
-    ghost use Rattle.turn_model.specs.LeaseFiles as model;
-    ghost use Rattle.daemon.specs.Files.{known_of};
+    ghost use Rattle.turn_model.specs.KeptFiles as model;
+    ghost use Rattle.daemon.specs.Files.{known_of, keeps_of};
 
-    ghost Value = { model.LeaseFile };
+    ghost Value = { model.KeptFile };
 
-    ghost view = { λ file. record { iface = file.iface.number; name = string_bytes file.name; known = known_of file.known } };
+    ghost view = { λ file. record { keeps = keeps_of file.keeps; name = string_bytes file.name; known = known_of file.known } };
 
     ghost invariant = { λ file. IsFileName (string_bytes file.name) };
 }
@@ -89,14 +128,25 @@ fn same_content(held: &Option<Vec<u8>>, wanted: &Option<Vec<u8>>) -> bool
     }
 }
 
-/// Whether nothing is to be done. A file that couldn't be read is left alone until a lease is kept.
-fn is_settled(known: &Known, wanted: &Option<Vec<u8>>) -> bool
-    ensures { result ≡ is_settled (known_of known.now) (content_of wanted.now) }
+/// Whether a file that couldn't be read is left alone: that of a lease until one is kept, that of the DUID for good.
+fn is_left(keeps: &Keeps, wanted: &Option<Vec<u8>>) -> bool
+    ensures { result ≡ is_left (keeps_of keeps.now) (content_of wanted.now) }
+{
+    match keeps {
+        Keeps::Duid(_) => true,
+        Keeps::Lease4(_) => wanted.is_none(),
+        Keeps::Lease6(_) => wanted.is_none(),
+    }
+}
+
+/// Whether nothing is to be done.
+fn is_settled(keeps: &Keeps, known: &Known, wanted: &Option<Vec<u8>>) -> bool
+    ensures { result ≡ is_settled (keeps_of keeps.now) (known_of known.now) (content_of wanted.now) }
 {
     match known {
         Known::Holds(content) => same_content(content, wanted),
         Known::Unknown => false,
-        Known::Unread => wanted.is_none(),
+        Known::Unread => is_left(keeps, wanted),
     }
 }
 
@@ -111,13 +161,34 @@ fn known_after(wanted: Option<Vec<u8>>, done: bool) -> Known
     }
 }
 
-/// The text of the lease that is kept; without one there is to be no file.
-fn content_for(alloc: Global, lease: Option<&Lease4>) -> Result<Option<Vec<u8>>, NoMemory>
-    ensures { IfOk result (λ wanted. content_of wanted ≡ content_for (option_map (λ lease. lease_content lease.now) lease.entry)) }
+/// The text of the DHCPv4 lease that is kept; without one there is to be no file.
+fn text4(alloc: Global, lease: Option<&Lease4>) -> Result<Option<Vec<u8>>, NoMemory>
+    ensures { IfOk result (λ wanted. content_of wanted ≡ option_map lease4_text (option_map (λ lease. lease_content lease.now) lease.entry)) }
 {
     match lease {
         None => Ok(None),
         Some(lease) => Ok(Some(print4(alloc, lease)?.into_bytes())),
+    }
+}
+
+/// The text of the DHCPv6 lease that is kept; without one there is to be no file.
+fn text6(alloc: Global, lease: Option<&Lease6>) -> Result<Option<Vec<u8>>, NoMemory>
+    ensures { IfOk result (λ wanted. content_of wanted ≡ option_map lease6_text (option_map (λ lease. lease6_content lease.now) lease.entry)) }
+{
+    match lease {
+        None => Ok(None),
+        Some(lease) => Ok(Some(print6(alloc, lease)?.into_bytes())),
+    }
+}
+
+/// What a file that keeps this is to hold.
+fn wanted_in(alloc: Global, core: &Core, keeps: &Keeps) -> Result<Option<Vec<u8>>, NoMemory>
+    ensures { IfOk result (λ wanted. content_of wanted ≡ wanted_in core.now.ifaces (keeps_of keeps.now)) }
+{
+    match keeps {
+        Keeps::Duid(duid) => Ok(Some(print_duid(alloc, duid)?)),
+        Keeps::Lease4(iface) => text4(alloc, kept4(core, *iface)),
+        Keeps::Lease6(iface) => text6(alloc, kept6(core, *iface)),
     }
 }
 
@@ -177,12 +248,12 @@ fn bring<'a, W: Outside>(
     }
 }
 
-impl LeaseFile {
-    pub fn new(iface: IfIndex, name: String, known: Known) -> LeaseFile
+impl KeptFile {
+    pub fn new(keeps: Keeps, name: String, known: Known) -> KeptFile
         requires { IsFileName (string_bytes name) }
-        ensures { result ≡ record { iface = iface.number; name = string_bytes name; known = known_of known } }
+        ensures { result ≡ record { keeps = keeps_of keeps; name = string_bytes name; known = known_of known } }
     {
-        LeaseFile { iface, name, known }
+        KeptFile { keeps, name, known }
     }
 
     /// Whether a call that was to change it failed.
@@ -198,31 +269,24 @@ impl LeaseFile {
 
     /// Whether it may hold something else than it is to hold.
     fn is_due(&self, touched: Touched<'_>) -> bool
-        ensures { result ≡ (is_unknown self.now.known || is_among self.now.iface touched.entry) }
+        ensures { result ≡ (is_unknown self.now.known || may_differ self.now.keeps touched.entry) }
     {
-        self.is_unknown() || touched.has(self.iface)
-    }
-
-    /// The interface whose lease it keeps.
-    fn iface(&self) -> IfIndex
-        ensures { result.number ≡ self.now.iface }
-    {
-        self.iface
+        self.is_unknown() || self.keeps.may_differ(touched)
     }
 
     /// Brings it to what it is to hold, where it doesn't hold that.
     fn keep<W: Outside>(
         &mut self,
         alloc: Global,
-        lease: Option<&Lease4>,
+        core: &Core,
         outside: &mut W,
         text: &mut Vec<u8>,
     ) -> Result<(), NoMemory>
-        ensures does { OnOk result (KeepsFile (option_map (λ lease. lease_content lease.now) lease.entry) self.old self.new (W.seen outside.old) (W.seen outside.new) text.old.items text.new.items) }
+        ensures does { OnOk result (KeepsFile core.now.ifaces self.old self.new (W.seen outside.old) (W.seen outside.new) text.old.items text.new.items) }
         ensures waiting { (W.seen outside.new).waiting ≡ (W.seen outside.old).waiting }
     {
-        let wanted = content_for(alloc, lease)?;
-        if is_settled(&self.known, &wanted) {
+        let wanted = wanted_in(alloc, core, &self.keeps)?;
+        if is_settled(&self.keeps, &self.known, &wanted) {
             return Ok(());
         }
         let done = bring(outside, &self.name, &wanted, text)?;
@@ -231,24 +295,23 @@ impl LeaseFile {
     }
 }
 
-/// Brings a file to what it is to hold. One that is known, of an interface that wasn't touched, holds it.
+/// Brings a file to what it is to hold. One that is known, and keeps nothing that may have changed, holds it.
 fn keep_one<W: Outside>(
     alloc: Global,
     core: &Core,
     touched: Touched<'_>,
-    file: &mut LeaseFile,
+    file: &mut KeptFile,
     outside: &mut W,
     text: &mut Vec<u8>,
 ) -> Result<(), NoMemory>
-    requires { is_among file.old.iface touched ≡ false → IsKept core.now.ifaces file.old }
-    ensures does { OnOk result (KeepsFile (kept_lease file.old.iface core.now.ifaces) file.old file.new (W.seen outside.old) (W.seen outside.new) text.old.items text.new.items) }
+    requires { may_differ file.old.keeps touched ≡ false → IsKept core.now.ifaces file.old }
+    ensures does { OnOk result (KeepsFile core.now.ifaces file.old file.new (W.seen outside.old) (W.seen outside.new) text.old.items text.new.items) }
     ensures waiting { (W.seen outside.new).waiting ≡ (W.seen outside.old).waiting }
 {
     if !file.is_due(touched) {
         return Ok(());
     }
-    let lease = kept(core, file.iface());
-    file.keep(alloc, lease, outside, text)
+    file.keep(alloc, core, outside, text)
 }
 
 /// Brings each file to what it is to hold, one after another. A failure stops none.
@@ -256,7 +319,7 @@ fn keep_each<W: Outside>(
     alloc: Global,
     core: &Core,
     touched: Touched<'_>,
-    files: &mut [LeaseFile],
+    files: &mut [KeptFile],
     outside: &mut W,
     text: &mut Vec<u8>,
 ) -> Result<(), NoMemory>
@@ -272,15 +335,15 @@ fn keep_each<W: Outside>(
     Ok(())
 }
 
-/// Brings the files to what they are to hold. Those that are known, of interfaces that weren't touched, hold it.
+/// Brings the files to what they are to hold. Those that are known, and keep nothing that may have changed, hold it.
 pub fn keep_all<W: Outside>(
     alloc: Global,
     core: &Core,
     touched: Touched<'_>,
-    files: Vec<LeaseFile>,
+    files: Vec<KeptFile>,
     outside: &mut W,
     text: &mut Vec<u8>,
-) -> Result<Vec<LeaseFile>, NoMemory>
+) -> Result<Vec<KeptFile>, NoMemory>
     requires { AreKeptBut touched core.now.ifaces files.items }
     ensures does { IfOk result (λ kept. Does (keeping core.now.ifaces files.items) kept.items (W.seen outside.old) (W.seen outside.new) text.old.items text.new.items) }
     ensures waiting { (W.seen outside.new).waiting ≡ (W.seen outside.old).waiting }
@@ -292,7 +355,7 @@ pub fn keep_all<W: Outside>(
 }
 
 /// Whether a file is unknown.
-pub fn any_unknown(files: &[LeaseFile]) -> bool
+pub fn any_unknown(files: &[KeptFile]) -> bool
     ensures { result ≡ list_any (λ file. is_unknown file.known) files.now }
 {
     files.iter().any(|file| file.is_unknown())

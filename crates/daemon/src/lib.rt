@@ -4,10 +4,14 @@
 mod changes;
 mod closing;
 mod devices;
+mod duids;
 mod files;
 mod hosts;
 mod keeping;
+mod leases4;
+mod leases6;
 mod lives;
+mod names;
 mod openings;
 mod outside;
 mod saying;

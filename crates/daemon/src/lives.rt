@@ -4,7 +4,7 @@ ghost use Rattle.machine.specs.Moment.{moment_of};
 ghost use Rattle.turn_model.specs.Turns.{stop_after, retry_at, end_at, is_past, until, is_over};
 ghost use Rattle.daemon.specs.Lives.{life_of, IsBelowEnd, IsTimely, retry_unless};
 
-use crate::keeping::{LeaseFile, any_unknown};
+use crate::keeping::{KeptFile, any_unknown};
 use client_core::{Core, core_due, earlier_of};
 use std::collections::BTreeSet;
 use world::{Event, HostRow};
@@ -24,8 +24,8 @@ pub struct Life {
     pub core: Core,
     /// The host's rows on managed interfaces, where they are known.
     pub known: Option<BTreeSet<HostRow>>,
-    /// The files of leases.
-    pub files: Vec<LeaseFile>,
+    /// The files that it keeps.
+    pub files: Vec<KeptFile>,
     /// The moment of the last turn, in milliseconds since 1970.
     pub moment: u64,
     /// The moment of the stop, once it came.

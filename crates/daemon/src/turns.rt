@@ -36,7 +36,7 @@ fn input(event: Event, bytes: &[u8]) -> TurnInput<'_>
     }
 }
 
-/// Handles a wake: the client's step, its frames, the host calls, then the files of leases. Appends the turn's lines to `text`.
+/// Handles a wake: the client's step, its frames, the host calls, then the files. Appends the turn's lines to `text`.
 pub fn turn<W: Outside>(
     alloc: Global,
     managed: &[Managed],

@@ -26,6 +26,7 @@ use Rattle.conf_text.specs.Configurations.{Configuration}
 use Rattle.evidence.specs.Laws.{AreNumbered}
 use Rattle.evidence.specs.HeldAddresses.{mets_of, RestOnEvidence}
 use Rattle.lease_evidence.proofs.Joining.{LeaseRelation}
+use Rattle.evidence.proofs.Items.{items_have_basis}
 use Rattle.evidence.proofs.Leasing.{leases_based}
 use Rattle.evidence.proofs.HostRests.{opening_rests, turns_rest}
 use Rattle.evidence.proofs.Foretold.{foretold}
@@ -114,10 +115,10 @@ module _ (bytes : List ℕ) (script : ScriptLines) (conf : Configuration) (is : 
     life_holds = record {
       opening_holds = opening_holds managed script.ifaces (world_in failing between life) sorted;
       turns_hold = λ earlier given. turn_in_life managed script.ifaces (world_in failing between life) sorted earlier given;
-      opening_rests = λ well. opening_rests LeaseRelation leases_based managed script.ifaces (world_in failing between life) fit numbered sorted well;
+      opening_rests = λ well. opening_rests LeaseRelation leases_based items_have_basis managed script.ifaces (world_in failing between life) fit numbered sorted well;
       turns_rest = λ earlier given coming turn well.
           subst (λ (ms : List Met). RestOnEvidence managed script.ifaces (opening_in managed script.ifaces failing between life) ms (lived_on managed script.ifaces failing between life earlier given).world.host.told.rows) (handled_mets earlier given coming turn)
-          (turns_rest LeaseRelation leases_based managed script.ifaces (world_in failing between life) earlier given fit numbered
+          (turns_rest LeaseRelation leases_based items_have_basis managed script.ifaces (world_in failing between life) earlier given fit numbered
           (up_to earlier given coming (subst (AllByRecursion IsOctets) turn.stands (life_octets (length script.ifaces) life life_fits))) sorted well);
     }
 

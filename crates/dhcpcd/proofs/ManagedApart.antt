@@ -51,7 +51,7 @@ module _ (conf : Configuration) where
   managed_specs [] = refl
   managed_specs (spec ∷ specs) =
       elim (keeps spec) as (λ kept.
-      map spec_of (cons_option (managed_with spec (if kept then Some (settings_for conf spec.name) else None)) (managed_of conf specs))
+      map spec_of (cons_option (managed_with spec (if kept then Some (settings_for conf spec) else None)) (managed_of conf specs))
       ≡ (if kept then spec ∷ filter keeps specs else filter keeps specs)) [
         | true ↦ ap (λ others. spec ∷ others) (managed_specs specs)
         | false ↦ managed_specs specs
@@ -62,7 +62,7 @@ module _ (conf : Configuration) where
 
   -- as if all were managed
   abbrev all_of : List IfSpec → List Managed
-  all_of specs = map (λ (spec : IfSpec). record { spec = spec; conf = settings_for conf spec.name }) specs
+  all_of specs = map (λ (spec : IfSpec). record { spec = spec; conf = settings_for conf spec }) specs
 
   all_specs : (specs : List IfSpec) → map spec_of (all_of specs) ≡ specs
   all_specs [] = refl

@@ -1,5 +1,5 @@
 -- Over every life, the addresses that the client wants have their basis.
-use Rattle.std.proofs.Common.{◌≡◌, ℕ, Bool, false, List, [], ◌∷◌, ◌⊎◌, inl, inr, Some, None, refl, sym, ap, subst, ◌∙◌, lit<}
+use Rattle.std.proofs.Common.{◌≡◌, ℕ, Bool, false, List, [], ◌∷◌, map, arith, ◌⊎◌, inl, inr, Option, Some, None, refl, sym, ap, subst, ◌∙◌, lit<}
 use Rattle.std.specs.Prelude.{if◌then◌else◌}
 use Rattle.std.specs.List.{AllByRecursion, Contains}
 use Rattle.std.proofs.lemmas.List.Elements.{All-contains_itself, recursion_from_All}
@@ -19,6 +19,17 @@ use Rattle.settings.specs.Fitting.{FitsManaged, AreManaged}
 use Rattle.script_model.specs.IfaceSets.{is_up}
 use Rattle.client_model.specs.declared.interfaces.Iface.{Iface}
 use Rattle.client_model.specs.ClientSettings.{runs_dhcp4}
+use Rattle.client_model.specs.ClientSettings6.{runs_dhcp6}
+use Rattle.client_model.specs.HostDuid.{host_duid}
+use Rattle.client_model.proofs.HostDuids.{host_duid_fits}
+use Rattle.world.specs.StoreCalls.{Reading}
+use Rattle.lease6_text.specs.Bounds.{IsDuid}
+use Rattle.lease6_text.specs.declared.lease.Item6.{Item6}
+use Rattle.lease6_text.specs.Leases.{IaLeaseContent, Lease6Content}
+use Rattle.v6_options.specs.declared.ia.IaKind.TheVariants.{Na}
+use Rattle.v6_client.specs.Clients as dhcp6
+use Rattle.evidence_words.specs.HostDuids.{duid_read, duid_shown}
+use Rattle.evidence.proofs.Off6.{off_holds6}
 use Rattle.client_model.proofs.SameInterfaces.{managed_in}
 use Rattle.turn_model.specs.Turns.{Life}
 use Rattle.turn_model.specs.Lives.{OpeningMet, Met, life_after}
@@ -28,13 +39,13 @@ use Rattle.evidence_words.proofs.Offers.{number_of}
 use Rattle.local_evidence.specs.LinkLocalBasis.{LinkLocalBasis, StrongBasis}
 use Rattle.local_evidence.proofs.Weakening.{local_weaker}
 use Rattle.evidence.specs.StaticBasis.{StaticBasis}
-use Rattle.evidence.specs.Laws.{AreOctets, Basis, BasisWithoutDhcp4, LeasedBasis, StrongestBasis, IsLife, AddressesHave, AddressesHaveBasis, OthersHaveBasis, site_of}
-use Rattle.evidence_words.proofs.Carrying.{Relation, IsCarried, at_site}
-use Rattle.evidence.proofs.Turns.{KeptOne, KeptAfter, KeepsRelation, keeps_carried, turns_kept, own_stays, opening_kept, opened_own}
+use Rattle.evidence.specs.Laws.{AreOctets, Basis, BasisWithoutDhcp, LeasedBasis, LeasedBasis6, StrongestBasis, IsLife, AddressesHave, AddressesHaveBasis, OthersHaveBasis, site_of}
+use Rattle.evidence_words.proofs.Carrying.{Relation, IsCarried}
+use Rattle.evidence.proofs.Turns.{site_by, KeptOne, KeptAfter, KeepsRelation, keeps_carried, turns_kept, own_stays, opening_kept, opened_own}
 use Rattle.evidence.proofs.Rows.{Giver, wanted_giver, iface_basis}
 
 -- what holds of each managed interface holds of that of each interface
-each_managed : (P : Managed → Type 0) (ifaces : List Iface) (managed : List Managed) → managed_in ifaces ≡ managed → AllByRecursion P managed
+pub each_managed : (P : Managed → Type 0) (ifaces : List Iface) (managed : List Managed) → managed_in ifaces ≡ managed → AllByRecursion P managed
     → AllByRecursion (λ iface. P iface.managed) ifaces
 each_managed P ifaces managed same all = all_mapped P (λ (iface : Iface). iface.managed) ifaces (subst (AllByRecursion P) (sym same) all)
 
@@ -43,19 +54,35 @@ each_managed P ifaces managed same all = all_mapped P (λ (iface : Iface). iface
 abbrev pub HearsOctets : List Entry → Type 0
 HearsOctets shown = AllByRecursion (λ e. AreBytes e.bytes) shown
 
-none_octets : AreBytes []
+pub none_octets : AreBytes []
 none_octets i = lit< tt
 
-shown_octets : (mets : List Met) (shown : List Entry) → HearsOctets shown → AreOctets mets → HearsOctets (shown_after shown mets)
+pub shown_octets : (mets : List Met) (shown : List Entry) → HearsOctets shown → AreOctets mets → HearsOctets (shown_after shown mets)
 shown_octets [] shown before octets = before
 shown_octets (met ∷ mets) shown before octets = shown_octets mets (entry_of met ∷ shown) (octets.0, before) octets.1
 
 -- What leases owe: something that every turn keeps, by which each lease that is held has its basis.
 pub record AreBased (Carries : Relation) : Type 1 where
-  pub carried : IsCarried Carries
-  pub based : (site : Site) (clean : Type 0) (iface : Iface) (past : List Entry) → iface.managed ≡ site.managed → FitsManaged site.managed
+  pub carried : (Counted : Type 0) → IsCarried Counted Carries
+  pub based : (site : Site) (clean : Type 0) (iface : Iface) (past : List Entry) → iface.managed ≡ site.managed → FitsManaged site.managed → IsDuid site.duid
       → HearsOctets past → Carries site clean iface past → (lease : LeaseContent) → held_of iface.dhcp4 ≡ Some lease
       → LeasedBasis site (Family.V4 lease.net) past
+
+-- Each item of an interface's held DHCPv6 lease that is an address has its basis.
+abbrev pub ItemsHave : List Managed → List IfSpec → OpeningMet → List Met → Iface → Type 0
+ItemsHave managed specs opening mets iface = (lease : Lease6Content) (ia : IaLeaseContent) (item : Item6) → dhcp6.held_of iface.dhcp6 ≡ Some lease
+    → Contains lease.ias ia → Contains ia.items item → ia.kind ≡ Na
+    → LeasedBasis6 (site_of managed specs opening iface.managed) (Family.V6 item.net) (shown_of opening mets)
+
+-- What items owe: this holds in every life.
+abbrev pub ItemsAreBased : Type 0
+ItemsAreBased = (managed : List Managed) (specs : List IfSpec) (opening : OpeningMet) (mets : List Met) → IsLife managed specs opening mets → AreManaged managed → AreOctets mets
+    → AllByRecursion (ItemsHave managed specs opening mets) (life_after opening.life mets).client.ifaces
+
+-- the DUID of the host is one where an interface is managed
+pub duid_fits : (managed : List Managed) (m : Managed) (read : Option Reading) → Contains managed m → AreManaged managed → IsDuid (host_duid managed read)
+duid_fits [] m read among fit = absurd (omega (arith, among.1))
+duid_fits (first ∷ others) m read among fit = host_duid_fits first others read fit.0.mac
 
 -- a client that is off holds no lease
 off_holds : (c : ClientContent) (lease : LeaseContent) → c.state ≡ Off → held_of c ≡ Some lease → ⊥
@@ -67,22 +94,26 @@ module _ (managed : List Managed) (specs : List IfSpec) (opening : OpeningMet) (
   abbrev start : ℕ → Bool
   start number = is_up opening.begin.up number
 
+  abbrev duid : List ℕ
+  duid = duid_shown managed opening.calls
+
   abbrev life : Life
   life = life_after opening.life mets
 
   abbrev shown : List Entry
   shown = shown_of opening mets
 
-  abbrev Of : (Carries : Relation) → IsCarried Carries → Iface → Type 0
-  Of Carries carried iface = KeptOne Carries carried start life.client.own life.unsent shown iface
+  -- no number of an interface is asked for
+  abbrev Of : (Carries : Relation) → ((Counted : Type 0) → IsCarried Counted Carries) → Iface → Type 0
+  Of Carries carried iface = KeptOne ⊥ Carries (carried ⊥) start duid life.client.own life.unsent shown iface
 
-  after_life : (Carries : Relation) (carried : IsCarried Carries) → KeptAfter Carries carried start managed life shown
+  after_life : (Carries : Relation) (carried : (Counted : Type 0) → IsCarried Counted Carries) → KeptAfter ⊥ Carries (carried ⊥) start duid managed life shown
   after_life Carries carried =
-      turns_kept Carries carried start managed is.numbered mets opening.life (opening_entry opening ∷ [])
-      (opening_kept Carries carried managed is.numbered specs opening is.opens) is.turns
+      turns_kept ⊥ Carries (carried ⊥) start duid managed is.numbered (λ none. absurd none) mets opening.life (opening_entry opening ∷ [])
+      (opening_kept ⊥ Carries (carried ⊥) managed is.numbered (λ none. absurd none) specs opening is.opens) is.turns
 
   abbrev site_in : List Mac → Iface → Site
-  site_in own iface = at_site own (start (number_of iface.managed)) iface.managed
+  site_in own iface = site_by own (start (number_of iface.managed)) duid iface.managed
 
   -- the hardware addresses are those of all interfaces
   at_life : (Kind : Site → Net → List Entry → Type 0) (net : Net) (iface : Iface) → Kind (site_in life.client.own iface) net shown
@@ -93,48 +124,57 @@ module _ (managed : List Managed) (specs : List IfSpec) (opening : OpeningMet) (
   kept : AllByRecursion (Of KeepsRelation keeps_carried) life.client.ifaces
   kept = (after_life KeepsRelation keeps_carried).kept
 
-  among : AllByRecursion (λ iface. Contains managed iface.managed) life.client.ifaces
+  pub among : AllByRecursion (λ iface. Contains managed iface.managed) life.client.ifaces
   among =
       each_managed (Contains managed) life.client.ifaces managed (after_life KeepsRelation keeps_carried).of_managed
       (recursion_from_All (Contains managed) managed (All-contains_itself managed))
 
-  -- ---- where DHCPv4 doesn't run
+  -- ---- where neither protocol runs
 
   record Other (iface : Iface) : Type 0 where
     keeps : Of KeepsRelation keeps_carried iface
     among : Contains managed iface.managed
 
-  without_lease : (site : Site) (net : Net) (Without : Type 0) → Without
-      → (StaticBasis site net shown ⊎ (StrongBasis site net shown ⊎ (Without → ⊥))) → StaticBasis site net shown ⊎ LinkLocalBasis site net shown
-  without_lease site net Without it (inl line) = inl line
-  without_lease site net Without it (inr (inl choice)) = inr (local_weaker site net shown choice)
-  without_lease site net Without it (inr (inr leased)) = absurd (leased it)
+  without_lease : (site : Site) (net : Net) (Without Without6 : Type 0) → Without → Without6
+      → (StaticBasis site net shown ⊎ (StrongBasis site net shown ⊎ ((Without → ⊥) ⊎ (Without6 → ⊥)))) → StaticBasis site net shown ⊎ LinkLocalBasis site net shown
+  without_lease site net Without Without6 it six (inl line) = inl line
+  without_lease site net Without Without6 it six (inr (inl choice)) = inr (local_weaker site net shown choice)
+  without_lease site net Without Without6 it six (inr (inr (inl leased))) = absurd (leased it)
+  without_lease site net Without Without6 it six (inr (inr (inr leased))) = absurd (leased six)
 
-  others_have : AddressesHave BasisWithoutDhcp4 managed specs opening mets
+  others_have : AddressesHave BasisWithoutDhcp managed specs opening mets
   others_have index net has =
       let g : Giver Other (Addr index net) =
       wanted_giver Other (Addr index net) life.client (all_both _ _ Other (λ iface k c. record { keeps = k; among = c }) life.client.ifaces kept among) has in
-      let found = iface_basis index net (λ n. runs_dhcp4 g.iface.managed.conf ≡ false → ⊥) life.client.own (start (number_of g.iface.managed)) _ g.iface shown
-      g.is_such.keeps.carries (λ lease held none. off_holds g.iface.dhcp4 lease (g.is_such.keeps.carries.sane.without none) held) g.gives in
+      let found = iface_basis index net (λ n. runs_dhcp4 g.iface.managed.conf ≡ false → ⊥) (λ n. runs_dhcp6 g.iface.managed.conf ≡ false → ⊥) life.client.own
+      (start (number_of g.iface.managed)) duid _ g.iface shown g.is_such.keeps.carries
+      (λ lease held none. off_holds g.iface.dhcp4 lease (g.is_such.keeps.carries.sane.without none) held)
+      (λ lease ia item held among among_items address none. off_holds6 g.iface.dhcp6 lease (g.is_such.keeps.carries.sane.without6 none) held) g.gives in
       record {
         holder = g.iface.managed;
         among = g.is_such.among;
         is_here = found.0;
-        basis = at_life BasisWithoutDhcp4 net g.iface (λ none. without_lease (site_in life.client.own g.iface) net _ none found.1);
+        basis = at_life BasisWithoutDhcp net g.iface (λ none none6. without_lease (site_in life.client.own g.iface) net _ _ none none6 found.1);
       }
 
   -- ---- with leases
 
-  module _ (Carries : Relation) (leases : AreBased Carries) (fit : AreManaged managed) (octets : AreOctets mets) where
+  module _ (Carries : Relation) (leases : AreBased Carries) (items : ItemsAreBased) (fit : AreManaged managed) (octets : AreOctets mets) where
     record Both (iface : Iface) : Type 0 where
       other : Other iface
       leased : Of Carries leases.carried iface
       fits : FitsManaged iface.managed
+      items_so : ItemsHave managed specs opening mets iface
+
+    abbrev Found : Iface → Type 0
+    Found iface = Other iface × ItemsHave managed specs opening mets iface
 
     both : AllByRecursion Both life.client.ifaces
     both =
-        all_both _ _ Both (λ iface one two. record { other = record { keeps = one.0; among = one.1 }; leased = two.0; fits = two.1 }) life.client.ifaces
-        (all_both _ _ (λ iface. Of KeepsRelation keeps_carried iface × Contains managed iface.managed) (λ iface k c. (k, c)) life.client.ifaces kept among)
+        all_both Found (λ iface. Of Carries leases.carried iface × FitsManaged iface.managed) Both
+        (λ iface one two. record { other = one.0; leased = two.0; fits = two.1; items_so = one.1 }) life.client.ifaces
+        (all_both Other (ItemsHave managed specs opening mets) Found (λ iface other six. (other, six)) life.client.ifaces
+        (all_both _ _ Other (λ iface k c. record { keeps = k; among = c }) life.client.ifaces kept among) (items managed specs opening mets is fit octets))
         (all_both _ _ (λ iface. Of Carries leases.carried iface × FitsManaged iface.managed) (λ iface k f. (k, f)) life.client.ifaces
         (after_life Carries leases.carried).kept (each_managed FitsManaged life.client.ifaces managed (after_life Carries leases.carried).of_managed fit))
 
@@ -144,8 +184,13 @@ module _ (managed : List Managed) (specs : List IfSpec) (opening : OpeningMet) (
         let g : Giver Both (Addr index net) = wanted_giver Both (Addr index net) life.client both has in
         let site : Site = site_in life.client.own g.iface in
         let heard : HearsOctets shown = shown_octets mets (opening_entry opening ∷ []) (none_octets, tt) octets in
-        let found = iface_basis index net (λ n. LeasedBasis site n shown) life.client.own (start (number_of g.iface.managed)) _ g.iface shown
-        g.is_such.other.keeps.carries (leases.based site _ g.iface shown refl g.is_such.fits heard g.is_such.leased.carries) g.gives in
+        let fits_duid : IsDuid duid = duid_fits managed g.iface.managed (duid_read opening.calls) g.is_such.other.among fit in
+        let same_own : life.client.own ≡ map (λ spec. spec.mac) specs = own_stays managed mets opening.life is.turns ∙ opened_own managed specs opening is.opens in
+        let found = iface_basis index net (λ n. LeasedBasis site n shown) (λ n. LeasedBasis6 site n shown) life.client.own (start (number_of g.iface.managed)) duid _
+        g.iface shown g.is_such.other.keeps.carries (leases.based site _ g.iface shown refl g.is_such.fits fits_duid heard g.is_such.leased.carries)
+        (λ lease ia item held among among_items address.
+        subst (λ (own : List Mac). LeasedBasis6 (site_in own g.iface) (Family.V6 item.net) shown) (sym same_own)
+        (g.is_such.items_so lease ia item held among among_items address)) g.gives in
         record {
           holder = g.iface.managed;
           among = g.is_such.other.among;
@@ -158,9 +203,9 @@ weaker site net past (inl line) = inl line
 weaker site net past (inr (inl choice)) = inr (inl (local_weaker site net past choice))
 weaker site net past (inr (inr leased)) = inr (inr leased)
 
-pub have_basis : (Carries : Relation) → AreBased Carries → AddressesHaveBasis
-have_basis Carries leases managed specs opening mets is fit octets index net has =
-    let strong = have_strong managed specs opening mets is Carries leases fit octets index net has in
+pub have_basis : (Carries : Relation) → AreBased Carries → ItemsAreBased → AddressesHaveBasis
+have_basis Carries leases items managed specs opening mets is fit octets index net has =
+    let strong = have_strong managed specs opening mets is Carries leases items fit octets index net has in
     record {
       holder = strong.holder;
       among = strong.among;

@@ -22,7 +22,7 @@ use Rattle.turn_model.specs.HostInLife.{Running, running_opened, running_turned,
 use Rattle.turn_model.proofs.HostInLifeTurns.{opening_holds, turn_in_life}
 use Rattle.evidence.specs.Laws.{AreOctets, AreNumbered, AreMade}
 use Rattle.evidence.specs.HeldAddresses.{mets_of, RestOnEvidence, OpeningRests, TurnsRest}
-use Rattle.evidence.proofs.Based.{AreBased, have_basis}
+use Rattle.evidence.proofs.Based.{AreBased, ItemsAreBased, have_basis}
 use Rattle.evidence_words.proofs.Carrying.{Relation}
 
 cut_octets : (len : ℕ) (bytes : List ℕ) → AreBytes bytes → AreBytes (take len bytes)
@@ -61,7 +61,7 @@ module _ (managed : List Managed) where
 
 -- ---- the host's rows
 
-module _ (Carries : Relation) (leases : AreBased Carries) (managed : List Managed) where
+module _ (Carries : Relation) (leases : AreBased Carries) (items : ItemsAreBased) (managed : List Managed) where
   both : (a b : Bool) → a ≡ true → b ≡ true → (a && b) ≡ true
   both true b p q = q
   both false b p q = cc
@@ -79,16 +79,16 @@ module _ (Carries : Relation) (leases : AreBased Carries) (managed : List Manage
       subst (λ rows. has_row rows (Addr index net) ≡ true) as_wanted held in
       let same : after.life ≡ life_after first.life (mets_of managed first turns) =
       sym (ap (λ (running : Running). running.life) reached) ∙ life_met managed turns first in
-      have_basis Carries leases managed specs (opening_of managed specs world) (mets_of managed first turns)
+      have_basis Carries leases items managed specs (opening_of managed specs world) (mets_of managed first turns)
       (record { numbered = numbered; opens = is_opening managed specs world; turns = are_made managed turns first }) fit (mets_octets managed turns first octets) index net
       (subst (λ (life : Life). has_row (rows_of life.client) (Addr index net) ≡ true) same wanted)
 
-pub opening_rests : (Carries : Relation) → AreBased Carries → OpeningRests
-opening_rests Carries leases managed specs world fit numbered in_order none =
-    rest Carries leases managed specs world [] (running_opened managed specs world) fit numbered tt refl (opening_holds managed specs world in_order none).as_wanted
+pub opening_rests : (Carries : Relation) → AreBased Carries → ItemsAreBased → OpeningRests
+opening_rests Carries leases items managed specs world fit numbered in_order none =
+    rest Carries leases items managed specs world [] (running_opened managed specs world) fit numbered tt refl (opening_holds managed specs world in_order none).as_wanted
 
-pub turns_rest : (Carries : Relation) → AreBased Carries → TurnsRest
-turns_rest Carries leases managed specs world earlier given fit numbered octets in_order none =
-    rest Carries leases managed specs world (earlier ++ given ∷ []) (running_turned managed (life_run managed specs world earlier) given) fit numbered octets
+pub turns_rest : (Carries : Relation) → AreBased Carries → ItemsAreBased → TurnsRest
+turns_rest Carries leases items managed specs world earlier given fit numbered octets in_order none =
+    rest Carries leases items managed specs world (earlier ++ given ∷ []) (running_turned managed (life_run managed specs world earlier) given) fit numbered octets
     (one_more managed earlier (running_opened managed specs world) given)
     (turn_in_life managed specs world in_order earlier given none).as_wanted

@@ -1,16 +1,23 @@
 -- What an interface carries of the turns shown of it, and that each turn keeps it.
 use Rattle.std.proofs.Common.{◌≡◌, ℕ, ◌+◌, ◌*◌, nat_eq, ◌<◌, ◌^◌, Bool, true, false, not, ◌&&◌, ◌||◌, List, [], ◌∷◌, ◌++◌, Option, Some, None, refl, sym, ◌∙◌, ap, subst, append_assoc, append-nil, arith}
 use Rattle.std.proofs.lemmas.Bool.Decides.{nat_tests}
-use Rattle.std.specs.Prelude.{◌≢◌, ◌==◌, if◌then◌else◌, option_map, IfSome}
+use Rattle.std.specs.Prelude.{◌≢◌, ◌==◌, if◌then◌else◌, option_map, option_to_list, map, IfSome}
+use Rattle.std.specs.List.{AllByRecursion}
 use Rattle.machine.specs.Moment.{is_due}
 use Rattle.net_types.proofs.CaseLaws.{gated, split}
 use Rattle.net_types.specs.declared.address.Mac.{Mac}
 use Rattle.net_types.specs.declared.interface.IfIndex.{IfIndex}
 use Rattle.frame_link.specs.declared.arp.ArpView.{ArpView}
 use Rattle.ipv4ll.specs.declared.link_local.State.{State}
-use Rattle.ipv4ll.specs.declared.link_local.State.TheVariants.{Off}
+use Rattle.ipv4ll.specs.declared.link_local.State.TheVariants.{Off, Armed, Chosen, Waiting}
 use Rattle.ipv4ll.specs.Table.{ll_tick, ll_hears}
 use Rattle.v4_frames.specs.Heard.{HeardMessage, heard4_in}
+use Rattle.v6_frames.specs.Heard.{HeardMessage6, heard6_in}
+use Rattle.v6_client.specs.declared.states.Carrier6.TheVariants as carrier6
+use Rattle.v6_client.specs.declared.states.State6.TheVariants as client6
+use Rattle.v6_client.specs.Moves.{OutContent}
+use Rattle.v6_client.specs.Runs.{Turned6, carrier_turned, contested_turned, hears_turned, rebind_turned, tick_turned}
+use Rattle.v6_client.specs.Saying.{SpokenContent}
 use Rattle.lease_text.specs.Bounds.{FitsLease}
 use Rattle.lease_text.specs.Leases.{LeaseContent, terms_of}
 use Rattle.v4_client.specs.declared.states.Carrier.TheVariants.{Up}
@@ -35,21 +42,27 @@ use Rattle.world.specs.declared.wakes.Event.TheVariants.{Frame, Carrier, Duplica
 use Rattle.settings.specs.declared.interfaces.Managed.{Managed}
 use Rattle.client_model.specs.declared.interfaces.Iface.{Iface}
 use Rattle.script_model.specs.IfaceSets.{is_in}
-use Rattle.client_model.specs.declared.steps.Said.{Said}
+use Rattle.client_model.specs.Messages.{Said, Dhcp6}
 use Rattle.client_model.specs.ClientSettings.{ask_of, runs_dhcp4}
+use Rattle.client_model.specs.ClientSettings6.{runs_dhcp6}
+use Rattle.client_model.specs.Dhcp6Steps.{dhcp6_step, said6_in, sent_by}
 use Rattle.client_model.specs.Dhcp4Steps.{arms, arrival_at, dhcp4_packet, dhcp4_step, dhcp4_takes, followed, holds_lease, said_in}
+use Rattle.client_model.specs.declared.steps.TimedMachine.TheVariants.{Dhcp4, LinkLocal}
 use Rattle.client_model.specs.IfaceSteps.{IfaceStep, index_of, silent, then_step}
 use Rattle.client_model.specs.KeptLeases.{Beginning}
 use Rattle.client_model.specs.LocalSteps.{armed, local_hears}
-use Rattle.client_model.specs.Interfaces.{carried, carrier_comes, carrier_goes, machines_rebind, halted, released, resting, restarted, ticked, told_at_stop, unsent_in}
-use Rattle.client_model.specs.IfaceTurns.{arp_heard, hears_either, hears_message, hears_packet, input_step, taken}
+use Rattle.client_model.specs.Interfaces.{carried, carrier_comes, carrier_goes, machine_ticked, machines_rebind, halted, released, resting, restarted, ticked, told_at_stop, unsent_in}
+use Rattle.client_model.specs.IfaceTurns.{arp_heard, hears_either, hears_message, hears_message6, hears_packet, input_step, taken}
 use Rattle.evidence_words.specs.Entries.{Entry, Offer, offers_on}
 use Rattle.evidence_words.specs.Inputs.{Site, index_at, arp_on, carrier_after, has_carrier, is_stop, is_stopped}
 use Rattle.local_evidence.specs.LinkLocalBasis.{Undisturbed}
 use Rattle.evidence_words.proofs.Carrying.{at_site, entry}
 use Rattle.evidence_words.proofs.Offers.{Offered}
-use Rattle.local_evidence.proofs.Ticks.{Bears, BearsAmid, at_state, tick_amid, more_amid, heard_bears, quiet_bears, restarted_bears, clean_bears}
-use Rattle.evidence.proofs.Sane.{is_on, AreOff, Sane, Goes, armed_has, followed_has, step_sane, step_unsaid, tick_goes, packet_goes, begin_goes, rebind_goes, taking, taking_sane, message_goes, local_sane, arms_sane, stops_sane, drops_sane, restarted_sane}
+use Rattle.local_evidence.proofs.Ticks.{Unsaid, Bears, BearsAmid, at_state, tick_amid, more_amid, heard_bears, quiet_bears, restarted_bears, clean_bears}
+use Rattle.local_evidence.proofs.Announced.{AnnouncesNone}
+use Rattle.evidence.proofs.Off6 as off6
+use Rattle.evidence.proofs.Off6.{IsOff}
+use Rattle.evidence.proofs.Sane.{is_on, AreOff, Sane, Goes, armed_has, followed_has, step_sane, step_unsaid, tick_goes, packet_goes, begin_goes, rebind_goes, taking, taking_sane, message_goes, local_sane, dhcp6_sane, if_dhcp6_sane, arms_sane, stops_sane, drops_sane, restarted_sane}
 
 pub record Keeps (site : Site) (clean : Type 0) (f : Iface) (past : List Entry) : Type 0 where
   pub sane : Sane site.managed f
@@ -63,6 +76,41 @@ record KeepsAmid (site : Site) (clean : Type 0) (e : Entry) (said : List Said) (
   stopped : f.stopped ≡ is_stopped past
   carrier : f.stopped ≡ false → f.up ≡ has_carrier site past
   bears : BearsAmid (Undisturbed site) site clean e said past f.local.state
+
+-- ---- what DHCPv6 says announces nothing
+
+silent6 : (mac : Mac) (f : Iface) (out : OutContent) → AllByRecursion (AnnouncesNone mac) (said6_in f out)
+silent6 mac f out = by_say out.say
+  where
+    by_say : (say : Option SpokenContent) → AllByRecursion (AnnouncesNone mac) (map (λ spoken. Dhcp6 (sent_by f spoken)) (option_to_list say))
+    by_say None = tt
+    by_say (Some spoken) = (tt, tt)
+
+unsaid6 : (site : Site) (state : State) (more : List Said) → AllByRecursion (AnnouncesNone site.managed.spec.mac) more → Unsaid site state more
+unsaid6 site Off more none = tt
+unsaid6 site (Armed due waits fallback) more none = tt
+unsaid6 site (Chosen conflicts acd) more none = none
+unsaid6 site (Waiting conflicts due) more none = tt
+
+-- a step of DHCPv6 where it runs
+abbrev if_dhcp6 : Iface → Turned6 → IfaceStep
+if_dhcp6 f turned = if runs_dhcp6 f.managed.conf then dhcp6_step f turned else silent f
+
+if_silent6 : (mac : Mac) (f : Iface) (turned : Turned6) → AllByRecursion (AnnouncesNone mac) (if_dhcp6 f turned).said
+if_silent6 mac f turned =
+    gated (λ (step : IfaceStep). AllByRecursion (AnnouncesNone mac) step.said) (runs_dhcp6 f.managed.conf) (dhcp6_step f turned) (silent f) (silent6 mac f turned.out) tt
+
+-- its steps are nothing to what is carried
+then6_keeps : (site : Site) (clean : Type 0) (turns : List Entry) (f : Iface) (turned : Turned6) → Keeps site clean f turns
+    → Keeps site clean (if_dhcp6 f turned).iface turns
+then6_keeps site clean turns f turned k = by (runs_dhcp6 f.managed.conf) (if_dhcp6_sane site.managed f turned k.sane)
+  where
+    after : Bool → Iface
+    after runs = (if runs then dhcp6_step f turned else silent f).iface
+
+    by : (runs : Bool) → Sane site.managed (after runs) → Keeps site clean (after runs) turns
+    by true sane = record { sane = sane; stopped = k.stopped; carrier = k.carrier; bears = k.bears }
+    by false sane = k
 
 -- ---- machines that are off
 
@@ -90,7 +138,7 @@ apart a b h = grind (arith, nat_tests)
 
 module _ (site : Site) (clean : Type 0) (at salt : ℕ) (early : at < 10 ^ 15) (bytes : List ℕ) (offers : List Offer) (past : List Entry) where
   abbrev Spelled : List Said → Type 0
-  Spelled said = Offered site.managed.spec (ask_of site.managed) clean said (offers_on (index_at site) offers)
+  Spelled said = Offered site.managed.spec (ask_of site.duid site.managed) clean said (offers_on (index_at site) offers)
 
   abbrev After : Event → Iface → Type 0
   After event f = Keeps site clean f (entry at event bytes offers ∷ past)
@@ -153,6 +201,31 @@ module _ (site : Site) (clean : Type 0) (at salt : ℕ) (early : at < 10 ^ 15) (
       local_then : State
       local_then = (followed f.managed.conf at (holds_lease f) step.news f.local).state
 
+  -- more is said that announces nothing
+  more_said : (event : Event) (said more : List Said) (f : Iface) → AllByRecursion (AnnouncesNone site.managed.spec.mac) more → Before event said f
+      → Before event (said ++ more) f
+  more_said event said more f none b = record {
+    sane = b.sane;
+    stopped = b.stopped;
+    carrier = b.carrier;
+    bears = more_amid (Undisturbed site) site clean (entry at event bytes offers) past salt said more f.local.state (unsaid6 site f.local.state more none) b.bears;
+  }
+
+  -- ---- a step of DHCPv6 amid the turn
+
+  dhcp6_amid : (event : Event) (said : List Said) (f : Iface) (turned : Turned6) → (f.dhcp6.state ≡ client6.Off → IsOff turned) → Before event said f
+      → Before event (said ++ said6_in f turned.out) (dhcp6_step f turned).iface
+  dhcp6_amid event said f turned stays b =
+      let more : Before event (said ++ said6_in f turned.out) f = more_said event said (said6_in f turned.out) f (silent6 site.managed.spec.mac f turned.out) b in
+      record { sane = dhcp6_sane site.managed f turned stays b.sane; stopped = b.stopped; carrier = b.carrier; bears = more.bears }
+
+  -- nothing more comes of the input
+  dhcp6_keeps : (event : Event) (said : List Said) (f : Iface) (turned : Turned6) → (f.dhcp6.state ≡ client6.Off → IsOff turned) → f.stopped ≡ false
+      → Passes event f.up → Before event said f → AfterInput event said (dhcp6_step f turned)
+  dhcp6_keeps event said f turned stays going passes b h =
+      passed_keeps event (said ++ said6_in f turned.out) (dhcp6_step f turned).iface going passes (dhcp6_amid event said f turned stays b)
+      (subst Spelled (sym (append-nil (said ++ said6_in f turned.out))) h)
+
   -- where DHCPv4 runs
   abbrev perhaps : Bool → Iface → Step4 → IfaceStep
   perhaps runs f step = if runs then dhcp4_step at f step else silent f
@@ -187,22 +260,35 @@ module _ (site : Site) (clean : Type 0) (at salt : ℕ) (early : at < 10 ^ 15) (
         bears = armed_has (λ s. Bears (Undisturbed site) site clean s turns) tt (λ due waits fallback. tt) f.managed.conf at f.local.iface f.local.state k.bears;
       }
 
-  -- DHCPv4 goes a step where it runs, and then link-local is armed
-  armed_keeps : (event : Event) (said : List Said) (runs : Bool) (f : Iface) (step : Step4) → f.stopped ≡ false → f.up ≡ true → Passes event true
-      → (runs ≡ true → Goes site.managed f step) → Before event said f → AfterInput event said (then_step (perhaps runs f step) (arms at))
-  armed_keeps event said runs f step going up passes goes b h =
+  -- arming says nothing
+  armed_said : (said more rest : List Said) (g : Iface) (held : Bool)
+      → Spelled (said ++ ((more ++ (if held then silent g else silent (record g { local = armed g.managed.conf at g.local })).said) ++ rest))
+      → Spelled (((said ++ more) ++ rest) ++ [])
+  armed_said said more rest g held h = subst Spelled (in_order said more rest) (by held h)
+    where
+      by : (held : Bool) → Spelled (said ++ ((more ++ (if held then silent g else silent (record g { local = armed g.managed.conf at g.local })).said) ++ rest))
+          → Spelled (said ++ ((more ++ []) ++ rest))
+      by true spelled = spelled
+      by false spelled = spelled
+
+      in_order : (a b c : List Said) → a ++ ((b ++ []) ++ c) ≡ ((a ++ b) ++ c) ++ []
+      in_order a b c = ap (λ (x : List Said). a ++ (x ++ c)) (append-nil b) ∙ sym (append_assoc a b c) ∙ sym (append-nil ((a ++ b) ++ c))
+
+  -- DHCPv4 goes a step where it runs, then link-local is armed, and DHCPv6 goes a step where it runs
+  armed_keeps : (event : Event) (said : List Said) (runs : Bool) (f : Iface) (step : Step4) (turned : Iface → Turned6) → f.stopped ≡ false → f.up ≡ true
+      → Passes event true → (runs ≡ true → Goes site.managed f step) → Before event said f
+      → AfterInput event said (then_step (then_step (perhaps runs f step) (arms at)) (λ g. if_dhcp6 g (turned g)))
+  armed_keeps event said runs f step turned going up passes goes b h =
       let first : IfaceStep = perhaps runs f step in
+      let second : Iface = (arms at first.iface).iface in
+      let six : List Said = (if_dhcp6 second (turned second)).said in
       let going_then : first.iface.stopped ≡ false = perhaps_stopped runs f step ∙ going in
       let up_then : first.iface.up ≡ true = perhaps_up runs f step ∙ up in
-      arms_keeps (entry at event bytes offers ∷ past) first.iface (on_when first.iface up_then going_then)
-      (passed_keeps event (said ++ first.said) first.iface going_then (subst (λ (u : Bool). Passes event u) (sym up_then) passes)
-      (perhaps_amid event said runs f step goes b) (bracket said first.said [] (armed_said first.iface (holds_lease first.iface) first.said h)))
-    where
-      -- arming says nothing
-      armed_said : (g : Iface) (held : Bool) (more : List Said)
-          → Spelled (said ++ (more ++ (if held then silent g else silent (record g { local = armed g.managed.conf at g.local })).said)) → Spelled (said ++ (more ++ []))
-      armed_said g true more spelled = spelled
-      armed_said g false more spelled = spelled
+      then6_keeps site clean (entry at event bytes offers ∷ past) second (turned second)
+      (arms_keeps (entry at event bytes offers ∷ past) first.iface (on_when first.iface up_then going_then)
+      (passed_keeps event ((said ++ first.said) ++ six) first.iface going_then (subst (λ (u : Bool). Passes event u) (sym up_then) passes)
+      (more_said event (said ++ first.said) six first.iface (if_silent6 site.managed.spec.mac second (turned second)) (perhaps_amid event said runs f step goes b))
+      (armed_said said first.said six first.iface (holds_lease first.iface) h)))
 
   -- ---- frames
 
@@ -227,10 +313,18 @@ module _ (site : Site) (clean : Type 0) (at salt : ℕ) (early : at < 10 ^ 15) (
   no_packet : (index len : ℕ) (up : Bool) → arp_on (index_at site) (Frame index len) bytes ≡ None → Passes (Frame index len) up
   no_packet index len up none = record { runs = refl; carries = refl; stays = tt; none = none }
 
-  message_keeps : (index len : ℕ) (said : List Said) (f : Iface) (message : Option HeardMessage) → f.stopped ≡ false → Before (Frame index len) said f
-      → arp_on (index_at site) (Frame index len) bytes ≡ None → AfterInput (Frame index len) said (hears_message at salt message f)
-  message_keeps index len said f None going b none h = passed_keeps (Frame index len) said f going (no_packet index len f.up none) b h
-  message_keeps index len said f (Some heard) going b none h =
+  message6_keeps : (index len : ℕ) (said : List Said) (f : Iface) (message : Option HeardMessage6) → f.stopped ≡ false → Before (Frame index len) said f
+      → arp_on (index_at site) (Frame index len) bytes ≡ None → AfterInput (Frame index len) said (hears_message6 at salt message f)
+  message6_keeps index len said f None going b none = passed_keeps (Frame index len) said f going (no_packet index len f.up none) b
+  message6_keeps index len said f (Some heard) going b none =
+      dhcp6_keeps (Frame index len) said f (hears_turned at salt heard.message f.dhcp6) (off6.hears_off at salt f.dhcp6 heard.message) going
+      (no_packet index len f.up none) b
+
+  message_keeps : (index len : ℕ) (said : List Said) (f : Iface) (message : Option HeardMessage) (message6 : Option HeardMessage6) → f.stopped ≡ false
+      → Before (Frame index len) said f → arp_on (index_at site) (Frame index len) bytes ≡ None
+      → AfterInput (Frame index len) said (hears_message at salt message message6 f)
+  message_keeps index len said f None message6 going b none h = message6_keeps index len said f message6 going b none h
+  message_keeps index len said f (Some heard) message6 going b none h =
       let arrival : Arrival = arrival_at at heard in
       let step : Step4 = heard_step salt arrival f.dhcp4 in
       let with_values : Iface = taking site.managed f b.sane salt arrival early in
@@ -244,11 +338,11 @@ module _ (site : Site) (clean : Type 0) (at salt : ℕ) (early : at < 10 ^ 15) (
       (step_amid (Frame index len) said with_values step (message_goes site.managed f b.sane salt arrival early) taken_amid)
       (subst Spelled (sym (append-nil (said ++ said_in step))) h)
 
-  frame_keeps : (index len : ℕ) (said : List Said) (f : Iface) (arp : Option ArpView) (message : Option HeardMessage) → f.stopped ≡ false
-      → Before (Frame index len) said f → arp_on (index_at site) (Frame index len) bytes ≡ arp
-      → AfterInput (Frame index len) said (hears_either site.own at salt arp message f)
-  frame_keeps index len said f (Some arp) message going b heard = packet_keeps index len said f arp b heard
-  frame_keeps index len said f None message going b none = message_keeps index len said f message going b none
+  frame_keeps : (index len : ℕ) (said : List Said) (f : Iface) (arp : Option ArpView) (message : Option HeardMessage) (message6 : Option HeardMessage6)
+      → f.stopped ≡ false → Before (Frame index len) said f → arp_on (index_at site) (Frame index len) bytes ≡ arp
+      → AfterInput (Frame index len) said (hears_either site.own at salt arp message message6 f)
+  frame_keeps index len said f (Some arp) message message6 going b heard = packet_keeps index len said f arp b heard
+  frame_keeps index len said f None message message6 going b none = message_keeps index len said f message message6 going b none
 
   -- ---- the carrier
 
@@ -256,8 +350,9 @@ module _ (site : Site) (clean : Type 0) (at salt : ℕ) (early : at < 10 ^ 15) (
   comes_keeps : (index : ℕ) (said : List Said) (f : Iface) → (index_at site == index) ≡ true → f.stopped ≡ false → f.up ≡ false
       → Before (Carrier index true) said f → AfterInput (Carrier index true) said (carrier_comes at salt f)
   comes_keeps index said f here going down b h =
-      arms_keeps turns first.iface (on_when first.iface (perhaps_up (runs_dhcp4 f.managed.conf) lit step) (perhaps_stopped (runs_dhcp4 f.managed.conf) lit step ∙ going))
-      (begun (runs_dhcp4 f.managed.conf) refl)
+      then6_keeps site clean turns second (carrier_turned carrier6.Up at salt second.dhcp6)
+      (arms_keeps turns first.iface (on_when first.iface (perhaps_up (runs_dhcp4 f.managed.conf) lit step) (perhaps_stopped (runs_dhcp4 f.managed.conf) lit step ∙ going))
+      (begun (runs_dhcp4 f.managed.conf) refl))
     where
       turns : List Entry
       turns = entry at (Carrier index true) bytes offers ∷ past
@@ -271,6 +366,9 @@ module _ (site : Site) (clean : Type 0) (at salt : ℕ) (early : at < 10 ^ 15) (
       first : IfaceStep
       first = perhaps (runs_dhcp4 f.managed.conf) lit step
 
+      second : Iface
+      second = (arms at first.iface).iface
+
       off : AreOff f
       off = b.sane.off (out_when f down)
 
@@ -281,6 +379,7 @@ module _ (site : Site) (clean : Type 0) (at salt : ℕ) (early : at < 10 ^ 15) (
         hosts = b.sane.hosts;
         off = λ out. absurd (let bad : true ≡ false = sym (on_when lit refl going) ∙ out in cc);
         without = b.sane.without;
+        without6 = b.sane.without6;
         aside = b.sane.aside;
       }
 
@@ -339,7 +438,7 @@ module _ (site : Site) (clean : Type 0) (at salt : ℕ) (early : at < 10 ^ 15) (
   rebind_keeps : (index : ℕ) (up : Bool) (said : List Said) (f : Iface) → f.stopped ≡ false → f.up ≡ up → Before (Rebind index) said f
       → AfterInput (Rebind index) said (if up then machines_rebind at salt f else silent f)
   rebind_keeps index true said f going up b =
-      armed_keeps (Rebind index) said (runs_dhcp4 f.managed.conf) f (rebind_step at salt f.dhcp4) going up (quietly (Rebind index) true refl refl tt refl)
+      armed_keeps (Rebind index) said (runs_dhcp4 f.managed.conf) f (rebind_step at salt f.dhcp4) (λ g. rebind_turned at salt g.dhcp6) going up (quietly (Rebind index) true refl refl tt refl)
       (rebind_goes site.managed f b.sane at salt early (on_when f up going)) b
   rebind_keeps index false said f going down b = passed_keeps (Rebind index) said f going (quietly (Rebind index) f.up refl refl tt refl) b
 
@@ -366,7 +465,7 @@ module _ (site : Site) (clean : Type 0) (at salt : ℕ) (early : at < 10 ^ 15) (
       → AfterInput event said (taken site.own at salt event bytes f)
   running_keeps (Frame index len) said f going b =
       split (index_of f == index)
-      (λ here. rw here (frame_keeps index len said f (arp_heard bytes) (heard4_in f.managed.spec.mac bytes) going b (rw (mine f index b.sane.same here) refl)))
+      (λ here. rw here (frame_keeps index len said f (arp_heard bytes) (heard4_in f.managed.spec.mac bytes) (heard6_in f.managed.spec.mac bytes) going b (rw (mine f index b.sane.same here) refl)))
       (λ elsewhere. rw elsewhere (passed_keeps (Frame index len) said f going (no_packet index len f.up (rw (mine f index b.sane.same elsewhere) refl)) b))
   running_keeps (Carrier index to) said f going b =
       split (index_of f == index)
@@ -374,7 +473,10 @@ module _ (site : Site) (clean : Type 0) (at salt : ℕ) (early : at < 10 ^ 15) (
       (λ elsewhere. rw elsewhere (passed_keeps (Carrier index to) said f going (quietly (Carrier index to) f.up refl (rw (mine f index b.sane.same elsewhere) refl)
       (λ same up. absurd (apart _ _ (mine f index b.sane.same elsewhere) same)) refl) b))
   running_keeps (Duplicate index addr) said f going b =
-      passed_keeps (Duplicate index addr) said f going (quietly (Duplicate index addr) f.up refl refl tt refl) b
+      split (index_of f == index)
+      (λ here. rw here (dhcp6_keeps (Duplicate index addr) said f (contested_turned addr at salt f.dhcp6) (off6.contested_off at salt f.dhcp6 addr) going
+      (quietly (Duplicate index addr) f.up refl refl tt refl) b))
+      (λ elsewhere. rw elsewhere (passed_keeps (Duplicate index addr) said f going (quietly (Duplicate index addr) f.up refl refl tt refl) b))
   running_keeps (Release index) said f going b =
       split (index_of f == index)
       (λ here. rw here (release_keeps index said f b))
@@ -404,11 +506,14 @@ module _ (site : Site) (clean : Type 0) (salt : ℕ) (e : Entry) (early : e.mome
 
   abbrev AfterTurn : IfaceStep → Type 0
   AfterTurn step =
-      Offered site.managed.spec (ask_of site.managed) clean step.said (offers_on (index_at site) e.offers) → Keeps site clean step.iface (e ∷ past)
+      Offered site.managed.spec (ask_of site.duid site.managed) clean step.said (offers_on (index_at site) e.offers) → Keeps site clean step.iface (e ∷ past)
 
-  -- after both ticks
-  ticks_amid : (f : Iface) → Keeps site (Unit {0}) f past → KeepsAmid site clean e (ticked e.moment salt f).said (ticked e.moment salt f).iface past
-  ticks_amid f k =
+  -- after the ticks of DHCPv4 and of link-local
+  abbrev two_ticked : Iface → IfaceStep
+  two_ticked f = then_step (machine_ticked Dhcp4 e.moment salt f) (machine_ticked LinkLocal e.moment salt)
+
+  two_amid : (f : Iface) → Keeps site (Unit {0}) f past → KeepsAmid site clean e (two_ticked f).said (two_ticked f).iface past
+  two_amid f k =
       let step : Step4 = tick_step e.moment salt f.dhcp4 in
       let goes : Goes site.managed f step = tick_goes site.managed f k.sane e.moment salt early in
       let first : Iface = (dhcp4_step e.moment f step).iface in
@@ -422,6 +527,13 @@ module _ (site : Site) (clean : Type 0) (salt : ℕ) (e : Entry) (early : e.mome
             (followed_has (λ s. Bears (Undisturbed site) site (Unit {0}) s past) tt (λ due waits fallback. tt)
             f.managed.conf e.moment (holds_lease f) step.news f.local.iface f.local.state k.bears);
       }
+
+  -- and of DHCPv6
+  ticks_amid : (f : Iface) → Keeps site (Unit {0}) f past → KeepsAmid site clean e (ticked e.moment salt f).said (ticked e.moment salt f).iface past
+  ticks_amid f k =
+      let two : IfaceStep = two_ticked f in
+      dhcp6_amid site clean e.moment salt early e.bytes e.offers past e.event two.said two.iface (tick_turned e.moment salt two.iface.dhcp6)
+      (off6.tick_off e.moment salt two.iface.dhcp6) (two_amid f k)
 
   tick_keeps : (f : Iface) → Keeps site (Unit {0}) f past → AfterTurn (from_tick f)
   tick_keeps f k =
@@ -455,13 +567,14 @@ kept_begins : (kept : Option LeaseContent) → IfSome kept FitsLease → FitsBeg
 kept_begins None within = tt
 kept_begins (Some lease) within = within.terms
 
-rests_sane : (b : Beginning) → IfSome b.kept FitsLease → (up : Bool) → Sane b.managed (record (resting b) { up = up })
+rests_sane : (b : Beginning) → IfSome b.kept4 FitsLease → (up : Bool) → Sane b.managed (record (resting b) { up = up })
 rests_sane b within up = record {
   same = refl;
   settings = refl;
-  hosts = record { state = tt; kept = kept_begins b.kept within; held = tt };
+  hosts = record { state = tt; kept = kept_begins b.kept4 within; held = tt };
   off = λ out. record { link_local = refl; dhcp4 = refl };
   without = λ none. refl;
+  without6 = λ none. refl;
   aside = λ held. refl;
 }
 
@@ -473,16 +586,17 @@ begins_quiet turn (Some terms) =
     (rebooting turn (new_exchange turn terms.net.ip) Four (turn.at + SECOND * turn.site.reboot)) refl refl
 
 -- after what an opening shows, which is a turn without input
-pub opens_keeps : (own : List Mac) (clean : Type 0) (at salt : ℕ) → at < 10 ^ 15 → (offers : List Offer) (b : Beginning) → IfSome b.kept FitsLease → (up : Bool)
-    → Keeps (at_site own up b.managed) clean (if up then carrier_comes at salt (resting b) else silent (resting b)).iface (entry at Quiet [] offers ∷ [])
+pub opens_keeps : (own : List Mac) (clean : Type 0) (at salt : ℕ) → at < 10 ^ 15 → (offers : List Offer) (b : Beginning) → IfSome b.kept4 FitsLease → (up : Bool)
+    → Keeps (at_site own up b) clean (if up then carrier_comes at salt (resting b) else silent (resting b)).iface (entry at Quiet [] offers ∷ [])
 opens_keeps own clean at salt early offers b within true =
-    arms_keeps (at_site own true m) clean at salt early [] offers [] turns first.iface (on_first (runs_dhcp4 m.conf)) (begun (runs_dhcp4 m.conf) refl)
+    then6_keeps site clean turns second (carrier_turned carrier6.Up at salt second.dhcp6)
+    (arms_keeps site clean at salt early [] offers [] turns first.iface (on_first (runs_dhcp4 m.conf)) (begun (runs_dhcp4 m.conf) refl))
   where
     m : Managed
     m = b.managed
 
     site : Site
-    site = at_site own true m
+    site = at_site own true b
 
     turns : List Entry
     turns = entry at Quiet [] offers ∷ []
@@ -498,6 +612,9 @@ opens_keeps own clean at salt early offers b within true =
 
     first : IfaceStep
     first = first_when (runs_dhcp4 m.conf)
+
+    second : Iface
+    second = (arms at first.iface).iface
 
     on_first : (runs : Bool) → is_on (first_when runs).iface ≡ true
     on_first true = refl

@@ -1,3 +1,4 @@
+mod Off6
 pub mod Sane
 pub mod Keeping
 pub mod Turns
@@ -7,3 +8,5 @@ pub mod HostRests
 pub mod Numbered
 pub mod Foretold
 pub mod Leasing
+pub mod Lives
+pub mod Items

@@ -1,7 +1,7 @@
 -- Which interface an address row comes from, and the basis that it has there.
-use Rattle.std.proofs.Common.{ℕ, ◌≡◌, Bool, true, false, cond, not, ◌&&◌, ◌||◌, List, [], ◌∷◌, ◌++◌, ◌⊎◌, inl, inr, Option, Some, None, refl, sym, ap, subst, ◌∙◌}
+use Rattle.std.proofs.Common.{ℕ, suc, arith, ◌≡◌, Bool, true, false, cond, not, ◌&&◌, ◌||◌, List, [], ◌∷◌, ◌++◌, ◌⊎◌, inl, inr, Option, Some, None, refl, sym, ap, subst, ◌∙◌}
 use Rattle.std.specs.Prelude.{filter, flat_map, nat_lt, ◌==◌}
-use Rattle.std.specs.List.{AllByRecursion}
+use Rattle.std.specs.List.{AllByRecursion, Contains}
 use Rattle.std.proofs.lemmas.List.Folds.{list_any-append}
 use Rattle.std.specs.BTreeMap.{is_at}
 use Rattle.std.specs.Cmp.{Equal-is}
@@ -20,7 +20,12 @@ use Rattle.ipv4ll.specs.Choice.{IsChoice}
 use Rattle.ipv4ll.specs.Table.{held_in}
 use Rattle.v4_options.specs.declared.routes.ClasslessRoute.{ClasslessRoute}
 use Rattle.lease_text.specs.Leases.{LeaseContent}
+use Rattle.lease6_text.specs.declared.lease.Item6.{Item6}
+use Rattle.lease6_text.specs.Leases.{IaLeaseContent, Lease6Content}
+use Rattle.v6_options.specs.declared.ia.IaKind.{IaKind}
+use Rattle.v6_options.specs.declared.ia.IaKind.TheVariants.{Na, Pd}
 use Rattle.v4_client.specs.Clients.{held_of}
+use Rattle.v6_client.specs.Clients as dhcp6
 use Rattle.world.specs.declared.rows.HostRow.{HostRow}
 use Rattle.world.specs.declared.rows.HostRow.TheVariants.{Addr, Route}
 use Rattle.world.specs.declared.rows.Via.TheVariants.{OnLink, Gate4}
@@ -33,7 +38,7 @@ use Rattle.client_model.specs.declared.interfaces.Iface.{Iface}
 use Rattle.net_types.specs.Networks.{network_of, is_within}
 use Rattle.client_model.specs.Clients.{Client, rows_of}
 use Rattle.host_tables.specs.Precedence.{is_kept}
-use Rattle.client_model.specs.WantedRows.{outlet_of, gateway_routes, router_routes, address_rows, static_rows, classless_in, classless_rows, router_for, lease_routes, lease_rows, local_net, local_rows, iface_rows}
+use Rattle.client_model.specs.WantedRows.{outlet_of, gateway_routes, router_routes, address_rows, static_rows, classless_in, classless_rows, router_for, lease_routes, lease_rows, local_net, local_rows, item_rows, ia_rows, lease6_rows, iface_rows}
 use Rattle.host_model.proofs.HostTableRows.{has_filter}
 use Rattle.evidence_words.specs.Entries.{Entry}
 use Rattle.evidence_words.specs.Inputs.{Site}
@@ -41,7 +46,7 @@ use Rattle.local_evidence.specs.LinkLocalBasis.{Undisturbed, StrongBasis}
 use Rattle.evidence.specs.StaticBasis.{StaticBasis}
 use Rattle.local_evidence.proofs.Phases.{HeldSince, Carries}
 use Rattle.local_evidence.proofs.Ticks.{Bears}
-use Rattle.evidence_words.proofs.Carrying.{at_site}
+use Rattle.evidence.proofs.Turns.{site_by}
 use Rattle.evidence.proofs.Keeping.{Keeps}
 
 either : (a b : Bool) → (a || b) ≡ true → (a ≡ true) ⊎ (b ≡ true)
@@ -76,6 +81,12 @@ wanted_giver P row client all has =
     (second _ _ (sym (has_filter (is_kept rows) rows row) ∙ sym (in_order_has (filter (is_kept rows) rows) row) ∙ has))
 
 -- ---- routes are no addresses
+
+among_first : {X : Type 0} (xs : List X) (x : X) → Contains (x ∷ xs) x
+among_first xs x = (0, omega arith, refl)
+
+among_later : {X : Type 0} (first : X) (xs : List X) (x : X) → Contains xs x → Contains (first ∷ xs) x
+among_later first xs x h = (suc h.0, omega (arith, h.1), h.2)
 
 module _ (index : IfIndex) (net : Net) where
   no_network : (b : Bool) (iface : IfIndex) (dest : Net) (metric : ℕ) → has_row (cond b (Route iface dest OnLink metric ∷ []) []) (Addr index net) ≡ false
@@ -160,6 +171,57 @@ module _ (index : IfIndex) (net : Net) where
             (sym (list_any-append (is_at (row_cmp (Addr index net))) (address_rows outlet lease.net) (lease_routes outlet lease.net classless chosen)) ∙ has));
       }
 
+  -- an item of a DHCPv6 lease that is an address
+  record OfItem (outlet : Outlet) (kind : IaKind) (items : List Item6) : Type 0 where
+    item : Item6
+    among : Contains items item
+    is_address : kind ≡ Na
+    same : Addr index net ≡ Addr outlet.iface (Family.V6 item.net)
+
+  of_item : (outlet : Outlet) (kind : IaKind) (item : Item6) → has_row (item_rows outlet kind item) (Addr index net) ≡ true
+      → (kind ≡ Na) × (Addr index net ≡ Addr outlet.iface (Family.V6 item.net))
+  of_item outlet Na item has = (
+    refl,
+    row_cmp_exact (Addr index net) (Addr outlet.iface (Family.V6 item.net))
+        ((Equal-is (row_cmp (Addr index net) (Addr outlet.iface (Family.V6 item.net)))).0 (or_none _ _ refl has)),
+  )
+  of_item outlet Pd item has = absurd cc
+
+  of_items : (outlet : Outlet) (kind : IaKind) (items : List Item6) → has_row (flat_map (item_rows outlet kind) items) (Addr index net) ≡ true
+      → OfItem outlet kind items
+  of_items outlet kind [] has = absurd cc
+  of_items outlet kind (item ∷ items) has =
+      elim (either _ _ (sym (list_any-append (is_at (row_cmp (Addr index net))) (item_rows outlet kind item) (flat_map (item_rows outlet kind) items)) ∙ has)) [
+        | inl here ↦
+            let is = of_item outlet kind item here in record { item = item; among = among_first items item; is_address = is.0; same = is.1 }
+        | inr later ↦
+            let is = of_items outlet kind items later in
+            record { item = is.item; among = among_later item items is.item is.among; is_address = is.is_address; same = is.same }
+      ]
+
+  record OfIa (outlet : Outlet) (ias : List IaLeaseContent) : Type 0 where
+    ia : IaLeaseContent
+    among_ias : Contains ias ia
+    of : OfItem outlet ia.kind ia.items
+
+  of_ias : (outlet : Outlet) (ias : List IaLeaseContent) → has_row (flat_map (ia_rows outlet) ias) (Addr index net) ≡ true → OfIa outlet ias
+  of_ias outlet [] has = absurd cc
+  of_ias outlet (ia ∷ ias) has =
+      elim (either _ _ (sym (list_any-append (is_at (row_cmp (Addr index net))) (ia_rows outlet ia) (flat_map (ia_rows outlet) ias)) ∙ has)) [
+        | inl here ↦ record { ia = ia; among_ias = among_first ias ia; of = of_items outlet ia.kind ia.items here }
+        | inr later ↦
+            let is = of_ias outlet ias later in record { ia = is.ia; among_ias = among_later ia ias is.ia is.among_ias; of = is.of }
+      ]
+
+  record OfLease6 (outlet : Outlet) (held : Option Lease6Content) : Type 0 where
+    lease : Lease6Content
+    is_held : held ≡ Some lease
+    of : OfIa outlet lease.ias
+
+  of_lease6 : (outlet : Outlet) (held : Option Lease6Content) → has_row (lease6_rows outlet held) (Addr index net) ≡ true → OfLease6 outlet held
+  of_lease6 outlet None has = absurd cc
+  of_lease6 outlet (Some lease) has = record { lease = lease; is_held = refl; of = of_ias outlet lease.ias has }
+
   of_local : (outlet : Outlet) (held : Option Ip4) → has_row (local_rows outlet held) (Addr index net) ≡ true
       → (addr : Ip4) × (held ≡ Some addr) × (Addr index net ≡ Addr outlet.iface (Family.V4 (local_net addr)))
   of_local outlet None has = cc
@@ -199,10 +261,10 @@ module _ (index : IfIndex) (net : Net) where
   both_up false true h = cc
   both_up false false h = cc
 
-  -- `Lease` is what is known of an address that a lease gives
-  module _ (Lease : Net → Type 0) (own : List Mac) (start : Bool) (clean : Type 0) (iface : Iface) (past : List Entry) where
+  -- `Lease` is what is known of an address that a lease gives, and `Lease6` so of DHCPv6
+  module _ (Lease Lease6 : Net → Type 0) (own : List Mac) (start : Bool) (duid : List ℕ) (clean : Type 0) (iface : Iface) (past : List Entry) where
     abbrev site : Site
-    site = at_site own start iface.managed
+    site = site_by own start duid iface.managed
 
     abbrev here : IfIndex
     here = iface.managed.spec.index
@@ -222,11 +284,14 @@ module _ (index : IfIndex) (net : Net) where
     abbrev own_rows : List HostRow
     own_rows = local_rows outlet (held_in iface.local.state)
 
+    abbrev item_rows6 : List HostRow
+    item_rows6 = lease6_rows outlet (dhcp6.held_of iface.dhcp6)
+
     abbrev HasRow : List HostRow → Type 0
     HasRow rows = has_row rows (Addr index net) ≡ true
 
     abbrev Found : Type 0
-    Found = (index ≡ here) × (StaticBasis site net past ⊎ (StrongBasis site net past ⊎ Lease net))
+    Found = (index ≡ here) × (StaticBasis site net past ⊎ (StrongBasis site net past ⊎ (Lease net ⊎ Lease6 net)))
 
     by_conf : Keeps site clean iface past → HasRow configured_rows → Found
     by_conf k h =
@@ -257,16 +322,32 @@ module _ (index : IfIndex) (net : Net) where
     by_lease leases h =
         let g = of_lease outlet conf.router (held_of iface.dhcp4) h in (
           same_index here (Family.V4 g.lease.net) g.same,
-          inr (inr (subst Lease (sym (same_net here (Family.V4 g.lease.net) g.same)) (leases g.lease g.is_held))),
+          inr (inr (inl (subst Lease (sym (same_net here (Family.V4 g.lease.net) g.same)) (leases g.lease g.is_held)))),
         )
 
-    pub iface_basis : Keeps site clean iface past → Leases → HasRow (iface_rows iface) → Found
-    iface_basis k leases has =
-        elim (either _ _ (sym (list_any-append (is_at (row_cmp (Addr index net))) (configured_rows ++ leased_rows) own_rows) ∙ has)) [
-          | inl other ↦
-              elim (either _ _ (sym (list_any-append (is_at (row_cmp (Addr index net))) configured_rows leased_rows) ∙ other)) [
-                | inl configured ↦ by_conf k configured
-                | inr leased ↦ by_lease leases leased
+    abbrev pub Leases6 : Type 0
+    Leases6 = (lease : Lease6Content) (ia : IaLeaseContent) (item : Item6) → dhcp6.held_of iface.dhcp6 ≡ Some lease → Contains lease.ias ia
+        → Contains ia.items item → ia.kind ≡ Na → Lease6 (Family.V6 item.net)
+
+    by_lease6 : Leases6 → HasRow item_rows6 → Found
+    by_lease6 leases h =
+        let g = of_lease6 outlet (dhcp6.held_of iface.dhcp6) h in
+        let i = g.of.of in (
+          same_index here (Family.V6 i.item.net) i.same,
+          inr (inr (inr (subst Lease6 (sym (same_net here (Family.V6 i.item.net) i.same)) (leases g.lease g.of.ia i.item g.is_held g.of.among_ias i.among i.is_address)))),
+        )
+
+    pub iface_basis : Keeps site clean iface past → Leases → Leases6 → HasRow (iface_rows iface) → Found
+    iface_basis k leases leases6 has =
+        elim (either _ _ (sym (list_any-append (is_at (row_cmp (Addr index net))) ((configured_rows ++ leased_rows) ++ own_rows) item_rows6) ∙ has)) [
+          | inl of_v4 ↦
+              elim (either _ _ (sym (list_any-append (is_at (row_cmp (Addr index net))) (configured_rows ++ leased_rows) own_rows) ∙ of_v4)) [
+                | inl other ↦
+                    elim (either _ _ (sym (list_any-append (is_at (row_cmp (Addr index net))) configured_rows leased_rows) ∙ other)) [
+                      | inl configured ↦ by_conf k configured
+                      | inr leased ↦ by_lease leases leased
+                    ]
+                | inr choice ↦ by_choice k choice
               ]
-          | inr choice ↦ by_choice k choice
+          | inr items ↦ by_lease6 leases6 items
         ]

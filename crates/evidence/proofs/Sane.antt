@@ -34,10 +34,14 @@ use Rattle.v4_client.specs.Inputs.{release_row, unsent_row}
 use Rattle.v4_client.specs.Messages.{Arrival}
 use Rattle.v4_client.specs.Sound.{IsSoundStep}
 use Rattle.v4_client.proofs.SoundSteps.{unsent_held}
+use Rattle.v6_client.specs.declared.states.State6.TheVariants as client6
+use Rattle.v6_client.specs.Runs.{Turned6}
 use Rattle.settings.specs.declared.interfaces.IfConf.{IfConf}
 use Rattle.settings.specs.declared.interfaces.Managed.{Managed}
 use Rattle.client_model.specs.declared.interfaces.Iface.{Iface}
-use Rattle.client_model.specs.ClientSettings.{runs_dhcp4, settings_of}
+use Rattle.client_model.specs.ClientSettings.{runs_dhcp4, site_of}
+use Rattle.client_model.specs.ClientSettings6.{runs_dhcp6}
+use Rattle.client_model.specs.Dhcp6Steps.{dhcp6_step, tell6_of}
 use Rattle.client_model.specs.Dhcp4Steps.{arms, dhcp4_step, followed, holds_lease, said_in}
 use Rattle.client_model.specs.IfaceSteps.{silent}
 use Rattle.client_model.specs.Interfaces.{machines_drop, machines_stop, restarted}
@@ -47,6 +51,7 @@ use Rattle.local_evidence.proofs.Announced.{AnnouncesNone}
 use Rattle.local_evidence.proofs.Moves.{IsAside, IsFair, tick_fair, heard_fair, arp_fair, begin_fair, rebind_fair}
 use Rattle.local_evidence.proofs.Ticks.{at_state, Unsaid}
 use Rattle.evidence_words.specs.Inputs.{Site}
+use Rattle.evidence.proofs.Off6.{IsOff, drop_off, release_off}
 
 -- it has carrier, and no stop came
 abbrev pub is_on : Iface → Bool
@@ -63,10 +68,11 @@ IsIdle f = (is_on f ≡ false) ⊎ (runs_dhcp4 f.managed.conf ≡ false)
 
 pub record Sane (managed : Managed) (f : Iface) : Type 0 where
   pub same : f.managed ≡ managed
-  pub settings : f.dhcp4.settings ≡ settings_of managed
+  pub settings : f.dhcp4.settings.site ≡ site_of managed
   pub hosts : HasHosts f.dhcp4
   pub off : is_on f ≡ false → AreOff f
   pub without : runs_dhcp4 f.managed.conf ≡ false → f.dhcp4.state ≡ client.Off
+  pub without6 : runs_dhcp6 f.managed.conf ≡ false → f.dhcp6.state ≡ client6.Off
   pub aside : IsAside (is_held f.dhcp4.state) f.local
 
 -- ---- what arming and the news of DHCPv4 make of link-local
@@ -145,6 +151,7 @@ module _ (site : Site) (at : ℕ) (f : Iface) (step : Step4) (goes : Goes site.m
       dhcp4 = (goes.rests (inl out) (sane.off out).dhcp4).off;
     };
     without = λ none. (goes.rests (inr none) (sane.without none)).off;
+    without6 = sane.without6;
     aside = aside_then sane;
   }
 
@@ -174,7 +181,7 @@ module _ (managed : Managed) (f : Iface) (sane : Sane managed f) (at salt : ℕ)
   turn = turn_of at salt f.dhcp4
 
   same_mac : turn.site.iface.mac ≡ managed.spec.mac
-  same_mac = ap (λ s. s.site.iface.mac) sane.settings
+  same_mac = ap (λ s. s.iface.mac) sane.settings
 
   not_idle : is_on f ≡ true → runs_dhcp4 f.managed.conf ≡ true → IsIdle f → ⊥
   not_idle on runs (inl out) = let bad : true ≡ false = sym on ∙ out in cc
@@ -229,13 +236,14 @@ module _ (managed : Managed) (f : Iface) (sane : Sane managed f) (salt : ℕ) (a
     hosts = brought_hosts arrival f.dhcp4 sane.hosts;
     off = λ out. record { link_local = (sane.off out).link_local; dhcp4 = (sane.off out).dhcp4 };
     without = sane.without;
+    without6 = sane.without6;
     aside = sane.aside;
   }
 
   pub message_goes : Goes managed taking (heard_step salt arrival f.dhcp4)
   message_goes = record {
     turn = turn_of arrival.at salt f.dhcp4;
-    mac = ap (λ s. s.site.iface.mac) sane.settings;
+    mac = ap (λ s. s.iface.mac) sane.settings;
     fair = heard_fair (turn_of arrival.at salt f.dhcp4) (answer_to arrival f.dhcp4) f.dhcp4.state;
     sound = heard_steps salt arrival f.dhcp4 early sane.hosts;
     rests = λ idle off. rw off (record { off = refl; quiet = refl });
@@ -252,6 +260,7 @@ local_sane managed f step stays sane = record {
   hosts = sane.hosts;
   off = λ out. record { link_local = stays (sane.off out).link_local; dhcp4 = (sane.off out).dhcp4 };
   without = sane.without;
+  without6 = sane.without6;
   aside = λ held. stays (sane.aside held);
 }
 
@@ -267,6 +276,7 @@ arms_sane managed at f on sane = by (holds_lease f) refl
       hosts = sane.hosts;
       off = λ out. absurd (let bad : true ≡ false = sym on ∙ out in cc);
       without = sane.without;
+      without6 = sane.without6;
       aside = λ held. absurd (let bad : true ≡ false = sym held ∙ sym (holds_so f.dhcp4 sane.hosts) ∙ is in cc);
     }
 
@@ -285,9 +295,39 @@ released_off here Nobody (client.Renewing exchange terms acd due) = refl
 released_off here Server (client.Rebinding exchange terms acd due) = refl
 released_off here Nobody (client.Rebinding exchange terms acd due) = refl
 
--- both machines are off
+-- a step of DHCPv6, which leaves its client off where it is off
+pub dhcp6_sane : (managed : Managed) (f : Iface) (turned : Turned6) → (f.dhcp6.state ≡ client6.Off → IsOff turned) → Sane managed f
+    → Sane managed (dhcp6_step f turned).iface
+dhcp6_sane managed f turned stays sane = record {
+  same = sane.same;
+  settings = sane.settings;
+  hosts = sane.hosts;
+  off = λ out. record { link_local = (sane.off out).link_local; dhcp4 = (sane.off out).dhcp4 };
+  without = sane.without;
+  without6 = λ none. stays (sane.without6 none);
+  aside = sane.aside;
+}
+
+-- a step of DHCPv6 where it runs
+pub if_dhcp6_sane : (managed : Managed) (f : Iface) (turned : Turned6) → Sane managed f
+    → Sane managed (if runs_dhcp6 f.managed.conf then dhcp6_step f turned else silent f).iface
+if_dhcp6_sane managed f turned sane = by (runs_dhcp6 f.managed.conf) refl
+  where
+    by : (runs : Bool) → runs_dhcp6 f.managed.conf ≡ runs → Sane managed (if runs then dhcp6_step f turned else silent f).iface
+    by true is = record {
+      same = sane.same;
+      settings = sane.settings;
+      hosts = sane.hosts;
+      off = λ out. record { link_local = (sane.off out).link_local; dhcp4 = (sane.off out).dhcp4 };
+      without = sane.without;
+      without6 = λ none. absurd (let bad : true ≡ false = sym is ∙ none in cc);
+      aside = sane.aside;
+    }
+    by false is = sane
+
+-- all machines are off
 module _ (managed : Managed) (at salt : ℕ) (early : at < 10 ^ 15) (f : Iface) (same : f.managed ≡ managed)
-    (settings : f.dhcp4.settings ≡ settings_of managed) (hosts : HasHosts f.dhcp4) where
+    (settings : f.dhcp4.settings.site ≡ site_of managed) (hosts : HasHosts f.dhcp4) where
   pub stops_sane : (tell : Tell) → Sane managed (machines_stop tell at salt f).iface
   stops_sane tell = record {
     same = same;
@@ -295,6 +335,7 @@ module _ (managed : Managed) (at salt : ℕ) (early : at < 10 ^ 15) (f : Iface) 
     hosts = moved_hosts f.dhcp4 (release_step tell at salt f.dhcp4) hosts (release_steps at salt early f.dhcp4 hosts tell);
     off = λ out. record { link_local = refl; dhcp4 = released_off (turn_of at salt f.dhcp4) tell f.dhcp4.state };
     without = λ none. released_off (turn_of at salt f.dhcp4) tell f.dhcp4.state;
+    without6 = λ none. release_off at salt f.dhcp6 (tell6_of tell);
     aside = λ held. refl;
   }
 
@@ -305,6 +346,7 @@ module _ (managed : Managed) (at salt : ℕ) (early : at < 10 ^ 15) (f : Iface) 
     hosts = moved_hosts f.dhcp4 (carrier_step Down at salt f.dhcp4) hosts (carrier_steps at salt early f.dhcp4 hosts Down);
     off = λ out. record { link_local = refl; dhcp4 = refl };
     without = λ none. refl;
+    without6 = λ none. drop_off at salt f.dhcp6;
     aside = λ held. refl;
   }
 
@@ -319,6 +361,7 @@ restarted_sane managed at salt early f sane = record {
     dhcp4 = ap (unsent_row (turn_of at salt f.dhcp4)) (sane.off out).dhcp4;
   };
   without = λ none. ap (unsent_row (turn_of at salt f.dhcp4)) (sane.without none);
+  without6 = sane.without6;
   aside = λ held.
       restart_off f.local.iface f.local.state at salt
       (sane.aside (sym (ap is_some (unsent_held (turn_of at salt f.dhcp4) f.dhcp4.state)) ∙ held));

@@ -1,5 +1,5 @@
 -- Over every list of turns each interface keeps what it carries.
-use Rattle.std.proofs.Common.{◌≡◌, ℕ, ◌<◌, ◌^◌, Bool, false, List, [], ◌∷◌, nat_eq, refl, sym, ap, subst, ◌∙◌, arith}
+use Rattle.std.proofs.Common.{◌≡◌, ℕ, ◌<◌, ◌≤◌, ◌^◌, Bool, true, false, List, [], ◌∷◌, nat_eq, refl, sym, ap, subst, ◌∙◌, arith}
 use Rattle.std.specs.Prelude.{map, max}
 use Rattle.std.specs.List.{AllByRecursion, IsDistinct}
 use Rattle.net_types.specs.declared.address.Mac.{Mac}
@@ -15,10 +15,13 @@ use Rattle.client_model.specs.ClientSettings.{ask_of, settings_of}
 use Rattle.client_model.specs.IfaceSteps.{IfaceStep, index_of}
 use Rattle.client_model.specs.Interfaces.{opened, resting}
 use Rattle.client_model.specs.IfaceTurns.{iface_turned}
-use Rattle.client_model.specs.Clients.{Client, ClientStep}
+use Rattle.client_model.specs.Clients.{Client, ClientStep, Sending}
+use Rattle.client_model.specs.HostDuid.{host_duid}
 use Rattle.client_model.specs.KeptLeases.{Beginning}
+use Rattle.evidence_words.specs.HostDuids.{duid_shown}
+use Rattle.evidence_words.specs.Inputs.{Site}
 use Rattle.client_model.proofs.SameInterfaces.{managed_in, IsSame, opened_is_same, turned_is_same, all_turned}
-use Rattle.turn_model.specs.LeaseFiles.{beginning_of}
+use Rattle.turn_model.specs.Loading.{duid_with, beginnings_of}
 use Rattle.turn_model.specs.Turns.{Life, turn_moment, input_of, step_of}
 use Rattle.turn_model.specs.Opening.{opening_step}
 use Rattle.turn_model.specs.Lives.{OpeningMet, IsOpening, Met, life_after}
@@ -26,16 +29,24 @@ use Rattle.turn_model.proofs.HostInLifeTurns.{opening_managed}
 use Rattle.turn_model.proofs.Loading.{KeepsFitting, beginnings_fit}
 use Rattle.evidence_words.specs.Entries.{Offer, Entry, offers_on, entry_of, opening_entry, shown_after}
 use Rattle.evidence.specs.Laws.{AreNumbered, AreMade}
-use Rattle.evidence_words.proofs.Carrying.{Relation, IsCarried, at_site, entry}
+use Rattle.evidence_words.proofs.Carrying.{Relation, IsCarried, entry}
 use Rattle.evidence_words.proofs.Made.{all_offers, marked_all, Shown, turn_shows, OpeningShown, opening_shows}
-use Rattle.evidence_words.proofs.Offers.{Offered, number_of, offered}
+use Rattle.evidence_words.proofs.Offers.{Offered, ShownBy, all_shown, number_of, refused_among}
 use Rattle.evidence.proofs.Keeping.{Keeps, opens_keeps, turn_keeps}
 
-module _ (Carries : Relation) (carried : IsCarried Carries) (start : ℕ → Bool) where
+-- the numbers of interfaces count from 1 on
+abbrev pub AreCounted : List Managed → Type 0
+AreCounted managed = AllByRecursion (λ m. 1 ≤ number_of m) managed
+
+-- what is known of an interface when a life begins
+abbrev pub site_by : List Mac → (up : Bool) → (duid : List ℕ) → Managed → Site
+site_by own up duid managed = record { managed = managed; duid = duid; own = own; up = up }
+
+module _ (Counted : Type 0) (Carries : Relation) (carried : IsCarried Counted Carries) (start : ℕ → Bool) (duid : List ℕ) where
   -- what is carried of an interface, whose client has the settings that the configuration gives
   pub record KeptOne (own : List Mac) (unsent : ℕ) (shown : List Entry) (iface : Iface) : Type 0 where
-    pub settings : iface.dhcp4.settings ≡ settings_of iface.managed
-    pub carries : Carries (at_site own (start (number_of iface.managed)) iface.managed) (is_in unsent (index_of iface) ≡ false) iface shown
+    pub settings : iface.dhcp4.settings ≡ settings_of duid iface.managed
+    pub carries : Carries (site_by own (start (number_of iface.managed)) duid iface.managed) (is_in unsent (index_of iface) ≡ false) iface shown
 
   abbrev KeptBy : Client → (unsent : ℕ) → List Entry → Type 0
   KeptBy client unsent shown = AllByRecursion (KeptOne client.own unsent shown) client.ifaces
@@ -61,7 +72,9 @@ module _ (Carries : Relation) (carried : IsCarried Carries) (start : ℕ → Boo
     step_for iface = iface_turned life.client.own (input_of life met.wake met.bytes) iface
 
     abbrev OfferedFor : IfaceStep → Managed → AskContent → Type 0
-    OfferedFor step m ask = Offered m.spec ask (is_in failed (number_of m) ≡ false) step.said (offers_on (number_of m) turn_entry.offers)
+    OfferedFor step m ask =
+        Offered m.spec ask (is_in failed (number_of m) ≡ false) step.said (offers_on (number_of m) turn_entry.offers)
+        × (Counted → (is_in failed (number_of m) ≡ false → ⊥) → refused_among (offers_on (number_of m) turn_entry.offers) ≡ true)
 
     -- by what its DHCPv4 client says of itself
     abbrev OfferedBy : IfaceStep → Type 0
@@ -72,16 +85,20 @@ module _ (Carries : Relation) (carried : IsCarried Carries) (start : ℕ → Boo
     one_kept early iface offers kept =
         let step : IfaceStep = step_for iface in
         let same : IsSame iface step.iface = turned_is_same life.client.own (input_of life met.wake met.bytes) iface in
-        let settings : step.iface.dhcp4.settings ≡ settings_of step.iface.managed = same.settings ∙ kept.settings ∙ ap settings_of (sym same.managed) in
+        let settings : step.iface.dhcp4.settings ≡ settings_of duid step.iface.managed = same.settings ∙ kept.settings ∙ ap (settings_of duid) (sym same.managed) in
         record {
           settings = settings;
-          carries = subst (λ m. OfferedFor step m (ask_of m)
-              → Carries (at_site life.client.own (start (number_of m)) m) (is_in failed (number_of m) ≡ false) step.iface (turn_entry ∷ shown))
+          carries = subst (λ m. OfferedFor step m (ask_of duid m)
+              → Carries (site_by life.client.own (start (number_of m)) duid m) (is_in failed (number_of m) ≡ false) step.iface (turn_entry ∷ shown))
               (sym same.managed)
-              (carried.turns (at_site life.client.own (start (number_of iface.managed)) iface.managed) (is_in failed (index_of iface) ≡ false) met.wake.salt
-              turn_entry early shown life.unsent iface refl kept.carries)
+              (λ shows. carried.turns (site_by life.client.own (start (number_of iface.managed)) duid iface.managed) (is_in failed (index_of iface) ≡ false) met.wake.salt
+              turn_entry early shown life.unsent iface refl kept.carries (record { offered = shows.0; refused = shows.1 }))
               (subst (λ (a : AskContent). OfferedFor step step.iface.managed a) (ap (λ (set : SettingsContent). set.ask) settings) offers);
         }
+
+    each_shown : (steps : List IfaceStep) → AllByRecursion (ShownBy Counted (step_of life met.wake met.bytes).sends taken) steps → AllByRecursion OfferedBy steps
+    each_shown [] shows = tt
+    each_shown (step ∷ steps) shows = ((shows.0.offered, shows.0.refused), each_shown steps shows.1)
 
     all_kept : turn_entry.moment < 10 ^ 15 → (ifaces : List Iface) → AllByRecursion OfferedBy (map step_for ifaces)
         → AllByRecursion (KeptOne life.client.own life.unsent shown) ifaces
@@ -97,9 +114,9 @@ module _ (Carries : Relation) (carried : IsCarried Carries) (start : ℕ → Boo
   still_early : (life : Life) (at now : ℕ) → life.now < 10 ^ 15 → now ≡ max life.now (moment_of at) → now < 10 ^ 15
   still_early life at now early e = omega arith
 
-  turned_kept : (managed : List Managed) → AreNumbered managed → (life : Life) (met : Met) (shown : List Entry) → KeptAfter managed life shown
+  turned_kept : (managed : List Managed) → AreNumbered managed → (Counted → AreCounted managed) → (life : Life) (met : Met) (shown : List Entry) → KeptAfter managed life shown
       → Shown (step_of life met.wake met.bytes) (turn_moment life met.wake) met.calls met.life → KeptAfter managed met.life (entry_of met ∷ shown)
-  turned_kept managed numbered life met shown k made =
+  turned_kept managed numbered counts life met shown k made =
       let same : managed_in (step_of life met.wake met.bytes).client.ifaces ≡ managed =
       all_turned life.client.own (input_of life met.wake met.bytes) life.client.ifaces ∙ k.of_managed in
       record {
@@ -109,16 +126,18 @@ module _ (Carries : Relation) (carried : IsCarried Carries) (start : ℕ → Boo
             (entry_of met) (turn_entry life met made.taken shown) shown made.client made.unsent
             (λ i. entry (made.now i) met.wake.event met.bytes (made.offers i))
             (all_kept life met made.taken shown (still_early life met.wake.at (turn_moment life met.wake) k.early refl) life.client.ifaces
-            (offered (map (step_for life met made.taken shown) life.client.ifaces) made.taken 0 made.answered (subst (λ ms. IsDistinct nat_eq (map number_of ms)) (sym same) numbered))
+            (each_shown life met made.taken shown (map (step_for life met made.taken shown) life.client.ifaces)
+            (all_shown Counted (map (step_for life met made.taken shown) life.client.ifaces) made.taken made.answered
+            (subst (λ ms. IsDistinct nat_eq (map number_of ms)) (sym same) numbered) (λ c. subst AreCounted (sym same) (counts c))))
             k.kept);
       }
 
-  pub turns_kept : (managed : List Managed) → AreNumbered managed → (mets : List Met) (life : Life) (shown : List Entry)
+  pub turns_kept : (managed : List Managed) → AreNumbered managed → (Counted → AreCounted managed) → (mets : List Met) (life : Life) (shown : List Entry)
       → KeptAfter managed life shown → AreMade managed life mets → KeptAfter managed (life_after life mets) (shown_after shown mets)
-  turns_kept managed numbered [] life shown k made = k
-  turns_kept managed numbered (met ∷ mets) life shown k made =
-      turns_kept managed numbered mets met.life (entry_of met ∷ shown)
-      (turned_kept managed numbered life met shown k (turn_shows managed life met.wake met.bytes met.calls met.life made.0)) made.1
+  turns_kept managed numbered counts [] life shown k made = k
+  turns_kept managed numbered counts (met ∷ mets) life shown k made =
+      turns_kept managed numbered counts mets met.life (entry_of met ∷ shown)
+      (turned_kept managed numbered counts life met shown k (turn_shows managed life met.wake met.bytes met.calls met.life made.0)) made.1
 
 pub own_stays : (managed : List Managed) (mets : List Met) (life : Life) → AreMade managed life mets → (life_after life mets).client.own ≡ life.client.own
 own_stays managed [] life made = refl
@@ -128,7 +147,8 @@ own_stays managed (met ∷ mets) life made =
 
 -- ---- the opening
 
-module _ (Carries : Relation) (carried : IsCarried Carries) (own : List Mac) (up at salt unsent : ℕ) (early : at < 10 ^ 15) (offers : List Offer) where
+module _ (Counted : Type 0) (Carries : Relation) (carried : IsCarried Counted Carries) (own : List Mac) (up at salt unsent : ℕ) (early : at < 10 ^ 15) (offers : List Offer)
+    (duid : List ℕ) where
   abbrev started : ℕ → Bool
   started index = is_up up index
 
@@ -136,55 +156,78 @@ module _ (Carries : Relation) (carried : IsCarried Carries) (own : List Mac) (up
   opening_shown = entry at Quiet [] offers
 
   abbrev OpenedFor : IfaceStep → Managed → AskContent → Type 0
-  OpenedFor step m ask = Offered m.spec ask (is_in unsent (number_of m) ≡ false) step.said (offers_on (number_of m) offers)
+  OpenedFor step m ask =
+      Offered m.spec ask (is_in unsent (number_of m) ≡ false) step.said (offers_on (number_of m) offers)
+      × (Counted → (is_in unsent (number_of m) ≡ false → ⊥) → refused_among (offers_on (number_of m) offers) ≡ true)
 
   abbrev OpenedBy : IfaceStep → Type 0
   OpenedBy step = OpenedFor step step.iface.managed step.iface.dhcp4.settings.ask
 
-  one_opened : (b : Beginning) → KeepsFitting b → OpenedBy (opened up at salt b) → KeptOne Carries carried started own unsent (opening_shown ∷ []) (opened up at salt b).iface
+  one_opened : (b : Beginning) → KeepsFitting duid b → OpenedBy (opened up at salt b) → KeptOne Counted Carries carried started duid own unsent (opening_shown ∷ []) (opened up at salt b).iface
   one_opened b within shows =
       let m : Managed = b.managed in
       let step : IfaceStep = opened up at salt b in
       let same : IsSame (resting b) step.iface = opened_is_same up at salt b in
-      let settings : step.iface.dhcp4.settings ≡ settings_of step.iface.managed = same.settings ∙ ap settings_of (sym same.managed) in
+      let settings : step.iface.dhcp4.settings ≡ settings_of duid step.iface.managed =
+      same.settings ∙ ap (λ (d : List ℕ). settings_of d m) within.duid_is ∙ ap (settings_of duid) (sym same.managed) in
+      let clean : Type 0 = is_in unsent (number_of m) ≡ false in
       record {
         settings = settings;
-        carries = subst (λ n. OpenedFor step n (ask_of n)
-            → Carries (at_site own (started (number_of n)) n) (is_in unsent (number_of n) ≡ false) step.iface (opening_shown ∷ []))
+        carries = subst (λ n. OpenedFor step n (ask_of duid n)
+            → Carries (site_by own (started (number_of n)) duid n) (is_in unsent (number_of n) ≡ false) step.iface (opening_shown ∷ []))
             (sym same.managed)
-            (carried.opens own (is_in unsent (number_of m) ≡ false) at salt early offers b within (started (number_of m)))
+            (subst (λ (d : List ℕ). OpenedFor step m (ask_of d m) → Carries (site_by own (started (number_of m)) d m) clean step.iface (opening_shown ∷ [])) within.duid_is
+            (λ given. carried.opens own clean at salt early offers b within.kept4 within.kept6 (started (number_of m)) (record { offered = given.0; refused = given.1 })))
             (subst (λ (a : AskContent). OpenedFor step step.iface.managed a) (ap (λ (set : SettingsContent). set.ask) settings) shows);
       }
 
-  each_opened : (beginnings : List Beginning) → AllByRecursion KeepsFitting beginnings → AllByRecursion OpenedBy (map (opened up at salt) beginnings)
-      → AllByRecursion (KeptOne Carries carried started own unsent (opening_shown ∷ [])) (map (λ (step : IfaceStep). step.iface) (map (opened up at salt) beginnings))
+  given_each : (sends : List Sending) (taken : List Bool) → unsent ≡ marked_all sends taken 0 → offers ≡ all_offers sends taken → (steps : List IfaceStep)
+      → AllByRecursion (ShownBy Counted sends taken) steps → AllByRecursion OpenedBy steps
+  given_each sends taken set list [] shows = tt
+  given_each sends taken set list (step ∷ steps) shows = (
+    subst (λ (u : ℕ). Offered step.iface.managed.spec step.iface.dhcp4.settings.ask (is_in u (number_of step.iface.managed) ≡ false) step.said (offers_on (number_of step.iface.managed) offers)
+        × (Counted → (is_in u (number_of step.iface.managed) ≡ false → ⊥) → refused_among (offers_on (number_of step.iface.managed) offers) ≡ true)) (sym set)
+        (subst (λ (os : List Offer). Offered step.iface.managed.spec step.iface.dhcp4.settings.ask (is_in (marked_all sends taken 0) (number_of step.iface.managed) ≡ false) step.said
+        (offers_on (number_of step.iface.managed) os)
+        × (Counted → (is_in (marked_all sends taken 0) (number_of step.iface.managed) ≡ false → ⊥) → refused_among (offers_on (number_of step.iface.managed) os) ≡ true)) (sym list)
+        (shows.0.offered, shows.0.refused)),
+    given_each sends taken set list steps shows.1,
+  )
+
+  each_opened : (beginnings : List Beginning) → AllByRecursion (KeepsFitting duid) beginnings → AllByRecursion OpenedBy (map (opened up at salt) beginnings)
+      → AllByRecursion (KeptOne Counted Carries carried started duid own unsent (opening_shown ∷ [])) (map (λ (step : IfaceStep). step.iface) (map (opened up at salt) beginnings))
   each_opened [] within shows = tt
   each_opened (b ∷ beginnings) within shows = (one_opened b within.0 shows.0, each_opened beginnings within.1 shows.1)
 
 first_early : (at now : ℕ) → now ≡ moment_of at → now < 10 ^ 15
 first_early at now e = omega arith
 
-pub opening_kept : (Carries : Relation) (carried : IsCarried Carries) (managed : List Managed) → AreNumbered managed → (specs : List IfSpec) (opening : OpeningMet)
+pub opening_kept : (Counted : Type 0) (Carries : Relation) (carried : IsCarried Counted Carries) (managed : List Managed) → AreNumbered managed → (Counted → AreCounted managed) → (specs : List IfSpec) (opening : OpeningMet)
     → IsOpening managed specs opening
-    → KeptAfter Carries carried (λ index. is_up opening.begin.up index) managed opening.life (opening_entry opening ∷ [])
-opening_kept Carries carried managed numbered specs opening is =
+    → KeptAfter Counted Carries carried (λ index. is_up opening.begin.up index) (duid_shown managed opening.calls) managed opening.life (opening_entry opening ∷ [])
+opening_kept Counted Carries carried managed numbered counts specs opening is =
     let read : OpeningShown managed specs opening.begin opening.calls opening.life = opening_shows managed specs opening.begin opening.calls opening.life is in
-    let step : ClientStep = opening_step read.files specs opening.begin in
+    let step : ClientStep = opening_step managed read.files specs opening.begin in
     let made : Shown step (moment_of opening.begin.at) opening.calls opening.life = read.shown in
-    let beginnings : List Beginning = map beginning_of read.files in
+    let duid : List ℕ = duid_shown managed opening.calls in
+    let duid_is : duid_with managed read.files ≡ duid = ap (host_duid managed) (sym read.duid) in
+    let beginnings : List Beginning = beginnings_of managed read.files in
     let at : ℕ = moment_of opening.begin.at in
     let unsent : ℕ = marked_all step.sends made.taken 0 in
     let same : managed_in step.client.ifaces ≡ managed = opening_managed managed specs opening.begin read.reads read.files read.makes in
     record {
       of_managed = ap (λ (client : Client). managed_in client.ifaces) made.client ∙ same;
       early = first_early opening.begin.at opening.life.now made.now;
-      kept = kept_same Carries carried (λ index. is_up opening.begin.up index) opening.life.client step.client opening.life.unsent unsent
+      kept = kept_same Counted Carries carried (λ index. is_up opening.begin.up index) duid opening.life.client step.client opening.life.unsent unsent
           (opening_entry opening) (entry at Quiet [] (all_offers step.sends made.taken)) [] made.client made.unsent
           (λ i. entry (made.now i) Quiet [] (made.offers i))
-          (each_opened Carries carried step.client.own opening.begin.up at opening.begin.salt unsent (first_early opening.begin.at at refl)
-          (all_offers step.sends made.taken) beginnings (beginnings_fit read.files)
-          (offered (map (opened opening.begin.up at opening.begin.salt) beginnings) made.taken 0 made.answered
-          (subst (λ ms. IsDistinct nat_eq (map number_of ms)) (sym same) numbered)));
+          (each_opened Counted Carries carried step.client.own opening.begin.up at opening.begin.salt unsent (first_early opening.begin.at at refl)
+          (all_offers step.sends made.taken) duid beginnings
+          (subst (λ (d : List ℕ). AllByRecursion (KeepsFitting d) beginnings) duid_is (beginnings_fit managed read.files))
+          (given_each Counted Carries carried step.client.own opening.begin.up at opening.begin.salt unsent (first_early opening.begin.at at refl)
+          (all_offers step.sends made.taken) duid step.sends made.taken refl refl (map (opened opening.begin.up at opening.begin.salt) beginnings)
+          (all_shown Counted (map (opened opening.begin.up at opening.begin.salt) beginnings) made.taken made.answered
+          (subst (λ ms. IsDistinct nat_eq (map number_of ms)) (sym same) numbered) (λ c. subst AreCounted (sym same) (counts c)))));
     }
 
 pub opened_own : (managed : List Managed) (specs : List IfSpec) (opening : OpeningMet) → IsOpening managed specs opening
@@ -196,8 +239,8 @@ opened_own managed specs opening is = ap (λ (client : Client). client.own) (ope
 abbrev pub KeepsRelation : Relation
 KeepsRelation site clean f past = Keeps site clean f past
 
-pub keeps_carried : IsCarried KeepsRelation
-keeps_carried = record {
-  opens = λ own clean at salt early offers b within up shows. opens_keeps own clean at salt early offers b within up;
-  turns = λ site clean salt e early past unsent f same k shows. turn_keeps site clean salt e early past unsent f k shows;
+pub keeps_carried : (Counted : Type 0) → IsCarried Counted KeepsRelation
+keeps_carried Counted = record {
+  opens = λ own clean at salt early offers b within within6 up shows. opens_keeps own clean at salt early offers b within up;
+  turns = λ site clean salt e early past unsent f same k shows. turn_keeps site clean salt e early past unsent f k shows.offered;
 }

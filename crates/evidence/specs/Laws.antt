@@ -12,36 +12,48 @@ use Rattle.settings.specs.Fitting.{AreManaged}
 use Rattle.script_model.specs.IfaceSets.{is_up}
 use Rattle.script_model.specs.Scripts.{CountsFrom}
 use Rattle.client_model.specs.ClientSettings.{runs_dhcp4}
+use Rattle.client_model.specs.ClientSettings6.{runs_dhcp6}
 use Rattle.client_model.specs.Clients.{rows_of}
 use Rattle.device_calls.specs.Programs.{Makes}
 use Rattle.turn_model.specs.Turns.{Life, turn_asks}
 use Rattle.turn_model.specs.Lives.{OpeningMet, IsOpening, Met, life_after}
 use Rattle.evidence_words.specs.Entries.{Entry, shown_of}
+use Rattle.evidence_words.specs.HostDuids.{duid_shown}
 use Rattle.evidence_words.specs.Inputs.{Site}
+use Rattle.evidence_words.specs.IfaceLives.{now_in}
 use Rattle.evidence.specs.StaticBasis.{StaticBasis}
 use Rattle.local_evidence.specs.LinkLocalBasis.{LinkLocalBasis, StrongBasis}
-use Rattle.lease_evidence.specs.LeaseBasis.{LeaseBasis, now_in}
+use Rattle.lease_evidence.specs.LeaseBasis.{LeaseBasis}
+use Rattle.lease6_evidence.specs.ItemBasis.{AddressBasis}
 
 -- a lease gives the address, now
 abbrev pub LeasedBasis : Site → Net → List Entry → Type 0
 LeasedBasis site net past = LeaseBasis site net (now_in past) past
 
--- Why an address may be held, in what was shown: as a static address, as a link-local one, or for a lease.
+-- an address of a DHCPv6 lease, now
+abbrev pub LeasedBasis6 : Site → Net → List Entry → Type 0
+LeasedBasis6 site net past = AddressBasis site net (now_in past) past
+
+-- Why an address may be held, in what was shown: as a static address, as a link-local one, or for a lease of DHCPv4 or of DHCPv6.
 abbrev pub Basis : Site → Net → List Entry → Type 0
-Basis site net past = StaticBasis site net past ⊎ (LinkLocalBasis site net past ⊎ LeasedBasis site net past)
+Basis site net past =
+    StaticBasis site net past ⊎ (LinkLocalBasis site net past ⊎ (LeasedBasis site net past ⊎ LeasedBasis6 site net past))
 
 -- The same, with the stronger fact on link-local addresses.
 abbrev pub StrongestBasis : Site → Net → List Entry → Type 0
-StrongestBasis site net past = StaticBasis site net past ⊎ (StrongBasis site net past ⊎ LeasedBasis site net past)
+StrongestBasis site net past =
+    StaticBasis site net past ⊎ (StrongBasis site net past ⊎ (LeasedBasis site net past ⊎ LeasedBasis6 site net past))
 
--- where DHCPv4 doesn't run there is no lease
-abbrev pub BasisWithoutDhcp4 : Site → Net → List Entry → Type 0
-BasisWithoutDhcp4 site net past = runs_dhcp4 site.managed.conf ≡ false → StaticBasis site net past ⊎ LinkLocalBasis site net past
+-- where neither DHCPv4 nor DHCPv6 runs there is no lease
+abbrev pub BasisWithoutDhcp : Site → Net → List Entry → Type 0
+BasisWithoutDhcp site net past =
+    runs_dhcp4 site.managed.conf ≡ false → runs_dhcp6 site.managed.conf ≡ false → StaticBasis site net past ⊎ LinkLocalBasis site net past
 
 -- `specs` are all interfaces of the host
 abbrev pub site_of : List Managed → List IfSpec → OpeningMet → Managed → Site
 site_of managed specs opening m = record {
   managed = m;
+  duid = duid_shown managed opening.calls;
   own = map (λ spec. spec.mac) specs;
   up = is_up opening.begin.up m.spec.index.number;
 }
@@ -89,7 +101,7 @@ AddressesHaveBasis = (managed : List Managed) (specs : List IfSpec) (opening : O
 -- This needs nothing of the settings, nor of the frames that came in.
 abbrev pub OthersHaveBasis : Type 0
 OthersHaveBasis = (managed : List Managed) (specs : List IfSpec) (opening : OpeningMet) (mets : List Met)
-    → IsLife managed specs opening mets → AddressesHave BasisWithoutDhcp4 managed specs opening mets
+    → IsLife managed specs opening mets → AddressesHave BasisWithoutDhcp managed specs opening mets
 
 -- Interfaces that count from a number on have unlike numbers.
 abbrev pub CountedAreNumbered : Type 0

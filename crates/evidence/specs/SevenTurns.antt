@@ -8,6 +8,7 @@ use Rattle.frame_link.specs.Packets.{probe_text, announcement_text}
 use Rattle.world.specs.declared.wakes.Event.{Event}
 use Rattle.world.specs.declared.wakes.Event.TheVariants.{Frame, Quiet}
 use Rattle.settings.specs.declared.interfaces.Managed.{Managed}
+use Rattle.settings.specs.Dhcp4Settings.{Hardware}
 use Rattle.world.specs.LinkCalls.{Given}
 use Rattle.world.specs.StoreCalls.{store_holding}
 use Rattle.world.specs.StoreFails.{never_fails}
@@ -54,7 +55,8 @@ interface = record {
     metric = None;
     address = None;
     router = None;
-    dhcp4 = record { host = []; vendor = []; identifier = None; asked = []; refused = []; required = []; blacklist = [] };
+    dhcp4 = record { host = []; vendor = []; identifier = Hardware; asked = []; refused = []; required = []; blacklist = [] };
+    dhcp6 = record { rapid = false; ias = [] };
   };
 }
 

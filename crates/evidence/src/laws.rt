@@ -11,10 +11,10 @@ ghost use Rattle.evidence.specs.SevenTurns.{chosen_net, interface, opens, seven_
 
 /// Law: over every list of turns and outcomes, each address that the client wants has its basis in what the life showed
 /// of its interface: a static address, a choice that passed its probes (RFC 3927, sections 2.2.1 and 2.5), or a lease that a
-/// server granted (RFC 2131, section 4.4). Where DHCPv4 doesn't run it is one of the first two.
+/// server granted, of DHCPv4 (RFC 2131, section 4.4) or of DHCPv6 (RFC 8415, section 18.2.10). Where neither runs it is one of the first two.
 pub fn addresses_have_a_basis()
     ensures each { AddressesHaveBasis }
-    ensures without_dhcp4 { OthersHaveBasis }
+    ensures without_dhcp { OthersHaveBasis }
 {}
 
 /// Law: over devices that tell what they hold and which of their calls fail, after an opening and after every turn in which

@@ -1,25 +1,26 @@
 -- What it is that something is carried of an interface over the turns of its life.
-use Rattle.std.proofs.Common.{◌≡◌, ℕ, ◌<◌, ◌^◌, Bool, false, List, [], ◌∷◌}
+use Rattle.std.proofs.Common.{◌≡◌, ℕ, ◌<◌, ◌^◌, Bool, true, false, List, [], ◌∷◌}
 use Rattle.std.specs.Prelude.{IfSome, if◌then◌else◌}
 use Rattle.net_types.specs.declared.address.Mac.{Mac}
 use Rattle.lease_text.specs.Bounds.{FitsLease}
+use Rattle.lease6_text.specs.Bounds.{HasText6}
 use Rattle.world.specs.declared.wakes.Event.{Event}
 use Rattle.world.specs.declared.wakes.Event.TheVariants.{Quiet}
-use Rattle.settings.specs.declared.interfaces.Managed.{Managed}
 use Rattle.script_model.specs.IfaceSets.{is_in}
 use Rattle.client_model.specs.declared.interfaces.Iface.{Iface}
-use Rattle.client_model.specs.declared.steps.Said.{Said}
+use Rattle.client_model.specs.Messages.{Said}
 use Rattle.client_model.specs.ClientSettings.{ask_of}
 use Rattle.client_model.specs.IfaceSteps.{IfaceStep, index_of, silent}
 use Rattle.client_model.specs.Interfaces.{carrier_comes, resting}
 use Rattle.client_model.specs.KeptLeases.{Beginning}
 use Rattle.client_model.specs.IfaceTurns.{iface_turned}
 use Rattle.evidence_words.specs.Entries.{Offer, Entry, offers_on}
+use Rattle.evidence_words.specs.IfaceLives.{has_failed}
 use Rattle.evidence_words.specs.Inputs.{Site, index_at}
 use Rattle.evidence_words.proofs.Offers.{Offered}
 
-abbrev pub at_site : List Mac → Bool → Managed → Site
-at_site own up managed = record { managed = managed; own = own; up = up }
+abbrev pub at_site : List Mac → Bool → Beginning → Site
+at_site own up b = record { managed = b.managed; duid = b.duid; own = own; up = up }
 
 abbrev pub entry : (at : ℕ) → Event → List ℕ → List Offer → Entry
 entry at event bytes offers = record { moment = at; event = event; bytes = bytes; offers = offers }
@@ -35,15 +36,18 @@ abbrev pub turned_by : Site → (salt unsent : ℕ) → Entry → Iface → Ifac
 turned_by site salt unsent e f =
     iface_turned site.own (record { at = e.moment; salt = salt; unsent = unsent; event = e.event; bytes = e.bytes }) f
 
--- the frames of the entry spell what was said on the interface
-abbrev pub Shows : Site → (clean : Type 0) → Entry → List Said → Type 0
-Shows site clean e said = Offered site.managed.spec (ask_of site.managed) clean said (offers_on (index_at site) e.offers)
+-- The frames of the entry spell what was said on the interface. Where the numbers of interfaces count from 1 on (`Counted`), one was
+-- refused unless no send failed.
+pub record Shows (Counted : Type 0) (site : Site) (clean : Type 0) (e : Entry) (said : List Said) : Type 0 where
+  pub offered : Offered site.managed.spec (ask_of site.duid site.managed) clean said (offers_on (index_at site) e.offers)
+  pub refused : Counted → (clean → ⊥) → has_failed site e ≡ true
 
--- an opening begins it, whatever lease was kept, and each turn keeps it
-pub record IsCarried (Carries : Relation) : Type 1 where
-  pub opens : (own : List Mac) (clean : Type 0) (at salt : ℕ) → at < 10 ^ 15 → (offers : List Offer) (b : Beginning) → IfSome b.kept FitsLease → (up : Bool)
-      → Shows (at_site own up b.managed) clean (entry at Quiet [] offers) (opened_when up at salt b).said
-      → Carries (at_site own up b.managed) clean (opened_when up at salt b).iface (entry at Quiet [] offers ∷ [])
+-- an opening begins it, whatever leases were kept, and each turn keeps it
+pub record IsCarried (Counted : Type 0) (Carries : Relation) : Type 1 where
+  pub opens : (own : List Mac) (clean : Type 0) (at salt : ℕ) → at < 10 ^ 15 → (offers : List Offer) (b : Beginning)
+      → IfSome b.kept4 FitsLease → IfSome b.kept6 HasText6 → (up : Bool)
+      → Shows Counted (at_site own up b) clean (entry at Quiet [] offers) (opened_when up at salt b).said
+      → Carries (at_site own up b) clean (opened_when up at salt b).iface (entry at Quiet [] offers ∷ [])
   pub turns : (site : Site) (clean : Type 0) (salt : ℕ) (e : Entry) → e.moment < 10 ^ 15 → (past : List Entry) (unsent : ℕ) (f : Iface)
       → f.managed ≡ site.managed → Carries site (is_in unsent (index_of f) ≡ false) f past
-      → Shows site clean e (turned_by site salt unsent e f).said → Carries site clean (turned_by site salt unsent e f).iface (e ∷ past)
+      → Shows Counted site clean e (turned_by site salt unsent e f).said → Carries site clean (turned_by site salt unsent e f).iface (e ∷ past)

@@ -1,3 +1,5 @@
+mod EachCall
+mod DuidsRead
 pub mod Carrying
 pub mod Made
 pub mod Offers

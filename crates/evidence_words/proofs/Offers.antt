@@ -1,17 +1,18 @@
 -- The frames that are offered for what an interface says, and which of them were taken.
-use Rattle.std.proofs.Common.{◌≡◌, ℕ, ◌-◌, ◌^◌, ◌<◌, max, Bool, true, false, List, [], ◌∷◌, ◌++◌, length, nat_eq, refl, sym, ap, subst, ◌∙◌, arith}
+use Rattle.std.proofs.Common.{◌≡◌, ℕ, ◌-◌, ◌^◌, ◌<◌, max, Bool, true, false, List, [], ◌∷◌, ◌++◌, length, nat_eq, not, ◌≤◌, ◌⊎◌, inl, inr, refl, sym, ap, subst, ◌∙◌, arith}
 use Rattle.std.proofs.lemmas.Bool.Decides.{nat_tests}
-use Rattle.std.proofs.lemmas.Nat.Bits.{bit_at_or, bit_at-lt, bit_at-pow_same}
+use Rattle.std.proofs.lemmas.Nat.Bits.{bit_at_or, bit_at-lt, bit_at-pow_other, bit_at-pow_same, bit_at-zero}
 use Rattle.std.proofs.lemmas.Map.Keys.{IsDistinct-head, IsDistinct-tail}
 use Rattle.std.specs.Prelude.{map, flat_map, ◌==◌}
 use Rattle.std.specs.Int.{bit_at}
-use Rattle.std.specs.List.{AllByRecursion, IsDistinct}
+use Rattle.std.specs.List.{AllByRecursion, IsDistinct, list_any}
 use Rattle.net_types.proofs.AllLaws.{all_both, all_join, all_mapped}
+use Rattle.net_types.proofs.CaseLaws.{split}
 use Rattle.net_types.specs.declared.interface.IfSpec.{IfSpec}
 use Rattle.v4_message.specs.Requests.{AskContent}
 use Rattle.settings.specs.declared.interfaces.Managed.{Managed}
 use Rattle.script_model.specs.IfaceSets.{is_in}
-use Rattle.client_model.specs.declared.steps.Said.{Said}
+use Rattle.client_model.specs.Messages.{Said}
 use Rattle.client_model.specs.IfaceSteps.{IfaceStep}
 use Rattle.client_model.specs.Clients.{Sending, spelled, sends_of}
 use Rattle.turn_model.specs.Turns.{with_iface, marked}
@@ -195,4 +196,89 @@ offered (step ∷ steps) taken set len apart =
           let p = passes (spec_of step) (ask_in step) (spec_of other).index.number apart_from step.said (flat_map sends_of steps) taken set len in
           subst (λ offers. Offered (spec_of other) (ask_in other) (Clean (spec_of other).index.number (flat_map sends_of (step ∷ steps)) taken set) other.said offers) (sym p.same)
           (offered-clean (spec_of other) (ask_in other) _ _ p.clean other.said _ h)) steps others later,
+    )
+
+-- ---- where a send failed
+
+-- whether a frame on an interface was refused
+abbrev pub refused_among : List Offer → Bool
+refused_among offers = list_any (λ o. not o.taken) offers
+
+not_both : (x a b : ℕ) → x ≡ max a b → b ≡ 0 → (x == 1) ≡ true → (a == 1) ≡ true
+not_both x a b e zero h = grind (arith, nat_tests)
+
+no_bit : (x : ℕ) → x ≡ 0 → (x == 1) ≡ true → ⊥
+no_bit x e h = grind (arith, nat_tests)
+
+-- another interface leaves the bit as it is
+was_in : (other index set : ℕ) → 1 ≤ other → 1 ≤ index → (other == index) ≡ false → is_in (with_iface other set) index ≡ true → is_in set index ≡ true
+was_in other index set some_other some unlike h =
+    not_both _ _ _ (bit_at_or set (2 ^ (other - 1)) (index - 1)) (bit_at-pow_other (other - 1) (index - 1) (λ same. apart other index some_other some unlike same)) h
+  where
+    apart : (a b : ℕ) → 1 ≤ a → 1 ≤ b → (a == b) ≡ false → b - 1 ≡ a - 1 → ⊥
+    apart a b first second unlike same = grind (arith, nat_tests)
+
+abbrev Counts : List Sending → Type 0
+Counts sends = AllByRecursion (λ s. 1 ≤ s.iface.number) sends
+
+marked_since : (index : ℕ) → 1 ≤ index → (sends : List Sending) (taken : List Bool) (set : ℕ) → Counts sends → is_in (marked_all sends taken set) index ≡ true
+    → (is_in set index ≡ true) ⊎ (refused_among (found index sends taken) ≡ true)
+marked_since index some [] taken set counts h = inl h
+marked_since index some (s ∷ sends) [] set counts h = inl h
+marked_since index some (s ∷ sends) (true ∷ taken) set counts h =
+    split (s.iface.number == index)
+    (λ here. rw here (marked_since index some sends taken set counts.1 h))
+    (λ elsewhere. rw elsewhere (marked_since index some sends taken set counts.1 h))
+marked_since index some (s ∷ sends) (false ∷ taken) set counts h =
+    split (s.iface.number == index)
+    (λ here. rw here (inr refl))
+    (λ elsewhere. rw elsewhere (elim (marked_since index some sends taken (with_iface s.iface.number set) counts.1 h) [
+      | inl is ↦ inl (was_in s.iface.number index set counts.0 some elsewhere is)
+      | inr refused ↦ inr refused
+    ]))
+
+none_marked : (index : ℕ) → is_in 0 index ≡ true → ⊥
+none_marked index h = no_bit _ (bit_at-zero (index - 1)) h
+
+-- where a send of the interface failed, a frame was refused
+pub refused : (index : ℕ) → 1 ≤ index → (sends : List Sending) (taken : List Bool) → Counts sends → (is_in (marked_all sends taken 0) index ≡ false → ⊥)
+    → refused_among (found index sends taken) ≡ true
+refused index some sends taken counts failed =
+    by (is_in (marked_all sends taken 0) index) refl
+  where
+    by : (b : Bool) → is_in (marked_all sends taken 0) index ≡ b → refused_among (found index sends taken) ≡ true
+    by true is = elim (marked_since index some sends taken 0 counts is) [ inl first ↦ absurd (none_marked index first) | inr it ↦ it ]
+    by false is = absurd (failed is)
+
+said_counted : (spec : IfSpec) (ask : AskContent) (said : List Said) → 1 ≤ spec.index.number → Counts (map (spelled spec ask) said)
+said_counted spec ask [] some = tt
+said_counted spec ask (say ∷ said) some = (some, said_counted spec ask said some)
+
+sends_counted : (steps : List IfaceStep) → AllByRecursion (λ step. 1 ≤ (spec_of step).index.number) steps → Counts (flat_map sends_of steps)
+sends_counted [] counts = tt
+sends_counted (step ∷ steps) counts =
+    all_join _ (sends_of step) (flat_map sends_of steps) (said_counted (spec_of step) (ask_in step) step.said counts.0) (sends_counted steps counts.1)
+
+-- each step with its offers, and that one was refused where a send failed
+pub record ShownBy (Counted : Type 0) (sends : List Sending) (taken : List Bool) (step : IfaceStep) : Type 0 where
+  pub offered : Offered (spec_of step) (ask_in step) (Clean (spec_of step).index.number sends taken 0) step.said (found (spec_of step).index.number sends taken)
+  pub refused : Counted → (Clean (spec_of step).index.number sends taken 0 → ⊥) → refused_among (found (spec_of step).index.number sends taken) ≡ true
+
+pub all_shown : (Counted : Type 0) (steps : List IfaceStep) (taken : List Bool) → length taken ≡ length (flat_map sends_of steps)
+    → IsDistinct nat_eq (map number_of (managed_in (map (λ step. step.iface) steps)))
+    → (Counted → AllByRecursion (λ m. 1 ≤ number_of m) (managed_in (map (λ step. step.iface) steps)))
+    → AllByRecursion (ShownBy Counted (flat_map sends_of steps) taken) steps
+all_shown Counted steps taken len apart counts =
+    all_both _ _ _ (λ step one two. record { offered = one; refused = two }) steps (offered steps taken 0 len apart) (refused_each steps (λ k. numbers k))
+  where
+    numbers : Counted → AllByRecursion (λ step. 1 ≤ (spec_of step).index.number) steps
+    numbers k = all_mapped _ (λ step. step.iface) steps (all_mapped _ (λ iface. iface.managed) (map (λ step. step.iface) steps) (counts k))
+
+    refused_each : (some : List IfaceStep) → (Counted → AllByRecursion (λ step. 1 ≤ (spec_of step).index.number) some)
+        → AllByRecursion (λ step. Counted → (Clean (spec_of step).index.number (flat_map sends_of steps) taken 0 → ⊥)
+        → refused_among (found (spec_of step).index.number (flat_map sends_of steps) taken) ≡ true) some
+    refused_each [] h = tt
+    refused_each (step ∷ others) h = (
+      λ k failed. refused (spec_of step).index.number (h k).0 (flat_map sends_of steps) taken (sends_counted steps (numbers k)) failed,
+      refused_each others (λ k. (h k).1),
     )

@@ -11,8 +11,7 @@ use Rattle.arp_acd.specs.Table as detection
 use Rattle.arp_acd.proofs.Standing.{wait_after, waits, one_second}
 use Rattle.evidence_words.specs.Entries.{Entry, Offer}
 use Rattle.client_model.specs.ClientSettings.{ask_of}
-use Rattle.client_model.specs.declared.steps.Said.{Said}
-use Rattle.client_model.specs.declared.steps.Said.TheVariants.{Arp}
+use Rattle.client_model.specs.Messages.{Said, Arp}
 use Rattle.evidence_words.specs.Inputs.{Site, offers_at, contests}
 use Rattle.evidence_words.specs.Probed.{TurnWord, AsProbe, probe_taken, Probes}
 use Rattle.evidence_words.proofs.Offers.{Offered}
@@ -40,7 +39,7 @@ module _ (C : TurnWord) (site : Site) (addr : Ip4) where
       bound m w b later h le = omega arith
 
   pub probe_offered : (clean : Type 0) (more : List Said) (offers : List Offer)
-      → Offered site.managed.spec (ask_of site.managed) clean (Arp (Probe addr) ∷ more) offers → clean → probe_taken site addr offers ≡ true
+      → Offered site.managed.spec (ask_of site.duid site.managed) clean (Arp (Probe addr) ∷ more) offers → clean → probe_taken site addr offers ≡ true
   probe_offered clean more [] h k = absurd h
   probe_offered clean more (o ∷ offers) h k =
       let same : bytes_eq o.bytes (probe_text site.managed.spec.mac addr) ≡ true = (bytes_eq-Decides o.bytes (probe_text site.managed.spec.mac addr)).1 h.0 in
@@ -48,7 +47,7 @@ module _ (C : TurnWord) (site : Site) (addr : Ip4) where
 
   -- a probe after other messages
   pub probe_among : (clean : Type 0) (front more : List Said) (offers : List Offer)
-      → Offered site.managed.spec (ask_of site.managed) clean ((front ++ Arp (Probe addr) ∷ []) ++ more) offers → clean → probe_taken site addr offers ≡ true
+      → Offered site.managed.spec (ask_of site.duid site.managed) clean ((front ++ Arp (Probe addr) ∷ []) ++ more) offers → clean → probe_taken site addr offers ≡ true
   probe_among clean [] more offers h k = probe_offered clean more offers h k
   probe_among clean (say ∷ front) more [] h k = absurd h
   probe_among clean (say ∷ front) more (o ∷ offers) h k =

@@ -11,10 +11,11 @@ use Rattle.settings.specs.declared.interfaces.Managed.{Managed}
 use Rattle.client_model.specs.IfaceTurns.{arp_heard}
 use Rattle.evidence_words.specs.Entries.{Offer, Entry, offers_on}
 
--- what is known of an interface when a life begins: its settings, the hardware addresses of all interfaces, managed or not
--- (RFC 5227, section 2.1.1), and whether it has carrier
+-- what is known of an interface when a life begins: its settings, the DUID of the host, the hardware addresses of all interfaces,
+-- managed or not (RFC 5227, section 2.1.1), and whether it has carrier
 pub record Site : Type 0 where
   pub managed : Managed
+  pub duid : List ℕ
   pub own : List Mac
   pub up : Bool
 

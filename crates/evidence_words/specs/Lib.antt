@@ -1,3 +1,5 @@
 pub mod Entries
 pub mod Inputs
+pub mod HostDuids
+pub mod IfaceLives
 pub mod Probed

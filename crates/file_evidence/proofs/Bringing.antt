@@ -4,7 +4,7 @@ use Rattle.std.specs.Prelude.{flat_map}
 use Rattle.world.specs.StoreCalls.{StoreCall}
 use Rattle.device_calls.specs.Calls.{SyncAside, RenameAside, Settle, store_call}
 use Rattle.device_calls.specs.Programs.{Asks, Done, Then, Answers, calls_with}
-use Rattle.turn_model.specs.LeaseFiles.{if_done}
+use Rattle.turn_model.specs.KeptFiles.{if_done}
 
 -- no further call
 abbrev pub no_calls : List StoreCall

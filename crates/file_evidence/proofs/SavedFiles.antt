@@ -7,7 +7,7 @@ use Rattle.lease_file.specs.StoreAnswers.{Goes}
 use Rattle.lease_file.specs.WholeFiles.{SavesWhole, KeepsWhole, IsLeft}
 use Rattle.lease_file.proofs.CrashLaws.{saving_whole}
 use Rattle.device_calls.specs.Programs.{Answers, result_with}
-use Rattle.turn_model.specs.LeaseFiles.{if_done}
+use Rattle.turn_model.specs.KeptFiles.{if_done}
 use Rattle.file_evidence.specs.WholeSavings.{SavingsAreWhole}
 use Rattle.file_evidence.proofs.Bringing.{no_calls, none_taken, settling, renaming, syncing, calls_of}
 

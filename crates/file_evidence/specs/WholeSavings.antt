@@ -7,7 +7,7 @@ use Rattle.lease_file.specs.StoreAnswers.{Goes}
 use Rattle.lease_file.specs.WholeFiles.{KeepsWhole, KeepsOrRemoves, IsLeft}
 use Rattle.device_calls.specs.Calls.{store_call}
 use Rattle.device_calls.specs.Programs.{Answers, calls_with, result_with}
-use Rattle.turn_model.specs.LeaseFiles.{bringing}
+use Rattle.turn_model.specs.KeptFiles.{bringing}
 
 -- the calls of the store that bring a file to what it is to hold
 abbrev pub bringing_calls : (name : List ℕ) (wanted : Option (List ℕ)) → Answers (bringing name wanted) → List StoreCall

@@ -1,4 +1,4 @@
-//! Why the files of leases can be relied on: the law that a crash leaves each whole, whatever call of a saving it comes after.
+//! Why the files that a life keeps can be relied on: the law that a crash leaves each whole, whatever call of a saving it comes after.
 #![tactic(auto)]
 
 mod laws;

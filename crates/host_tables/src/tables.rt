@@ -118,8 +118,8 @@ impl Tables {
         &self.places[place]
     }
 
-    /// The rows that a host is to hold: those that the places bring, each once, and of routes with one destination, length
-    /// and metric the one of the lowest interface, then the first in row order.
+    /// The rows that a host is to hold: those that the places bring, each once. Where routes agree in destination, length and
+    /// metric, the interface with the lowest number has its way, and on it the route that row order puts first.
     pub fn wanted(&self) -> &BTreeSet<HostRow>
         ensures rows { result.now.keys ≡ wanted_of self.now }
         ensures fit { AllByRecursion IsRow result.now.keys }

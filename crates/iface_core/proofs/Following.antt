@@ -1,25 +1,30 @@
 -- Steps that follow one another, and what was asked in them.
-use Rattle.std.proofs.Common.{◌≡◌, ◌++◌, List, [], ◌∷◌, Bool, false, refl, sym, ap, ◌∙◌, append_assoc, append-nil, ℕ}
+use Rattle.std.proofs.Common.{◌≡◌, ◌<◌, ◌^◌, arith, ◌++◌, List, [], ◌∷◌, Bool, false, refl, sym, ap, ◌∙◌, append_assoc, append-nil, ℕ}
 use Rattle.std.specs.Prelude.{map, is_some, option_to_list}
 use Rattle.std.proofs.lemmas.List.{map-append}
-use Rattle.machine.specs.Moment.{is_due}
+use Rattle.machine.specs.Moment.{is_due, moment_of}
 use Rattle.v4_client.specs.declared.states.Step4.{Step4}
 use Rattle.v4_client.specs.Clients.{ClientContent, OutContent, held_of}
 use Rattle.v4_client.specs.Moves.{IsStep4}
 use Rattle.v4_client.specs.Settings.{SettingsContent}
+use Rattle.v6_client.proofs.CallRuns.{tick_waits}
 use Rattle.settings.specs.declared.interfaces.Managed.{Managed}
 use Rattle.client_model.specs.declared.interfaces.Iface.{Iface}
 use Rattle.client_model.specs.declared.steps.News.{News}
-use Rattle.client_model.specs.declared.steps.Said.{Said}
-use Rattle.client_model.specs.declared.steps.Said.TheVariants.{Arp, Dhcp4}
+use Rattle.client_model.specs.Messages.{Said, Arp, Dhcp4}
 use Rattle.client_model.specs.declared.steps.TimedMachine.{TimedMachine}
 use Rattle.client_model.specs.declared.steps.TimedMachine.TheVariants as machine
 use Rattle.client_model.specs.IfaceSteps.{Report, IfaceStep, news_of, silent, then_step, with_news}
 use Rattle.client_model.specs.Dhcp4Steps.{after_dhcp4, dhcp4_step, followed, lease_news}
+use Rattle.client_model.specs.Dhcp6Steps.{dhcp6_step}
 use Rattle.client_model.specs.Interfaces.{machine_due, machine_ticked}
 use Rattle.client_model.specs.Clients.{Sending, sends_of, spelled}
 use Rattle.client_model.proofs.SameInterfaces.{StepSame}
 use Rattle.iface_core.specs.Outcomes.{Asked, Follows, Goes, Tells}
+
+-- a moment within the range is told as it is
+pub as_told : (at : ℕ) → at < 10 ^ 15 → moment_of at ≡ at
+as_told at h = grind (arith, h)
 
 -- nothing is asked in a silent step
 pub goes_silent : (iface new : Iface) (asked : Asked) → new ≡ iface → Goes (silent iface) new asked asked
@@ -32,6 +37,7 @@ goes_quiet step new asked quiet = rw quiet (goes_silent new new asked refl)
 pub not_due : (machine : TimedMachine) (at salt : ℕ) (iface : Iface) → is_due (machine_due machine iface) at ≡ false → machine_ticked machine at salt iface ≡ silent iface
 not_due machine.Dhcp4 at salt iface h = rw h refl
 not_due machine.LinkLocal at salt iface h = rw h refl
+not_due machine.Dhcp6 at salt iface h = ap (dhcp6_step iface) (tick_waits iface.dhcp6 at salt h)
 
 -- by what an interface's messages are spelled
 abbrev spelled_by : Managed → SettingsContent → List Said → List Sending
@@ -75,7 +81,7 @@ goes_with_news news before new step none some all one two = record {
 -- ---- DHCPv4
 
 -- the news of the reports that tell it
-reported : (before after : Iface) (news : List News) → map (λ (report : Report). report.news) (map (λ (n : News). record { before = before; news = n; after = after }) news) ≡ news
+pub reported : (before after : Iface) (news : List News) → map (λ (report : Report). report.news) (map (λ (n : News). record { before = before; news = n; after = after }) news) ≡ news
 reported before after [] = refl
 reported before after (n ∷ news) = ap (λ (ns : List News). n ∷ ns) (reported before after news)
 

@@ -1,3 +1,5 @@
 pub mod AskedCodes
+pub mod Asks6
 pub mod Following
+pub mod Following6
 pub mod Staying

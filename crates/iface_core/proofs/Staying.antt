@@ -9,6 +9,9 @@ use Rattle.ipv4ll.specs.declared.link_local.Waits.TheVariants.{ForLease, ForNoth
 use Rattle.ipv4ll.specs.declared.link_local.Fallback.{Fallback}
 use Rattle.ipv4ll.specs.declared.link_local.Fallback.TheVariants.{Choose}
 use Rattle.v4_frames.specs.Heard.{HeardMessage, heard4_in}
+use Rattle.v6_frames.specs.Heard.{HeardMessage6, heard6_in}
+use Rattle.v6_client.specs.declared.states.Carrier6.TheVariants as carrier6
+use Rattle.v6_client.specs.Runs.{Turned6, carrier_turned, contested_turned, hears_turned, rebind_turned, tick_turned}
 use Rattle.v4_client.specs.declared.moments.TheConstants.{SECOND}
 use Rattle.v4_client.specs.declared.states.Carrier.TheVariants.{Up}
 use Rattle.v4_client.specs.declared.states.News4.{News4}
@@ -28,11 +31,13 @@ use Rattle.settings.specs.Fitting.{FitsManaged}
 use Rattle.script_model.specs.IfaceSets.{is_up, is_in}
 use Rattle.client_model.specs.declared.interfaces.Iface.{Iface}
 use Rattle.client_model.specs.ClientSettings.{runs_dhcp4}
+use Rattle.client_model.specs.ClientSettings6.{runs_dhcp6}
 use Rattle.client_model.specs.IfaceSteps.{IfaceStep, index_of, silent, then_step}
 use Rattle.client_model.specs.LocalSteps.{armed, armed_for_lease, chooses_local, fallback_of, local_hears, tick_local}
 use Rattle.client_model.specs.Dhcp4Steps.{arms, arrival_at, begin_dhcp4, dhcp4_packet, dhcp4_step, followed, holds_lease, rebind_dhcp4, tick_dhcp4}
+use Rattle.client_model.specs.Dhcp6Steps.{begin_dhcp6, contested, dhcp6_step, rebind_dhcp6, tick_dhcp6}
 use Rattle.client_model.specs.Interfaces.{resting, begins, machines_rebind, carrier_comes, carrier_goes, opened, restarted, unsent_in, ticked, carried, released, rebound, halted}
-use Rattle.client_model.specs.IfaceTurns.{Turn, hears, hears_either, hears_message, hears_packet, arp_heard, taken, input_step, iface_turned}
+use Rattle.client_model.specs.IfaceTurns.{Turn, hears, hears_either, hears_message, hears_message6, hears_packet, arp_heard, taken, input_step, iface_turned}
 use Rattle.client_model.specs.Fitting.{FitsBeginning, FitsIface}
 use Rattle.client_model.specs.KeptLeases.{Beginning}
 
@@ -106,16 +111,37 @@ rebind_stays at salt iface =
     gated (StepStays iface) (runs_dhcp4 iface.managed.conf) (dhcp4_step at iface (rebind_step at salt iface.dhcp4)) (silent iface)
     (dhcp4_stays at iface (rebind_step at salt iface.dhcp4)) (itself iface)
 
+-- ---- DHCPv6
+
+dhcp6_stays : (iface : Iface) (does : Turned6) → StepStays iface (dhcp6_step iface does)
+dhcp6_stays iface does = record { managed = refl; local = λ h. h }
+
+begin6_stays : (at salt : ℕ) (iface : Iface) → StepStays iface (begin_dhcp6 at salt iface)
+begin6_stays at salt iface =
+    gated (StepStays iface) (runs_dhcp6 iface.managed.conf) (dhcp6_step iface (carrier_turned carrier6.Up at salt iface.dhcp6)) (silent iface)
+    (dhcp6_stays iface (carrier_turned carrier6.Up at salt iface.dhcp6)) (itself iface)
+
+rebind6_stays : (at salt : ℕ) (iface : Iface) → StepStays iface (rebind_dhcp6 at salt iface)
+rebind6_stays at salt iface =
+    gated (StepStays iface) (runs_dhcp6 iface.managed.conf) (dhcp6_step iface (rebind_turned at salt iface.dhcp6)) (silent iface)
+    (dhcp6_stays iface (rebind_turned at salt iface.dhcp6)) (itself iface)
+
 -- ---- the interface
 
 ticked_stays : (at salt : ℕ) (iface : Iface) → StepStays iface (ticked at salt iface)
 ticked_stays at salt iface =
     let first : IfaceStep = tick_dhcp4 at salt iface in
-    both_stays iface first (tick_local at salt) (dhcp4_stays at iface (tick_step at salt iface.dhcp4)) (tick_local_stays at salt first.iface)
+    let both : IfaceStep = then_step first (tick_local at salt) in
+    both_stays iface both (tick_dhcp6 at salt)
+    (both_stays iface first (tick_local at salt) (dhcp4_stays at iface (tick_step at salt iface.dhcp4)) (tick_local_stays at salt first.iface))
+    (dhcp6_stays both.iface (tick_turned at salt both.iface.dhcp6))
 
 begins_stays : (at salt : ℕ) (iface : Iface) → StepStays iface (begins at salt iface)
 begins_stays at salt iface =
-    both_stays iface (begin_dhcp4 at salt iface) (arms at) (begin_stays at salt iface) (arms_stays at (begin_dhcp4 at salt iface).iface)
+    let both : IfaceStep = then_step (begin_dhcp4 at salt iface) (arms at) in
+    both_stays iface both (begin_dhcp6 at salt)
+    (both_stays iface (begin_dhcp4 at salt iface) (arms at) (begin_stays at salt iface) (arms_stays at (begin_dhcp4 at salt iface).iface))
+    (begin6_stays at salt both.iface)
 
 comes_stays : (at salt : ℕ) (iface : Iface) → StepStays iface (carrier_comes at salt iface)
 comes_stays at salt iface =
@@ -132,10 +158,16 @@ carried_stays at salt false iface = gated (StepStays iface) iface.up (carrier_go
 released_stays : (at salt : ℕ) (iface : Iface) → StepStays iface (released at salt iface)
 released_stays at salt iface = record { managed = refl; local = λ h. tt }
 
+rebinds_stays : (at salt : ℕ) (iface : Iface) → StepStays iface (machines_rebind at salt iface)
+rebinds_stays at salt iface =
+    let both : IfaceStep = then_step (rebind_dhcp4 at salt iface) (arms at) in
+    both_stays iface both (rebind_dhcp6 at salt)
+    (both_stays iface (rebind_dhcp4 at salt iface) (arms at) (rebind_stays at salt iface) (arms_stays at (rebind_dhcp4 at salt iface).iface))
+    (rebind6_stays at salt both.iface)
+
 rebound_stays : (at salt : ℕ) (iface : Iface) → StepStays iface (rebound at salt iface)
 rebound_stays at salt iface =
-    gated (StepStays iface) iface.up (machines_rebind at salt iface) (silent iface)
-    (both_stays iface (rebind_dhcp4 at salt iface) (arms at) (rebind_stays at salt iface) (arms_stays at (rebind_dhcp4 at salt iface).iface)) (itself iface)
+    gated (StepStays iface) iface.up (machines_rebind at salt iface) (silent iface) (rebinds_stays at salt iface) (itself iface)
 
 halted_stays : (at salt : ℕ) (iface : Iface) → StepStays iface (halted at salt iface)
 halted_stays at salt iface = record { managed = refl; local = λ h. tt }
@@ -147,23 +179,31 @@ module _ (own : List Mac) (at salt : ℕ) (bytes : List ℕ) where
       both_stays iface first (local_hears own at salt arp) (dhcp4_stays at iface (arp_step own at salt arp iface.dhcp4))
       (record { managed = refl; local = λ h. (step_in own first.iface.local.iface first.iface.local.state (Heard arp at salt) h).chosen })
 
-  message_stays : (message : Option HeardMessage) (iface : Iface) → StepStays iface (hears_message at salt message iface)
-  message_stays None iface = itself iface
-  message_stays (Some heard) iface =
+  message6_stays : (message : Option HeardMessage6) (iface : Iface) → StepStays iface (hears_message6 at salt message iface)
+  message6_stays None iface = itself iface
+  message6_stays (Some heard) iface = dhcp6_stays iface (hears_turned at salt heard.message iface.dhcp6)
+
+  message_stays : (message : Option HeardMessage) (message6 : Option HeardMessage6) (iface : Iface) → StepStays iface (hears_message at salt message message6 iface)
+  message_stays None message6 iface = message6_stays message6 iface
+  message_stays (Some heard) message6 iface =
       dhcp4_stays_from at iface (brought (arrival_at at heard) iface.dhcp4) (heard_step salt (arrival_at at heard) iface.dhcp4)
 
-  either_stays : (arp : Option ArpView) (message : Option HeardMessage) (iface : Iface) → StepStays iface (hears_either own at salt arp message iface)
-  either_stays (Some arp) message iface = packet_stays arp iface
-  either_stays None message iface = message_stays message iface
+  either_stays : (arp : Option ArpView) (message : Option HeardMessage) (message6 : Option HeardMessage6) (iface : Iface)
+      → StepStays iface (hears_either own at salt arp message message6 iface)
+  either_stays (Some arp) message message6 iface = packet_stays arp iface
+  either_stays None message message6 iface = message_stays message message6 iface
 
   -- of an input that names an interface
   named_stays : (index : ℕ) (iface : Iface) (step : IfaceStep) → StepStays iface step → StepStays iface (if nat_eq (index_of iface) index then step else silent iface)
   named_stays index iface step stays = gated (StepStays iface) (nat_eq (index_of iface) index) step (silent iface) stays (itself iface)
 
   taken_stays : (event : Event) (iface : Iface) → StepStays iface (taken own at salt event bytes iface)
-  taken_stays (Frame index len) iface = named_stays index iface (hears own at salt bytes iface) (either_stays (arp_heard bytes) (heard4_in iface.managed.spec.mac bytes) iface)
+  taken_stays (Frame index len) iface =
+      named_stays index iface (hears own at salt bytes iface)
+      (either_stays (arp_heard bytes) (heard4_in iface.managed.spec.mac bytes) (heard6_in iface.managed.spec.mac bytes) iface)
   taken_stays (Carrier index up) iface = named_stays index iface (carried at salt up iface) (carried_stays at salt up iface)
-  taken_stays (Duplicate index addr) iface = itself iface
+  taken_stays (Duplicate index addr) iface =
+      named_stays index iface (contested at salt addr iface) (dhcp6_stays iface (contested_turned addr at salt iface.dhcp6))
   taken_stays (Release index) iface = named_stays index iface (released at salt iface) (released_stays at salt iface)
   taken_stays (Rebind index) iface = named_stays index iface (rebound at salt iface) (rebound_stays at salt iface)
   taken_stays Stop iface = halted_stays at salt iface

@@ -1,6 +1,8 @@
 //! The DHCPv4 client of an interface, and what link-local makes of its news.
-ghost use Rattle.std.specs.Prelude.{◌≡◌, ◌<◌, ◌^◌, ◌∷◌, true, is_some, option_map, IfOk, IfSome, OnOk};
+ghost use Rattle.std.specs.Prelude.{◌≡◌, ◌<◌, ◌^◌, ◌∷◌, ◌++◌, true, is_some, option_map, IfOk, IfSome, OnOk};
+ghost use Rattle.std.specs.Int.{w32, to_be_bytes};
 ghost use Rattle.lease_text.specs.Bounds.{FitsLease};
+ghost use Rattle.lease6_text.specs.Bounds.{IsDuid};
 ghost use Rattle.lease_text.specs.Leases.{lease_content};
 ghost use Rattle.machine.specs.Moment.{is_due};
 ghost use Rattle.settings.specs.Fitting.{FitsManaged};
@@ -9,7 +11,7 @@ ghost use Rattle.v4_message.specs.Requests.{ask_content};
 ghost use Rattle.v4_client.specs.Clients.{client_made, held_of, out_content};
 ghost use Rattle.v4_client.specs.Due.{due_of};
 ghost use Rattle.v4_client.specs.Settings.{settings_content};
-ghost use Rattle.client_model.specs.declared.asking.TheConstants.{ETHERNET};
+ghost use Rattle.client_model.specs.declared.asking.TheConstants.{BY_DUID, ETHERNET};
 ghost use Rattle.client_model.specs.ClientSettings.{ask_of, runs_dhcp4, settings_of};
 ghost use Rattle.client_model.specs.Dhcp4Steps as run;
 ghost use Rattle.iface_core.specs.Outcomes.{Follows, Goes, asked_in};
@@ -17,12 +19,12 @@ ghost use Rattle.iface_core.specs.Outcomes.{Follows, Goes, asked_in};
 use crate::codes::codes_of;
 use crate::local::{arm, drop_local};
 use crate::outs::Outs;
-use client_model::{ETHERNET, Iface};
+use client_model::{BY_DUID, ETHERNET, Iface};
 use frame_link::ArpView;
 use lease_text::Lease4;
 use machine::Machine;
-use net_types::{Mac, NoMemory};
-use settings::{IfConf, Managed};
+use net_types::{IfIndex, Mac, NoMemory};
+use settings::{Identifier, IfConf, Managed};
 use std::alloc::{AllocError, Global};
 use v4_client::{
     Carrier, Client4, News4, Out4, Set4, Tell, carrier4, client4_new, heard_arp4, heard4, held4,
@@ -30,6 +32,7 @@ use v4_client::{
 };
 use v4_frames::Heard4;
 use v4_message::Ask4;
+use v6_options::Duid;
 
 /// DHCPv4 runs where it isn't forbidden and no static address is given.
 pub fn runs_dhcp4(conf: &IfConf) -> bool
@@ -38,7 +41,7 @@ pub fn runs_dhcp4(conf: &IfConf) -> bool
     !conf.nodhcp && !conf.ipv6only && conf.address.is_none()
 }
 
-/// A client is known by its hardware address, where no identifier is configured (RFC 2132, section 9.14).
+/// The identifier that is the hardware address (RFC 2132, section 9.14).
 fn hardware_identifier(alloc: Global, mac: Mac) -> Result<Vec<u8>, AllocError>
     ensures { IfOk result (λ identifier. identifier.items ≡ ETHERNET ∷ mac.bytes) }
 {
@@ -48,36 +51,48 @@ fn hardware_identifier(alloc: Global, mac: Mac) -> Result<Vec<u8>, AllocError>
     Ok(identifier)
 }
 
+/// The identifier that is the DUID of the host, with the interface's index as IAID (RFC 4361, section 6.1).
+fn duid_identifier(alloc: Global, index: IfIndex, duid: &Duid) -> Result<Vec<u8>, AllocError>
+    ensures { IfOk result (λ identifier. identifier.items ≡ BY_DUID ∷ (to_be_bytes w32 index.number ++ duid.now.bytes.items)) }
+{
+    let mut identifier = Vec::new(alloc);
+    identifier.push(BY_DUID)?;
+    identifier.extend_from_slice(&index.number.to_be_bytes())?;
+    identifier.extend_from_slice(duid.as_slice())?;
+    Ok(identifier)
+}
+
 /// By what a client is known.
-fn identifier_of(alloc: Global, managed: &Managed) -> Result<Vec<u8>, AllocError>
-    ensures { IfOk result (λ identifier. identifier.items ≡ (ask_of managed.now).client_id) }
+fn identifier_of(alloc: Global, managed: &Managed, duid: &Duid) -> Result<Vec<u8>, AllocError>
+    ensures { IfOk result (λ identifier. identifier.items ≡ (ask_of duid.now.bytes.items managed.now).client_id) }
 {
     match &managed.conf.dhcp4.identifier {
-        Some(identifier) => identifier.to_vec(alloc),
-        None => hardware_identifier(alloc, managed.spec.mac),
+        Identifier::Hardware => hardware_identifier(alloc, managed.spec.mac),
+        Identifier::Bytes(bytes) => bytes.to_vec(alloc),
+        Identifier::Duid => duid_identifier(alloc, managed.spec.index, duid),
     }
 }
 
 /// What a client says of itself.
-fn ask_of(alloc: Global, managed: &Managed) -> Result<Ask4, AllocError>
-    ensures { IfOk result (λ ask. ask_content ask ≡ ask_of managed.now) }
+fn ask_of(alloc: Global, managed: &Managed, duid: &Duid) -> Result<Ask4, AllocError>
+    ensures { IfOk result (λ ask. ask_content ask ≡ ask_of duid.now.bytes.items managed.now) }
 {
     let conf = &managed.conf.dhcp4;
     Ok(Ask4 {
-        client_id: identifier_of(alloc, managed)?,
+        client_id: identifier_of(alloc, managed, duid)?,
         vendor: conf.vendor.to_vec(alloc)?,
         host: conf.host.to_vec(alloc)?,
         list: codes_of(alloc, &conf.asked, &conf.refused)?,
     })
 }
 
-fn settings_of(alloc: Global, managed: &Managed) -> Result<Set4, AllocError>
-    ensures { IfOk result (λ set. settings_content set ≡ settings_of managed.now) }
+fn settings_of(alloc: Global, managed: &Managed, duid: &Duid) -> Result<Set4, AllocError>
+    ensures { IfOk result (λ set. settings_content set ≡ settings_of duid.now.bytes.items managed.now) }
 {
     let conf = &managed.conf;
     Ok(Set4 {
         iface: managed.spec,
-        ask: ask_of(alloc, managed)?,
+        ask: ask_of(alloc, managed, duid)?,
         nodelay: conf.nodelay,
         noarp: conf.noarp,
         broadcast: conf.broadcast,
@@ -88,17 +103,19 @@ fn settings_of(alloc: Global, managed: &Managed) -> Result<Set4, AllocError>
     })
 }
 
-/// The client of an interface, off, with the lease that was kept before.
+/// The client of an interface, off, with the lease that was kept before. `duid` is that of the host.
 pub fn client_of(
     alloc: Global,
     managed: &Managed,
+    duid: &Duid,
     kept: Option<Lease4>,
 ) -> Result<Client4, AllocError>
     requires managed { FitsManaged managed.now }
+    requires duid { IsDuid duid.now.bytes.items }
     requires kept { IfSome (option_map lease_content kept) FitsLease }
-    ensures { IfOk result (λ client. client ≡ client_made (settings_of managed.now) (option_map lease_content kept)) }
+    ensures { IfOk result (λ client. client ≡ client_made (settings_of duid.now.bytes.items managed.now) (option_map lease_content kept)) }
 {
-    let set = settings_of(alloc, managed)?;
+    let set = settings_of(alloc, managed, duid)?;
     Ok(client4_new(alloc, set, kept))
 }
 

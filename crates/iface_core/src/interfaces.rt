@@ -2,10 +2,13 @@
 ghost use Rattle.std.specs.Prelude.{◌≡◌, ◌<◌, ◌^◌, IfOk, IfSome, OnOk, option_map};
 ghost use Rattle.lease_text.specs.Bounds.{FitsLease};
 ghost use Rattle.lease_text.specs.Leases.{lease_content};
+ghost use Rattle.lease6_text.specs.Bounds.{FitsLease6};
+ghost use Rattle.lease6_text.specs.Leases.{lease6_content};
 ghost use Rattle.world.specs.Rows.{IsInterface};
 ghost use Rattle.ipv4ll.specs.Table.{held_in};
 ghost use Rattle.v4_client.specs.Clients.{held_of};
 ghost use Rattle.v4_client.specs.Moments.{earlier};
+ghost use Rattle.v6_client.specs.Clients as client6;
 ghost use Rattle.script_model.specs.IfaceSets.{is_in};
 ghost use Rattle.client_model.specs.Fitting.{FitsBeginning};
 ghost use Rattle.client_model.specs.Interfaces as run;
@@ -14,16 +17,19 @@ ghost use Rattle.iface_core.specs.Outcomes.{Goes, asked_in};
 
 use crate::beginnings::Beginning;
 use crate::dhcp4::{begin_dhcp4, client_of, drop_dhcp4, rebind_dhcp4, stop_dhcp4};
+use crate::dhcp6::{begin_dhcp6, client6_of, drop_dhcp6, rebind_dhcp6, stop_dhcp6};
 use crate::local::{arm_unless_held, drop_local};
 use crate::outs::Outs;
 use client_model::{Iface, News, TimedMachine};
 use ipv4ll::{ll_held, ll_off};
 use lease_text::Lease4;
+use lease6_text::Lease6;
 use machine::Machine;
 use net_types::{IfIndex, Ip4, NoMemory};
 use settings::IfConf;
 use std::alloc::{AllocError, Global};
 use v4_client::{Tell, held4, kept4};
+use v6_client::{held6, kept6};
 use world::Begin;
 
 /// Whether a set of interfaces has this one: bit `i - 1` is interface `i`.
@@ -58,15 +64,22 @@ fn rest(alloc: Global, beginning: Beginning) -> Result<Iface, AllocError>
     requires { FitsBeginning (beginning_of beginning) }
     ensures { IfOk result (λ iface. iface ≡ run.resting (beginning_of beginning)) }
 {
-    let Beginning { managed, kept } = beginning;
-    let dhcp4 = client_of(alloc, &managed, kept)?;
+    let Beginning {
+        managed,
+        duid,
+        kept4,
+        kept6,
+    } = beginning;
+    let dhcp4 = client_of(alloc, &managed, &duid, kept4)?;
     let local = ll_off(managed.spec.index);
+    let dhcp6 = client6_of(alloc, &managed, duid, kept6)?;
     Ok(Iface {
         managed,
         up: false,
         stopped: false,
         dhcp4,
         local,
+        dhcp6,
     })
 }
 
@@ -77,7 +90,7 @@ fn begin(iface: &mut Iface, at: u64, salt: u64, outs: &mut Outs) -> Result<(), N
 {
     begin_dhcp4(iface, at, salt, outs)?;
     arm_unless_held(iface, at);
-    Ok(())
+    begin_dhcp6(iface, at, salt, outs)
 }
 
 /// The machines are off, and nobody is told.
@@ -87,7 +100,7 @@ fn drop_machines(iface: &mut Iface, at: u64, salt: u64, outs: &mut Outs) -> Resu
 {
     drop_dhcp4(iface, at, salt, outs)?;
     drop_local(iface);
-    Ok(())
+    drop_dhcp6(iface, at, salt, outs)
 }
 
 /// The machines stop; `tell` says whether the server of a held lease is told.
@@ -103,7 +116,7 @@ fn stop_machines(
 {
     stop_dhcp4(iface, tell, at, salt, outs)?;
     drop_local(iface);
-    Ok(())
+    stop_dhcp6(iface, tell, at, salt, outs)
 }
 
 fn gain_carrier(iface: &mut Iface, at: u64, salt: u64, outs: &mut Outs) -> Result<(), NoMemory>
@@ -158,7 +171,7 @@ fn rebind_machines(iface: &mut Iface, at: u64, salt: u64, outs: &mut Outs) -> Re
 {
     rebind_dhcp4(iface, at, salt, outs)?;
     arm_unless_held(iface, at);
-    Ok(())
+    rebind_dhcp6(iface, at, salt, outs)
 }
 
 /// A lease that is held is confirmed anew, and machines that are off begin, where there is carrier.
@@ -202,6 +215,7 @@ pub fn machine_due(iface: &Iface, machine: TimedMachine) -> Option<u64>
     match machine {
         TimedMachine::Dhcp4 => iface.dhcp4.due(),
         TimedMachine::LinkLocal => iface.local.due(),
+        TimedMachine::Dhcp6 => iface.dhcp6.due(),
     }
 }
 
@@ -220,10 +234,11 @@ pub fn earlier_of(a: Option<u64>, b: Option<u64>) -> Option<u64>
 pub fn iface_due(iface: &Iface) -> Option<u64>
     ensures { result ≡ run.iface_due iface.now }
 {
-    earlier_of(
+    let due = earlier_of(
         machine_due(iface, TimedMachine::Dhcp4),
         machine_due(iface, TimedMachine::LinkLocal),
-    )
+    );
+    earlier_of(due, machine_due(iface, TimedMachine::Dhcp6))
 }
 
 /// The link-local address that the interface holds.
@@ -247,4 +262,20 @@ pub fn iface_kept(iface: &Iface) -> Option<&Lease4>
     ensures fits { IfSome (option_map (λ lease. lease_content lease.now) result) FitsLease }
 {
     kept4(&iface.dhcp4)
+}
+
+/// The DHCPv6 lease that the interface holds.
+pub fn iface_lease6(iface: &Iface) -> Option<&Lease6>
+    ensures value { option_map (λ lease. lease6_content lease.now) result ≡ client6.held_of iface.now.dhcp6 }
+    ensures fits { IfSome (option_map (λ lease. lease6_content lease.now) result) FitsLease6 }
+{
+    held6(&iface.dhcp6)
+}
+
+/// The DHCPv6 lease that the interface keeps for its next start, held or not.
+pub fn iface_kept6(iface: &Iface) -> Option<&Lease6>
+    ensures value { option_map (λ lease. lease6_content lease.now) result ≡ iface.now.dhcp6.kept }
+    ensures fits { IfSome (option_map (λ lease. lease6_content lease.now) result) FitsLease6 }
+{
+    kept6(&iface.dhcp6)
 }

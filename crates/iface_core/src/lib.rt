@@ -6,6 +6,7 @@
 mod beginnings;
 mod codes;
 mod dhcp4;
+mod dhcp6;
 mod inputs;
 mod interfaces;
 mod local;
@@ -14,9 +15,14 @@ mod turns;
 
 pub use beginnings::Beginning;
 pub use dhcp4::runs_dhcp4;
+pub use dhcp6::runs_dhcp6;
 pub use inputs::{Turn, TurnInput};
 pub use interfaces::{
-    contains, earlier_of, iface_due, iface_held, iface_kept, iface_lease, iface_open, machine_due,
+    contains, earlier_of, iface_due, iface_held, iface_kept, iface_kept6, iface_lease,
+    iface_lease6, iface_open, machine_due,
 };
 pub use outs::{Outs, Sending};
 pub use turns::{iface_input, iface_tick, iface_turn, iface_unsent};
+
+#[cfg(test)]
+mod tests;

@@ -1,21 +1,24 @@
 //! What a turn asks of the outside, and what is new in it.
-ghost use Rattle.std.specs.Prelude.{◌≡◌, [], ◌∷◌, IfOk, OnOk, map, option_to_list};
-ghost use Rattle.v4_message.specs.Requests.{AskFits, ask_content};
-ghost use Rattle.client_model.specs.declared.steps.Said.TheVariants.{Arp, Dhcp4};
+ghost use Rattle.std.specs.Prelude.{◌≡◌, [], ◌∷◌, IfOk, OnOk, map, option_map, option_to_list};
+ghost use Rattle.v6_client.specs.Saying.{spoken_content};
+ghost use Rattle.client_model.specs.Messages.{Arp, Dhcp4};
 ghost use Rattle.client_model.specs.LocalSteps.{local_news};
 ghost use Rattle.client_model.specs.Dhcp4Steps.{lease_news};
+ghost use Rattle.client_model.specs.Dhcp6Steps.{lease6_news};
 ghost use Rattle.client_model.specs.Clients.{spelled};
-ghost use Rattle.iface_core.specs.Outcomes.{Offers, Tells, ask_in, sending_of, asked_in, spec_in};
+ghost use Rattle.iface_core.specs.Outcomes.{Offers, Tells, arp_text, ask_in, asked_in, dhcp6_said, framed, spec_in};
 
 use arp_acd::ArpSay;
-use client_model::{Iface, News, Said};
+use client_model::{Iface, News};
 use frame_link::arp_frame;
 use ipv4ll::LlNews;
-use net_types::{IfIndex, IfSpec, Ip4, NoMemory};
-use std::alloc::Global;
+use net_types::{IfIndex, Ip4, Mac, NoMemory};
+use std::alloc::{AllocError, Global};
 use v4_client::{News4, Say4, ask4};
 use v4_frames::build4;
-use v4_message::Ask4;
+use v6_client::{News6, duid6};
+use v6_frames::build6;
+use v6_message::Said6;
 
 /// A frame that is offered on an interface.
 #[derive(Debug, Drop)]
@@ -44,12 +47,14 @@ impl Outs {
         }
     }
 
-    /// Offers the frame of a message of the interface.
-    fn say(&mut self, iface: &Iface, message: Said) -> Result<(), NoMemory>
-        ensures { OnOk result (Offers (spelled (spec_in iface.now) (ask_in iface.now) message ∷ []) (asked_in self.old) (asked_in self.new)) }
+    /// Offers a frame of the interface.
+    fn offer(&mut self, iface: &Iface, bytes: Vec<u8>) -> Result<(), NoMemory>
+        ensures { OnOk result (Offers (framed (spec_in iface.now) bytes.items ∷ []) (asked_in self.old) (asked_in self.new)) }
     {
-        let sending = spell(self.alloc, &iface.managed.spec, ask4(&iface.dhcp4), message)?;
-        self.sends.push(sending)?;
+        self.sends.push(Sending {
+            iface: iface.managed.spec.index,
+            bytes,
+        })?;
         Ok(())
     }
 
@@ -57,20 +62,34 @@ impl Outs {
     pub fn say_dhcp4(&mut self, iface: &Iface, message: Option<Say4>) -> Result<(), NoMemory>
         ensures { OnOk result (Offers (map (spelled (spec_in iface.now) (ask_in iface.now)) (map Dhcp4 (option_to_list message))) (asked_in self.old) (asked_in self.new)) }
     {
-        match message {
-            None => Ok(()),
-            Some(message) => self.say(iface, Said::Dhcp4(message)),
-        }
+        let Some(message) = message else {
+            return Ok(());
+        };
+        let bytes = build4(self.alloc, &message.sent(), ask4(&iface.dhcp4))?;
+        self.offer(iface, bytes)
     }
 
     /// Offers the frame of an ARP message, where there is one.
     pub fn say_arp(&mut self, iface: &Iface, message: Option<ArpSay>) -> Result<(), NoMemory>
         ensures { OnOk result (Offers (map (spelled (spec_in iface.now) (ask_in iface.now)) (map Arp (option_to_list message))) (asked_in self.old) (asked_in self.new)) }
     {
-        match message {
-            None => Ok(()),
-            Some(message) => self.say(iface, Said::Arp(message)),
-        }
+        let Some(message) = message else {
+            return Ok(());
+        };
+        let bytes = arp_bytes(self.alloc, iface.managed.spec.mac, message)?;
+        self.offer(iface, bytes)
+    }
+
+    /// Offers the frame of a DHCPv6 message, where there is one.
+    pub fn say_dhcp6(&mut self, iface: &Iface, message: Option<&Said6>) -> Result<(), NoMemory>
+        ensures { OnOk result (Offers (map (spelled (spec_in iface.now) (ask_in iface.now)) (dhcp6_said iface.now (option_map (λ said. spoken_content said.now) message.entry))) (asked_in self.old) (asked_in self.new)) }
+    {
+        let Some(message) = message else {
+            return Ok(());
+        };
+        let mac = iface.managed.spec.mac;
+        let bytes = build6(self.alloc, mac, message, duid6(&iface.dhcp6))?;
+        self.offer(iface, bytes)
     }
 
     /// Tells what is new.
@@ -97,6 +116,22 @@ impl Outs {
         }
     }
 
+    /// Tells what has become of a DHCPv6 lease.
+    pub fn tell_lease6(&mut self, news: News6) -> Result<(), NoMemory>
+        ensures { OnOk result (Tells (lease6_news news) (asked_in self.old) (asked_in self.new)) }
+    {
+        match news {
+            News6::Nothing => Ok(()),
+            News6::Bound => self.tell(News::Lease6(News6::Bound)),
+            News6::Reboot => self.tell(News::Lease6(News6::Reboot)),
+            News6::Renew => self.tell(News::Lease6(News6::Renew)),
+            News6::Rebind => self.tell(News::Lease6(News6::Rebind)),
+            News6::Changed => self.tell(News::Lease6(News6::Changed)),
+            News6::Expire => self.tell(News::Lease6(News6::Expire)),
+            News6::Stop => self.tell(News::Lease6(News6::Stop)),
+        }
+    }
+
     /// Tells what has become of a link-local address.
     pub fn tell_local(&mut self, news: LlNews) -> Result<(), NoMemory>
         ensures { OnOk result (Tells (local_news news) (asked_in self.old) (asked_in self.new)) }
@@ -110,20 +145,12 @@ impl Outs {
     }
 }
 
-/// The frame of a message.
-fn spell(alloc: Global, spec: &IfSpec, ask: &Ask4, message: Said) -> Result<Sending, NoMemory>
-    requires { AskFits (ask_content ask.now) }
-    ensures { IfOk result (λ sending. sending_of sending ≡ spelled spec.now (ask_content ask.now) message) }
+/// The frame of an ARP message of the interface with this hardware address.
+fn arp_bytes(alloc: Global, mac: Mac, message: ArpSay) -> Result<Vec<u8>, AllocError>
+    ensures { IfOk result (λ bytes. bytes.items ≡ arp_text mac message) }
 {
-    let bytes = match message {
-        Said::Dhcp4(say) => build4(alloc, &say.sent(), ask)?,
-        Said::Arp(ArpSay::Probe(addr)) => {
-            arp_frame(spec.mac, Ip4::UNSPECIFIED, addr).to_vec(alloc)?
-        }
-        Said::Arp(ArpSay::Announce(addr)) => arp_frame(spec.mac, addr, addr).to_vec(alloc)?,
-    };
-    Ok(Sending {
-        iface: spec.index,
-        bytes,
-    })
+    match message {
+        ArpSay::Probe(addr) => arp_frame(mac, Ip4::UNSPECIFIED, addr).to_vec(alloc),
+        ArpSay::Announce(addr) => arp_frame(mac, addr, addr).to_vec(alloc),
+    }
 }

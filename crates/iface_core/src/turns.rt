@@ -3,12 +3,14 @@ ghost use Rattle.machine.specs.Moment.{is_due};
 ghost use Rattle.world.specs.Rows.{IsInterface};
 ghost use Rattle.client_model.specs.IfaceSteps.{index_of};
 ghost use Rattle.v4_frames.specs.Heard.{heard4_in};
+ghost use Rattle.v6_frames.specs.Heard.{heard6_in};
 ghost use Rattle.client_model.specs.Interfaces as run;
-ghost use Rattle.client_model.specs.IfaceTurns.{arp_heard, hears, hears_message, hears_packet, iface_turned};
+ghost use Rattle.client_model.specs.IfaceTurns.{arp_heard, hears, hears_message, hears_message6, hears_packet, iface_turned};
 ghost use Rattle.iface_core.specs.Inputs.{input_of, turn_of};
 ghost use Rattle.iface_core.specs.Outcomes.{Goes, asked_in};
 
 use crate::dhcp4::{hear_message, hear_packet, tick_dhcp4};
+use crate::dhcp6::{contest, hear_message6, tick_dhcp6};
 use crate::inputs::{Turn, TurnInput};
 use crate::interfaces::{carry, contains, halt, machine_due, rebind, release};
 use crate::local::{hear_local, tick_local};
@@ -20,6 +22,7 @@ use machine::has_come;
 use net_types::{Mac, NoMemory};
 use v4_client::unsent4;
 use v4_frames::heard4_of;
+use v6_frames::heard6_of;
 
 /// The kind of an Ethernet frame that carries ARP (RFC 826).
 const ARP_KIND: u16 = 0x0806;
@@ -48,6 +51,7 @@ pub fn iface_tick(
     match machine {
         TimedMachine::Dhcp4 => tick_dhcp4(iface, at, salt, outs),
         TimedMachine::LinkLocal => tick_local(iface, at, salt, outs),
+        TimedMachine::Dhcp6 => tick_dhcp6(iface, at, salt, outs),
     }
 }
 
@@ -90,6 +94,9 @@ pub fn iface_input(
         TurnInput::Carrier { iface: index, up } if is_numbered(iface, index) => {
             carry(iface, up, turn.at, turn.salt, outs)
         }
+        TurnInput::Duplicate { iface: index, addr } if is_numbered(iface, index) => {
+            contest(iface, addr, turn.at, turn.salt, outs)
+        }
         TurnInput::Release { iface: index } if is_numbered(iface, index) => {
             release(iface, turn.at, turn.salt, outs)
         }
@@ -112,7 +119,7 @@ fn is_numbered(iface: &Iface, number: u32) -> bool
     iface.managed.spec.index.number == number
 }
 
-/// Both machines hear an ARP packet.
+/// DHCPv4 and link-local hear an ARP packet.
 fn hear_arp(
     iface: &mut Iface,
     arp: &ArpView,
@@ -127,18 +134,34 @@ fn hear_arp(
     hear_local(iface, arp, turn.at, turn.salt, own, outs)
 }
 
-/// A server's message, where the frame has one for the interface.
-fn hear_dhcp4(
+/// A DHCPv6 server's message, where the frame has one for the interface.
+fn hear_dhcp6(
     iface: &mut Iface,
     bytes: &[u8],
     turn: &Turn<'_>,
     outs: &mut Outs,
 ) -> Result<(), NoMemory>
     requires { turn.now.at < 10 ^ 15 }
-    ensures { OnOk result (Goes (hears_message turn.now.at turn.now.salt (heard4_in iface.old.managed.spec.mac bytes.now) iface.old) iface.new (asked_in outs.old) (asked_in outs.new)) }
+    ensures { OnOk result (Goes (hears_message6 turn.now.at turn.now.salt (heard6_in iface.old.managed.spec.mac bytes.now) iface.old) iface.new (asked_in outs.old) (asked_in outs.new)) }
+{
+    match heard6_of(iface.managed.spec.mac, bytes) {
+        None => Ok(()),
+        Some(heard) => hear_message6(iface, &heard, turn.at, turn.salt, outs),
+    }
+}
+
+/// A server's message, of DHCPv4 or of DHCPv6, where the frame has one for the interface.
+fn hear_server(
+    iface: &mut Iface,
+    bytes: &[u8],
+    turn: &Turn<'_>,
+    outs: &mut Outs,
+) -> Result<(), NoMemory>
+    requires { turn.now.at < 10 ^ 15 }
+    ensures { OnOk result (Goes (hears_message turn.now.at turn.now.salt (heard4_in iface.old.managed.spec.mac bytes.now) (heard6_in iface.old.managed.spec.mac bytes.now) iface.old) iface.new (asked_in outs.old) (asked_in outs.new)) }
 {
     match heard4_of(iface.managed.spec.mac, bytes) {
-        None => Ok(()),
+        None => hear_dhcp6(iface, bytes, turn, outs),
         Some(heard) => hear_message(iface, &heard, turn.at, turn.salt, outs),
     }
 }
@@ -156,7 +179,7 @@ fn hear(
 {
     match arp_in_frame(bytes) {
         Some(arp) => hear_arp(iface, &arp, turn, own, outs),
-        None => hear_dhcp4(iface, bytes, turn, outs),
+        None => hear_server(iface, bytes, turn, outs),
     }
 }
 
@@ -188,7 +211,8 @@ fn tick_machines(iface: &mut Iface, turn: &Turn<'_>, outs: &mut Outs) -> Result<
     ensures { OnOk result (Goes (run.ticked turn.now.at turn.now.salt iface.old) iface.new (asked_in outs.old) (asked_in outs.new)) }
 {
     tick_if_due(iface, TimedMachine::Dhcp4, turn, outs)?;
-    tick_if_due(iface, TimedMachine::LinkLocal, turn, outs)
+    tick_if_due(iface, TimedMachine::LinkLocal, turn, outs)?;
+    tick_if_due(iface, TimedMachine::Dhcp6, turn, outs)
 }
 
 /// A turn of an interface: a failed send of the turn before, the ticks of its machines, then the input.

@@ -17,18 +17,31 @@ use Rattle.v4_client.specs.Clients.{held_of, kept_terms, turn_of}
 use Rattle.v4_client.specs.Inputs as inputs
 use Rattle.v4_client.specs.Moments.{expiry}
 use Rattle.v4_client.specs.Steps.{to_init, new_exchange, rebooting}
+use Rattle.v6_client.specs.declared.states.Carrier6.TheVariants.{Up}
+use Rattle.v6_client.specs.declared.states.State6.TheVariants.{Off}
+use Rattle.v6_client.specs.declared.states.Step6.{Step6}
+use Rattle.v6_client.specs.Calls.{parting_begun}
+use Rattle.v6_client.specs.Clients as client6
+use Rattle.v6_client.specs.Clients.{ClientContent}
+use Rattle.v6_client.specs.Inputs.{begin_row}
+use Rattle.v6_client.specs.Moves.{moved}
+use Rattle.v6_client.specs.Runs.{carrier_turned}
+use Rattle.v6_client.specs.Steps.{restarts, to_waiting}
 use Rattle.script_model.specs.IfaceSets.{is_up}
 use Rattle.settings.specs.declared.interfaces.IfConf.{IfConf}
 use Rattle.client_model.specs.declared.interfaces.Iface.{Iface}
 use Rattle.client_model.specs.ClientSettings.{runs_dhcp4}
+use Rattle.client_model.specs.ClientSettings6.{runs_dhcp6, settings6_of}
 use Rattle.client_model.specs.Dhcp4Steps.{arms, begin_dhcp4, dhcp4_step, holds_lease}
+use Rattle.client_model.specs.Dhcp6Steps.{begin_dhcp6, dhcp6_step}
 use Rattle.client_model.specs.IfaceSteps.{IfaceStep, silent}
 use Rattle.client_model.specs.Interfaces.{resting, carrier_comes}
 use Rattle.client_model.specs.KeptLeases.{Beginning}
 use Rattle.client_model.specs.LocalSteps.{armed, armed_for_lease, chooses_local, fallback_of}
 use Rattle.world.specs.declared.rows.HostRow.{HostRow}
-use Rattle.client_model.specs.WantedRows.{outlet_of, iface_rows, static_rows, lease_rows, local_rows}
-use Rattle.lease_evidence.specs.HeldLeases.{Opening, opens, BeginsWithoutLease}
+use Rattle.client_model.specs.WantedRows.{outlet_of, iface_rows, static_rows, lease_rows, local_rows, lease6_rows}
+use Rattle.evidence_words.specs.IfaceLives.{Opening, opens}
+use Rattle.lease_evidence.specs.HeldLeases.{BeginsWithoutLease}
 
 -- ---- link-local that is armed holds nothing
 
@@ -49,34 +62,64 @@ module _ (b : Beginning) (up : Bool) where
     up_is : (f.up && not f.stopped) ≡ up
     none : held_of f.dhcp4 ≡ None
     no_local : HoldsNone f.local
+    no_items : client6.held_of f.dhcp6 ≡ None
 
-  -- one whose link-local address is off besides
-  record IsStill (f : Iface) : Type 0 where
+  -- one whose DHCPv6 client is off
+  record IsFresh (f : Iface) : Type 0 where
     nothing : HoldsNothing f
+    made : f.dhcp6 ≡ client6.client_made (settings6_of b.duid b.managed) b.kept6
+
+  -- and whose link-local address is off besides
+  record IsStill (f : Iface) : Type 0 where
+    fresh : IsFresh f
     still : f.local ≡ off b.managed.spec.index
 
   abbrev Holds : IfaceStep → Type 0
   Holds step = HoldsNothing step.iface
 
-  arms_nothing : (at : ℕ) (f : Iface) → IsStill f → Holds (arms at f)
-  arms_nothing at f still =
-      gated Holds (holds_lease f) (silent f) (silent (record f { local = armed f.managed.conf at f.local })) still.nothing
+  arms_fresh : (at : ℕ) (f : Iface) → IsStill f → IsFresh (arms at f).iface
+  arms_fresh at f still =
+      gated (λ (step : IfaceStep). IsFresh step.iface) (holds_lease f) (silent f) (silent (record f { local = armed f.managed.conf at f.local })) still.fresh
       (record {
-        managed_is = still.nothing.managed_is;
-        up_is = still.nothing.up_is;
-        none = still.nothing.none;
-        no_local = subst (λ (local : LinkLocal). HoldsNone (armed f.managed.conf at local)) (sym still.still) (armed_none f.managed.conf at b.managed.spec.index);
+        nothing = record {
+          managed_is = still.fresh.nothing.managed_is;
+          up_is = still.fresh.nothing.up_is;
+          none = still.fresh.nothing.none;
+          no_local = subst (λ (local : LinkLocal). HoldsNone (armed f.managed.conf at local)) (sym still.still) (armed_none f.managed.conf at b.managed.spec.index);
+          no_items = still.fresh.nothing.no_items;
+        };
+        made = still.fresh.made;
       })
+
+  -- a DHCPv6 client that begins holds nothing, whatever was kept
+  begun6 : (at salt : ℕ) (c : ClientContent) → client6.held_of (moved (begin_row (client6.turn_of at salt c) (parting_begun at c) Off) None c) ≡ None
+  begun6 at salt c =
+      gated (λ (step : Step6). client6.held_of (moved step None c) ≡ None) (parting_begun at c).stays (restarts (client6.turn_of at salt c)) (to_waiting (client6.turn_of at salt c)) refl refl
+
+  begins6_nothing : (at salt : ℕ) (f : Iface) → IsFresh f → Holds (begin_dhcp6 at salt f)
+  unfolding carrier_turned
+  begins6_nothing at salt f fresh =
+      gated Holds (runs_dhcp6 f.managed.conf) (dhcp6_step f (carrier_turned Up at salt f.dhcp6)) (silent f)
+      (record {
+        managed_is = fresh.nothing.managed_is;
+        up_is = fresh.nothing.up_is;
+        none = fresh.nothing.none;
+        no_local = fresh.nothing.no_local;
+        no_items = subst (λ (c : ClientContent). client6.held_of (carrier_turned Up at salt c).client ≡ None) (sym fresh.made)
+            (begun6 at salt (client6.client_made (settings6_of b.duid b.managed) b.kept6));
+      })
+      fresh.nothing
 
   abbrev statics : List HostRow
   statics = static_rows (outlet_of b.managed) up b.managed.conf.address b.managed.conf.router
 
   rows_static : (f : Iface) → HoldsNothing f → iface_rows f ≡ statics
   rows_static f h =
-      (λ i. (static_rows (outlet_of (h.managed_is i)) (h.up_is i) (h.managed_is i).conf.address (h.managed_is i).conf.router
+      (λ i. ((static_rows (outlet_of (h.managed_is i)) (h.up_is i) (h.managed_is i).conf.address (h.managed_is i).conf.router
       ++ lease_rows (outlet_of (h.managed_is i)) (h.managed_is i).conf.router (h.none i))
       ++ local_rows (outlet_of (h.managed_is i)) (h.no_local i))
-      ∙ append-nil (statics ++ []) ∙ append-nil statics
+      ++ lease6_rows (outlet_of (h.managed_is i)) (h.no_items i))
+      ∙ append-nil ((statics ++ []) ++ []) ∙ append-nil (statics ++ []) ∙ append-nil statics
 
 -- ---- the opening
 
@@ -91,27 +134,38 @@ module _ (b : Beginning) (at salt : ℕ) where
   After step = IsStill b true (dhcp4_step at lit step).iface
 
   begun : (kept : Option Terms4) → After (inputs.begins turn kept)
-  begun None = record { nothing = record { managed_is = refl; up_is = refl; none = refl; no_local = refl }; still = refl }
+  begun None =
+      record {
+        fresh = record { nothing = record { managed_is = refl; up_is = refl; none = refl; no_local = refl; no_items = refl }; made = refl };
+        still = refl;
+      }
   begun (Some terms) =
       gated After (is_due (expiry terms) at || nat_eq b.managed.conf.reboot 0) (to_init turn) (rebooting turn (new_exchange turn terms.net.ip) Four (at + SECOND * b.managed.conf.reboot))
-      (record { nothing = record { managed_is = refl; up_is = refl; none = refl; no_local = refl }; still = refl })
-      (record { nothing = record { managed_is = refl; up_is = refl; none = refl; no_local = refl }; still = refl })
+      (record {
+        fresh = record { nothing = record { managed_is = refl; up_is = refl; none = refl; no_local = refl; no_items = refl }; made = refl };
+        still = refl;
+      })
+      (record {
+        fresh = record { nothing = record { managed_is = refl; up_is = refl; none = refl; no_local = refl; no_items = refl }; made = refl };
+        still = refl;
+      })
 
   first_still : IsStill b true (begin_dhcp4 at salt lit).iface
   first_still =
       gated (λ (step : IfaceStep). IsStill b true step.iface) (runs_dhcp4 b.managed.conf) (dhcp4_step at lit (inputs.begins turn (kept_terms lit.dhcp4))) (silent lit)
       (begun (kept_terms lit.dhcp4))
-      (record { nothing = record { managed_is = refl; up_is = refl; none = refl; no_local = refl }; still = refl })
+      (record {
+        fresh = record { nothing = record { managed_is = refl; up_is = refl; none = refl; no_local = refl; no_items = refl }; made = refl };
+        still = refl;
+      })
 
   comes_nothing : HoldsNothing b true (carrier_comes at salt (resting b)).iface
-  comes_nothing = by (arms_nothing b true at (begin_dhcp4 at salt lit).iface first_still)
-    where
-      by : HoldsNothing b true (arms at (begin_dhcp4 at salt lit).iface).iface → HoldsNothing b true (carrier_comes at salt (resting b)).iface
-      by h = h
+  comes_nothing =
+      begins6_nothing b true at salt (arms at (begin_dhcp4 at salt lit).iface).iface (arms_fresh b true at (begin_dhcp4 at salt lit).iface first_still)
 
   opened_nothing : (up : Bool) → HoldsNothing b up (if up then carrier_comes at salt (resting b) else silent (resting b)).iface
   opened_nothing true = comes_nothing
-  opened_nothing false = record { managed_is = refl; up_is = refl; none = refl; no_local = refl }
+  opened_nothing false = record { managed_is = refl; up_is = refl; none = refl; no_local = refl; no_items = refl }
 
 pub begins_without_lease : (beginning : Beginning) (opening : Opening) → BeginsWithoutLease beginning opening
 begins_without_lease b opening =

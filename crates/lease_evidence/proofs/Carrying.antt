@@ -1,6 +1,6 @@
 -- What the DHCPv4 client of an interface carries of the turns shown, and that a tick keeps it.
 use Rattle.std.proofs.Common.{◌≡◌, ℕ, ◌<◌, ◌≤◌, ◌^◌, Bool, true, false, ◌||◌, List, ◌∷◌, map, Option, Some, None, IfSome, refl, sym, ap, subst, ◌∙◌, arith, nat_eq, if◌then◌else◌}
-use Rattle.std.specs.List.{list_any}
+use Rattle.std.specs.List.{list_any, AllByRecursion}
 use Rattle.machine.specs.Moment.{is_due}
 use Rattle.net_types.proofs.CaseLaws.{split, gated}
 use Rattle.lease_text.specs.declared.lease.Terms4.{Terms4}
@@ -27,7 +27,7 @@ use Rattle.v4_client.specs.Steps.{rests}
 use Rattle.v4_client.specs.Ticks.{tick_row}
 use Rattle.v4_client.proofs.SoundClients.{moved_sound}
 use Rattle.v4_client.proofs.SoundSteps.{tick_sound, rests_sound, unsent_sound}
-use Rattle.client_model.specs.declared.steps.Said.{Said}
+use Rattle.client_model.specs.Messages.{Said}
 use Rattle.client_model.specs.ClientSettings.{ask_of, settings_of}
 use Rattle.client_model.specs.Dhcp4Steps.{said_in}
 use Rattle.evidence_words.specs.Entries.{Entry}
@@ -45,14 +45,19 @@ use Rattle.lease_evidence.proofs.ProbeTicks.{Bears, BearsAmid, AfterTick, rested
 use Rattle.lease_evidence.proofs.ProbeInputs.{unsent_bears, clean_bears}
 use Rattle.lease_evidence.proofs.SayFits as fields
 use Rattle.lease_evidence.proofs.SayFits.{FitsFields, FitsStep}
-use Rattle.lease_evidence.proofs.Spoken.{message_said, AreArp, said_all, messages_are, shows_all, ends_all, all_fit}
+use Rattle.lease_evidence.proofs.Spoken.{message_said, FitsSaid, AreOther, said_all, messages_are, shows_all, ends_all, all_fit}
 
 pub record Carries (K : Terms4 → Type 0) (site : Site) (clean : Type 0) (c : ClientContent) (past : List Entry) : Type 0 where
-  pub settings : c.settings ≡ settings_of site.managed
+  pub settings : c.settings ≡ settings_of site.duid site.managed
   pub sound : IsSound c
   pub fields : FitsFields c.state
   pub watched : Watched K c.last c.state (seen_in site past) (kept_in site past)
   pub bears : Bears site clean c.state past
+
+-- after a turn at a moment, with what was said in it
+pub record Ended (site : Site) (clean : Type 0) (at : ℕ) (said : List Said) (c : ClientContent) (past : List Entry) : Type 0 where
+  pub carries : Carries (Lasts at) site clean c past
+  pub fit : AllByRecursion FitsSaid said
 
 -- ---- a failed send of the turn before
 
@@ -88,19 +93,19 @@ clean_carries K site clean c past k h = record {
 -- ---- within a turn, after the tick
 
 pub record Amid (site : Site) (clean : Type 0) (e : Entry) (past : List Entry) (one : Step4) (c : ClientContent) : Type 0 where
-  pub settings : c.settings ≡ settings_of site.managed
+  pub settings : c.settings ≡ settings_of site.duid site.managed
   pub sound : IsSound c
   pub fields : FitsFields c.state
   pub say : IfSome one.say (λ say. FitsSent (sent_of say))
   pub watched : Watched (Lasts e.moment) c.last c.state (shows e.moment (message_in one) (seen_in site past)) (ended_by one (kept_in site past))
-  pub bears : BearsAmid site (ask_of site.managed) clean e past (said_in one) (tells_end (message_in one)) c.state
+  pub bears : BearsAmid site (ask_of site.duid site.managed) clean e past (said_in one) (tells_end (message_in one)) c.state
 
 -- what the settings say of a turn
-pub turn_mac : (site : Site) → sent.FitsMac site.managed.spec.mac → (c : ClientContent) → c.settings ≡ settings_of site.managed
+pub turn_mac : (site : Site) → sent.FitsMac site.managed.spec.mac → (c : ClientContent) → c.settings ≡ settings_of site.duid site.managed
     → sent.FitsMac c.settings.site.iface.mac
 turn_mac site mac c same = subst (λ (s : SettingsContent). sent.FitsMac s.site.iface.mac) (sym same) mac
 
-pub turn_noarp : (site : Site) (c : ClientContent) → c.settings ≡ settings_of site.managed → c.settings.site.noarp ≡ site.managed.conf.noarp
+pub turn_noarp : (site : Site) (c : ClientContent) → c.settings ≡ settings_of site.duid site.managed → c.settings.site.noarp ≡ site.managed.conf.noarp
 turn_noarp site c same = ap (λ (s : SettingsContent). s.site.noarp) same
 
 pub within : (site : Site) (past : List Entry) → (kept_in site past).answered ≤ (seen_in site past).count
@@ -130,9 +135,9 @@ tick_carries site clean e past salt c mac early h =
             xid = h.watched.xid;
             on = not_due c.state e.moment (seen_in site past).current (kept_in site past).answered (kept_in site past).grant h.sound.state rest h.watched.on;
           }));
-      bears = gated (AfterTick site (ask_of site.managed) clean e past) due _ _
-          (tick_amid site (ask_of site.managed) clean e past turn refl c.state h.bears)
-          (rested_amid site (ask_of site.managed) clean e past turn c.state h.bears);
+      bears = gated (AfterTick site (ask_of site.duid site.managed) clean e past) due _ _
+          (tick_amid site (ask_of site.duid site.managed) clean e past turn refl c.state h.bears)
+          (rested_amid site (ask_of site.duid site.managed) clean e past turn c.state h.bears);
     }
   where
     choice_true : {b : Bool} (x y : Step4) → b ≡ true → (if b then x else y) ≡ x
@@ -155,7 +160,7 @@ hears_nothing reply (Some x) k none =
     ap (λ (r : Answer4). answered_in x (nat_eq k.answered x.number) r k) (none x.exchange) ∙ nothing_said x (nat_eq k.answered x.number) k
 
 module _ (site : Site) (clean : Type 0) (e : Entry) (past : List Entry) (one : Step4) (c : ClientContent) (amid : Amid site clean e past one c)
-    (mac : sent.FitsMac site.managed.spec.mac) (between : List Said) (arps : AreArp between) where
+    (mac : sent.FitsMac site.managed.spec.mac) (between : List Said) (others : AreOther between) where
   -- what was seen and kept before the input
   abbrev pub seen_amid : Seen
   seen_amid = shows e.moment (message_in one) (seen_in site past)
@@ -179,26 +184,31 @@ module _ (site : Site) (clean : Type 0) (e : Entry) (past : List Entry) (one : S
       subst (λ (k : Kept). Watched (Lasts e.moment) two.last two.state after k) (sym (hears_nothing reply after.current (ended_by two kept_amid) none)) w
 
   abbrev pub OfferedAll : Step4 → List Said → Type 0
-  OfferedAll two after = Offered site.managed.spec (ask_of site.managed) clean (said_all one between two after) (offers_at site e)
+  OfferedAll two after = Offered site.managed.spec (ask_of site.duid site.managed) clean (said_all one between two after) (offers_at site e)
 
-  module _ (two : Step4) (before : ClientContent) (after : List Said) (more_arps : AreArp after) (settings : before.settings ≡ settings_of site.managed)
+  module _ (two : Step4) (before : ClientContent) (after : List Said) (more_others : AreOther after) (settings : before.settings ≡ settings_of site.duid site.managed)
       (sound : IsSound (moved two before)) (fits : FitsStep two) (offers : OfferedAll two after) where
     messages : messages_at site e ≡ map message_said (said_all one between two after)
     messages =
         messages_are site (subst (λ (s : SettingsContent). AskFits s.ask) amid.settings amid.sound.ask) mac clean (said_all one between two after) (offers_at site e) offers
-        (all_fit e.moment one two between after arps more_arps amid.say fits.say)
+        (all_fit e.moment one two between after others more_others amid.say fits.say)
 
     seen_now : seen_in site (e ∷ past) ≡ shows e.moment (message_in two) seen_amid
     seen_now =
         ap (λ ms. show e.moment ms (seen_in site past)) messages
-        ∙ shows_all e.moment one two between after arps more_arps (seen_in site past)
+        ∙ shows_all e.moment one two between after others more_others (seen_in site past)
 
     ended_now : ended_at site e ≡ (tells_end (message_in one) || tells_end (message_in two))
-    ended_now = ap (λ ms. list_any tells_end ms) messages ∙ ends_all e.moment one two between after arps more_arps
+    ended_now = ap (λ ms. list_any tells_end ms) messages ∙ ends_all e.moment one two between after others more_others
 
-    finish : Watched (Lasts e.moment) two.last two.state (seen_in site (e ∷ past)) (kept_in site (e ∷ past)) → Bears site clean two.state (e ∷ past)
-        → Carries (Lasts e.moment) site clean (moved two before) (e ∷ past)
-    finish w b = record { settings = settings; sound = sound; fields = fits.state; watched = w; bears = b }
+    abbrev EndsSo : Type 0
+    EndsSo = Ended site clean e.moment (said_all one between two after) (moved two before) (e ∷ past)
+
+    finish : Watched (Lasts e.moment) two.last two.state (seen_in site (e ∷ past)) (kept_in site (e ∷ past)) → Bears site clean two.state (e ∷ past) → EndsSo
+    finish w b = record {
+      carries = record { settings = settings; sound = sound; fields = fits.state; watched = w; bears = b };
+      fit = all_fit e.moment one two between after others more_others amid.say fits.say;
+    }
 
     abbrev WatchedBy : Seen → (stays ended : Bool) → Type 0
     WatchedBy s stays ended =
@@ -225,11 +235,11 @@ module _ (site : Site) (clean : Type 0) (e : Entry) (past : List Entry) (one : S
     -- the carrier stays, nothing is given back, and no stop comes
     pub calm_finish : stays_at site e past ≡ true → HeardAfter e.moment reply seen_amid kept_amid two
         → ((tells_end (message_in one) ≡ false → tells_end (message_in two) ≡ false → Calm site e past) → Bears site clean two.state (e ∷ past))
-        → Carries (Lasts e.moment) site clean (moved two before) (e ∷ past)
+        → EndsSo
     calm_finish stays w b = finish (watched_now stays w) (b (calm_now stays))
 
     -- the client is off
-    pub off_finish : two.state ≡ Off → WatchedAfter (Lasts e.moment) e.moment seen_amid kept_amid two → Carries (Lasts e.moment) site clean (moved two before) (e ∷ past)
+    pub off_finish : two.state ≡ Off → WatchedAfter (Lasts e.moment) e.moment seen_amid kept_amid two → EndsSo
     off_finish off w =
         finish
         (record {

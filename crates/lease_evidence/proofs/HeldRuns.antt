@@ -1,12 +1,12 @@
 -- Over every life of an interface it carries what it needs for its lease.
 use Rattle.std.proofs.Common.{◌≡◌, ℕ, Bool, true, false, not, ◌||◌, List, [], ◌∷◌, map, refl, sym, ap, subst, ◌∙◌}
-use Rattle.std.specs.List.{list_any}
+use Rattle.std.specs.List.{list_any, AllByRecursion}
 use Rattle.net_types.specs.declared.address.Mac.{Mac}
 use Rattle.net_types.specs.declared.interface.IfSpec.{IfSpec}
 use Rattle.settings.specs.declared.interfaces.Managed.{Managed}
 use Rattle.script_model.specs.IfaceSets.{is_in, is_up}
 use Rattle.client_model.specs.declared.interfaces.Iface.{Iface}
-use Rattle.client_model.specs.declared.steps.Said.{Said}
+use Rattle.client_model.specs.Messages.{Said}
 use Rattle.client_model.specs.ClientSettings.{ask_of}
 use Rattle.client_model.specs.Clients.{frame_of}
 use Rattle.client_model.specs.Fitting.{FitsBeginning}
@@ -18,9 +18,11 @@ use Rattle.v4_message.specs.Requests.{AskContent}
 use Rattle.evidence_words.specs.Entries.{Offer}
 use Rattle.evidence_words.specs.Inputs.{Site, offers_at}
 use Rattle.evidence_words.proofs.Offers.{Offered}
-use Rattle.lease_evidence.specs.HeldLeases.{Opening, Met, site_of, opening_entry, entry_of, shown, opens, iface_after, failed_last, IsLived, HeldLeasesHaveBasis}
-use Rattle.lease_evidence.proofs.LeasedInputs.{Leased}
+use Rattle.evidence_words.specs.IfaceLives.{Opening, Met, site_of, opening_entry, entry_of, shown, opens, iface_after, failed_last, IsLived}
+use Rattle.lease_evidence.specs.HeldLeases.{HeldLeasesHaveBasis}
+use Rattle.lease_evidence.proofs.LeasedInputs.{Leased, Turned}
 use Rattle.lease_evidence.proofs.LeasedTurns.{opens_leased, turn_leased}
+use Rattle.lease_evidence.proofs.Spoken.{FitsSaid}
 use Rattle.lease_evidence.proofs.Leases.{lease_has_basis}
 
 module _ (spec : IfSpec) (ask : AskContent) (clean : Type 0) where
@@ -57,7 +59,7 @@ module _ (own : List Mac) (beginning : Beginning) (fits : FitsBeginning beginnin
   managed = beginning.managed
 
   abbrev site : Site
-  site = site_of own managed opening
+  site = site_of own beginning opening
 
   abbrev iface : List Met → Iface
   iface mets = iface_after own beginning opening mets
@@ -70,18 +72,32 @@ module _ (own : List Mac) (beginning : Beginning) (fits : FitsBeginning beginnin
   abbrev Clean : List Met → Type 0
   Clean mets = failed_last site (shown opening mets) ≡ false
 
-  leased : (mets : List Met) → IsLived own beginning opening mets → Leased site (Clean mets) (iface mets) (shown opening mets)
-  leased [] lived =
-      opens_leased own (Clean []) opening.at opening.salt lived.0 opening.offers beginning fits.managed fits.kept (is_up opening.up managed.spec.index.number)
-      (offered managed.spec (ask_of managed) (Clean []) (opens beginning opening).said (offers_at site (opening_entry opening)) lived.1 (λ k. k))
-  leased (met ∷ mets) lived =
+  -- what it said last
+  abbrev said_last : List Met → List Said
+  said_last [] = (opens beginning opening).said
+  said_last (met ∷ mets) = (iface_turned own met.turn (iface mets)).said
+
+  turned : (mets : List Met) → IsLived own beginning opening mets → Turned site (Clean mets) (iface mets) (said_last mets) (shown opening mets)
+  turned [] lived =
+      opens_leased own (Clean []) opening.at opening.salt lived.0 opening.offers beginning fits.managed fits.duid fits.kept4 (is_up opening.up managed.spec.index.number)
+      (offered managed.spec (ask_of beginning.duid managed) (Clean []) (opens beginning opening).said (offers_at site (opening_entry opening)) lived.1 (λ k. k))
+  turned (met ∷ mets) lived =
       let before : Leased site (is_in met.turn.unsent (index_of (iface mets)) ≡ false) (iface mets) (shown opening mets) =
       subst (λ (n : ℕ). Leased site (is_in met.turn.unsent n ≡ false) (iface mets) (shown opening mets)) (ap (λ (m : Managed). m.spec.index.number) (sym (same_managed mets)))
-      (subst (λ (b : Bool). Leased site (b ≡ false) (iface mets) (shown opening mets)) (sym lived.2) (leased mets lived.4)) in
+      (subst (λ (b : Bool). Leased site (b ≡ false) (iface mets) (shown opening mets)) (sym lived.2) (turned mets lived.4).leased) in
       turn_leased site fits.managed (Clean (met ∷ mets)) met.turn.salt (entry_of met) lived.0 lived.1 (shown opening mets) met.turn.unsent (iface mets) (same_managed mets) before
-      (offered managed.spec (ask_of managed) (Clean (met ∷ mets)) (iface_turned own met.turn (iface mets)).said (offers_at site (entry_of met)) lived.3 (λ k. k))
+      (offered managed.spec (ask_of beginning.duid managed) (Clean (met ∷ mets)) (iface_turned own met.turn (iface mets)).said (offers_at site (entry_of met)) lived.3 (λ k. k))
+
+-- Each message of DHCPv4 that an interface says is in range: in its opening, and in each turn.
+pub opening_said_fits : (own : List Mac) (beginning : Beginning) (opening : Opening) → FitsBeginning beginning → IsLived own beginning opening []
+    → AllByRecursion FitsSaid (opens beginning opening).said
+opening_said_fits own beginning opening fits lived = (turned own beginning fits opening [] lived).fit
+
+pub turn_said_fits : (own : List Mac) (beginning : Beginning) (opening : Opening) (met : Met) (mets : List Met) → FitsBeginning beginning
+    → IsLived own beginning opening (met ∷ mets) → AllByRecursion FitsSaid (iface_turned own met.turn (iface_after own beginning opening mets)).said
+turn_said_fits own beginning opening met mets fits lived = (turned own beginning fits opening (met ∷ mets) lived).fit
 
 pub held_leases_have_basis : HeldLeasesHaveBasis
 held_leases_have_basis own beginning opening mets lease fits lived held =
-    lease_has_basis (site_of own beginning.managed opening) (failed_last (site_of own beginning.managed opening) (shown opening mets) ≡ false) (iface_after own beginning opening mets)
-    (shown opening mets) lease (leased own beginning fits opening mets lived) held
+    lease_has_basis (site_of own beginning opening) (failed_last (site_of own beginning opening) (shown opening mets) ≡ false) (iface_after own beginning opening mets)
+    (shown opening mets) lease (turned own beginning fits opening mets lived).leased held

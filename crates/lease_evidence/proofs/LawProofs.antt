@@ -32,13 +32,13 @@ never P Q N f (e ∷ past) none h = elim h [ inl q ↦ f e past none.0 q | inr l
 pub record Granting (site : Site) (opened : Numbered) (terms : Terms4) (e : Entry) : Type 0 where
   pub arrival : Arrival
   pub came : arrival_in site e ≡ Some arrival
-  pub granted : IsGranted (settings_of site.managed) opened.exchange arrival terms
+  pub granted : IsGranted (settings_of site.duid site.managed) opened.exchange arrival terms
 
 granting_by : (site : Site) (opened : Numbered) (terms : Terms4) (e : Entry) (arrival : Option Arrival) → arrival_in site e ≡ arrival
-    → reply_by (settings_of site.managed) opened.exchange arrival ≡ answer.Ack terms → Granting site opened terms e
+    → reply_by (settings_of site.duid site.managed) opened.exchange arrival ≡ answer.Ack terms → Granting site opened terms e
 granting_by site opened terms e None is h = absurd cc
 granting_by site opened terms e (Some arrival) is h =
-    record { arrival = arrival; came = is; granted = is_granted (settings_of site.managed) opened.exchange arrival terms h }
+    record { arrival = arrival; came = is; granted = is_granted (settings_of site.duid site.managed) opened.exchange arrival terms h }
 
 pub granting : (site : Site) (opened : Numbered) (terms : Terms4) (e : Entry) (past : List Entry) → GoodAck site opened terms e past → Granting site opened terms e
 granting site opened terms e past good = granting_by site opened terms e (arrival_in site e) refl good.grants
@@ -73,7 +73,7 @@ both true true e = (refl, refl)
 both true false e = absurd cc
 both false b e = absurd cc
 
-not_foreign : (site : Site) (opened : Numbered) (arrival : Arrival) → is_answer (settings_of site.managed) opened.exchange.xid arrival ≡ true
+not_foreign : (site : Site) (opened : Numbered) (arrival : Arrival) → is_answer (settings_of site.duid site.managed) opened.exchange.xid arrival ≡ true
     → IsForeign site opened arrival → ⊥
 not_foreign site opened arrival mine foreign =
     let h = both (eqb arrival.message.xid opened.exchange.xid) (bytes_eq arrival.message.chaddr.bytes site.managed.spec.mac.bytes) mine in

@@ -21,7 +21,8 @@ use Rattle.evidence_words.specs.Entries.{Entry}
 use Rattle.evidence_words.specs.Inputs.{Site}
 use Rattle.evidence_words.specs.Probed.{TurnWord, AsProbe, Probes, Probed}
 use Rattle.lease_evidence.specs.Exchanges.{seen_in}
-use Rattle.lease_evidence.specs.LeaseBasis.{Calm, FirstAck, CalmFor, LeaseBasis, now_in}
+use Rattle.evidence_words.specs.IfaceLives.{now_in}
+use Rattle.lease_evidence.specs.LeaseBasis.{Calm, FirstAck, CalmFor, LeaseBasis}
 use Rattle.lease_evidence.proofs.LawProofs.{granting}
 use Rattle.lease_evidence.proofs.LeasedInputs.{Leased}
 use Rattle.lease_evidence.proofs.Observer.{Grant, kept_in}

@@ -14,7 +14,7 @@ pub mod Carrying
 pub mod LeasedInputs
 pub mod LeasedTurns
 pub mod Leases
-mod HeldRuns
+pub mod HeldRuns
 pub mod SevenTurnsHeard
 pub mod Joining
 mod Beginnings

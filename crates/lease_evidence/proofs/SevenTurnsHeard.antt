@@ -18,7 +18,9 @@ use Rattle.v4_message.specs.Messages.{Message4, message_in}
 use Rattle.v4_options.specs.OptionArea.{Instance, front_of, instances_in, malformed_in}
 use Rattle.v4_options.specs.Overload.{overload_in}
 use Rattle.v4_frames.specs.Heard.{HeardMessage, with_source, message_to, message_for, heard4_in}
+use Rattle.v6_frames.specs.Heard.{HeardMessage6, heard6_in}
 use Rattle.v4_client.specs.Clients.{held_of}
+use Rattle.v6_client.specs.Runs.{tick_turned}
 use Rattle.world.specs.declared.wakes.Event.TheVariants.{Frame, Quiet}
 use Rattle.net_types.specs.declared.address.Mac.{Mac}
 use Rattle.frame_link.specs.declared.arp.ArpView.{ArpView}
@@ -30,9 +32,9 @@ use Rattle.client_model.specs.IfaceTurns.{arp_of_frame, arp_heard, hears_either,
 use Rattle.client_model.specs.Interfaces.{ticked}
 use Rattle.evidence_words.specs.Entries.{Offer}
 use Rattle.evidence_words.specs.Inputs.{Site}
-use Rattle.lease_evidence.specs.HeldLeases.{site_of, iface_after, IsLived}
+use Rattle.evidence_words.specs.IfaceLives.{site_of, iface_after, IsLived}
 use Rattle.client_model.specs.Fitting.{FitsBeginning}
-use Rattle.lease_evidence.specs.SevenTurns.{client_mac, server_mac, server, granted, interface, reply_text, options_text, reply_frame, requests, discovers, beginning, opening, met, probes, announces, seven_turns, lease}
+use Rattle.lease_evidence.specs.SevenTurns.{client_mac, server_mac, server, granted, duid, interface, reply_text, options_text, reply_frame, requests, discovers, beginning, opening, met, probes, announces, seven_turns, lease}
 
 -- ---- the server's messages
 
@@ -106,31 +108,31 @@ abbrev own : List Mac
 own = client_mac ∷ []
 
 abbrev site : Site
-site = site_of own interface opening
+site = site_of own beginning opening
 
 -- the interface after the turn of its DISCOVER
 abbrev seeking : Iface
 seeking = iface_after own beginning opening (met 1001 Quiet [] discovers ∷ [])
 
 -- the turn of a frame
-abbrev hearing : ℕ → Iface → Option ArpView → Option HeardMessage → IfaceStep
-hearing at iface arp message = then_step (ticked at 0 iface) (hears_either own at 0 arp message)
+abbrev hearing : ℕ → Iface → Option ArpView → Option HeardMessage → Option HeardMessage6 → IfaceStep
+hearing at iface arp message other = then_step (ticked at 0 iface) (hears_either own at 0 arp message other)
 
-asking : iface_turned own (met 2000 (Frame 1 304) (reply_frame 2) requests).turn seeking ≡ hearing 2000 seeking None (Some (heard kind.Offer 2))
+asking : iface_turned own (met 2000 (Frame 1 304) (reply_frame 2) requests).turn seeking ≡ hearing 2000 seeking None (Some (heard kind.Offer 2)) None
 asking =
-    ap (λ (arp : Option ArpView). hearing 2000 seeking arp (heard4_in client_mac (reply_frame 2))) (no_packet 2)
-    ∙ ap (λ (message : Option HeardMessage). hearing 2000 seeking None message) offer_heard
+    ap (λ (arp : Option ArpView). hearing 2000 seeking arp (heard4_in client_mac (reply_frame 2)) (heard6_in client_mac (reply_frame 2))) (no_packet 2)
+    ∙ ap (λ (message : Option HeardMessage). hearing 2000 seeking None message (heard6_in client_mac (reply_frame 2))) offer_heard
 
 abbrev asked : Iface
-asked = (hearing 2000 seeking None (Some (heard kind.Offer 2))).iface
+asked = (hearing 2000 seeking None (Some (heard kind.Offer 2)) None).iface
 
-holding : iface_turned own (met 2500 (Frame 1 304) (reply_frame 5) []).turn asked ≡ hearing 2500 asked None (Some (heard kind.Ack 5))
+holding : iface_turned own (met 2500 (Frame 1 304) (reply_frame 5) []).turn asked ≡ hearing 2500 asked None (Some (heard kind.Ack 5)) None
 holding =
-    ap (λ (arp : Option ArpView). hearing 2500 asked arp (heard4_in client_mac (reply_frame 5))) (no_packet 5)
-    ∙ ap (λ (message : Option HeardMessage). hearing 2500 asked None message) ack_heard
+    ap (λ (arp : Option ArpView). hearing 2500 asked arp (heard4_in client_mac (reply_frame 5)) (heard6_in client_mac (reply_frame 5))) (no_packet 5)
+    ∙ ap (λ (message : Option HeardMessage). hearing 2500 asked None message (heard6_in client_mac (reply_frame 5))) ack_heard
 
 abbrev granted_then : IfaceStep
-granted_then = hearing 2500 asked None (Some (heard kind.Ack 5))
+granted_then = hearing 2500 asked None (Some (heard kind.Ack 5)) None
 
 -- the turn of the ACK
 acked : iface_turned own (met 2500 (Frame 1 304) (reply_frame 5) []).turn (iface_turned own (met 2000 (Frame 1 304) (reply_frame 2) requests).turn seeking).iface ≡ granted_then
@@ -168,14 +170,14 @@ nothing : AreBytes []
 nothing i = lit< tt
 
 abbrev SaidBy : List Offer → IfaceStep → Type 0
-SaidBy offers step = map (λ o. o.bytes) offers ≡ map (frame_of interface.spec (ask_of interface)) step.said
+SaidBy offers step = map (λ o. o.bytes) offers ≡ map (frame_of interface.spec (ask_of duid interface)) step.said
 
 said_after : (offers : List Offer) (next : IfaceStep → IfaceStep) → SaidBy offers (next granted_then)
     → SaidBy offers (next (iface_turned own (met 2500 (Frame 1 304) (reply_frame 5) []).turn (iface_turned own (met 2000 (Frame 1 304) (reply_frame 2) requests).turn seeking).iface))
 said_after offers next said = subst (λ (step : IfaceStep). SaidBy offers (next step)) (sym acked) said
 
 pub seven_lived : IsLived own beginning opening seven_turns
-unfolding count_leading_zeros
+unfolding count_leading_zeros tick_turned
 seven_lived = (
   lit< tt,
   nothing,
@@ -224,7 +226,13 @@ interface_fits = record {
   address = tt;
   router = tt;
   dhcp4 = record { host = lit< tt; vendor = lit< tt; identifier = tt };
+  dhcp6 = record { few = lit≤ tt; each = tt; unlike = λ i j d before within. absurd (omega (arith, within)) };
 }
 
 pub beginning_fits : FitsBeginning beginning
-beginning_fits = record { managed = interface_fits; kept = tt }
+beginning_fits = record {
+  managed = interface_fits;
+  duid = record { least = lit≤ tt; most = lit≤ tt; octets = all_bytes duid (all_small duid refl) };
+  kept4 = tt;
+  kept6 = tt;
+}

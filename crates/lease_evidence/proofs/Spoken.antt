@@ -1,5 +1,6 @@
 -- The messages that the frames of an interface spell are those that it said.
-use Rattle.std.proofs.Common.{◌≡◌, ℕ, Bool, true, false, ◌||◌, List, [], ◌∷◌, ◌++◌, map, Option, Some, None, IfSome, refl, sym, ap, subst, ◌∙◌, arith, append_assoc, lit≤}
+use Rattle.std.proofs.Common.{◌≡◌, ℕ, Bool, true, false, ◌||◌, List, [], ◌∷◌, ◌++◌, map, length, take, drop, ◌≤◌, Option, Some, None, IfSome, refl, sym, ap, subst, ◌∙◌, arith, append_assoc, lit≤}
+use Rattle.std.proofs.lemmas.List.{length-append}
 use Rattle.std.specs.Prelude.{option_to_list, option_map}
 use Rattle.std.specs.List.{AllByRecursion, list_any}
 use Rattle.net_types.proofs.AllLaws.{all_join, all_map}
@@ -11,20 +12,25 @@ use Rattle.frame_link.specs.Packets.{request_text}
 use Rattle.arp_acd.specs.declared.detection.ArpSay.{ArpSay}
 use Rattle.arp_acd.specs.declared.detection.ArpSay.TheVariants.{Probe, Announce}
 use Rattle.udp_frame.specs.declared.udp4.TheConstants.{KIND_IPV4}
+use Rattle.udp_frame.specs.Udp6Frames.{udp6_frame_text}
 use Rattle.v4_message.specs.Requests.{AskContent, AskFits}
 use Rattle.v4_frames.specs.declared.sent.Sent4.{Sent4}
 use Rattle.v4_frames.specs.InRange.{FitsMac, FitsSent}
 use Rattle.v4_frames.specs.Spelled.{sent_in}
 use Rattle.v4_frames.proofs.FramesBack.{reads_back}
 use Rattle.v4_frames.proofs.OtherKinds.{others_spell_nothing}
+use Rattle.v6_client.specs.Moves.{OutContent}
+use Rattle.v6_client.specs.Saying.{SpokenContent}
+use Rattle.v6_frames.specs.Spelled.{Sent6, frame6_of}
 use Rattle.v4_client.specs.declared.states.Say4.{Say4}
 use Rattle.v4_client.specs.declared.states.Step4.{Step4}
 use Rattle.v4_client.specs.Saying.{sent_of}
-use Rattle.client_model.specs.declared.steps.Said.{Said}
-use Rattle.client_model.specs.declared.steps.Said.TheVariants.{Dhcp4, Arp}
+use Rattle.client_model.specs.Messages.{Said, Dhcp4, Arp, Dhcp6}
 use Rattle.client_model.specs.ClientSettings.{ask_of}
 use Rattle.client_model.specs.Clients.{spelled}
 use Rattle.client_model.specs.Dhcp4Steps.{said_in}
+use Rattle.client_model.specs.Dhcp6Steps.{said6_in, sent_by}
+use Rattle.client_model.specs.declared.interfaces.Iface.{Iface}
 use Rattle.evidence_words.specs.Entries.{Offer}
 use Rattle.evidence_words.specs.Inputs.{Site}
 use Rattle.evidence_words.proofs.Offers.{Offered}
@@ -37,28 +43,42 @@ use Rattle.lease_evidence.proofs.Watching.{message_in}
 abbrev pub message_said : Said → Option Sent4
 message_said (Dhcp4 say) = Some (sent_of say)
 message_said (Arp say) = None
+message_said (Dhcp6 sent) = None
 
+-- A message of DHCPv4 is in range, and one of DHCPv6 has a hardware address.
 abbrev pub FitsSaid : Said → Type 0
 FitsSaid (Dhcp4 say) = FitsSent (sent_of say)
 FitsSaid (Arp say) = Unit {0}
+FitsSaid (Dhcp6 sent) = FitsMac sent.mac
 
-abbrev pub IsArp : Said → Type 0
-IsArp (Dhcp4 say) = ⊥
-IsArp (Arp say) = Unit {0}
+-- a message that isn't one of DHCPv4
+abbrev pub IsOther : Said → Type 0
+IsOther (Dhcp4 say) = ⊥
+IsOther (Arp say) = Unit {0}
+IsOther (Dhcp6 sent) = FitsMac sent.mac
 
-abbrev pub AreArp : List Said → Type 0
-AreArp said = AllByRecursion IsArp said
+abbrev pub AreOther : List Said → Type 0
+AreOther said = AllByRecursion IsOther said
 
-arp_fits : (say : Said) → IsArp say → FitsSaid say
-arp_fits (Dhcp4 say) h = absurd h
-arp_fits (Arp say) h = tt
+other_fits : (say : Said) → IsOther say → FitsSaid say
+other_fits (Dhcp4 say) h = absurd h
+other_fits (Arp say) h = tt
+other_fits (Dhcp6 sent) h = h
 
-pub are_arp : (says : List ArpSay) → AreArp (map Arp says)
+pub are_arp : (says : List ArpSay) → AreOther (map Arp says)
 are_arp [] = tt
 are_arp (say ∷ says) = (tt, are_arp says)
 
-pub arps_fit : (said : List Said) → AreArp said → AllByRecursion FitsSaid said
-arps_fit said h = all_map IsArp FitsSaid arp_fits said h
+-- what DHCPv6 says
+pub are_dhcp6 : (iface : Iface) (out : OutContent) → FitsMac iface.managed.spec.mac → AreOther (said6_in iface out)
+are_dhcp6 iface out fits = by_say out.say
+  where
+    by_say : (say : Option SpokenContent) → AreOther (map (λ spoken. Dhcp6 (sent_by iface spoken)) (option_to_list say))
+    by_say None = tt
+    by_say (Some spoken) = (fits, tt)
+
+pub others_fit : (said : List Said) → AreOther said → AllByRecursion FitsSaid said
+others_fit said h = all_map IsOther FitsSaid other_fits said h
 
 pub step_fits : (step : Step4) → IfSome step.say (λ say. FitsSent (sent_of say)) → AllByRecursion FitsSaid (said_in step)
 step_fits step h = by_parts step.say step.arp h
@@ -89,14 +109,38 @@ module _ (ask : AskContent) (fits : AskFits ask) (sender target : Ip4) where
   arp_spells : (mac : Mac) → FitsMac mac → SpellsNothing mac.bytes
   arp_spells mac len = subst SpellsNothing (sym (six_cells mac.bytes len)) (arp_cells mac.bytes)
 
-module _ (site : Site) (ask_fits : AskFits (ask_of site.managed)) (mac_fits : FitsMac site.managed.spec.mac) (clean : Type 0) where
+-- a frame of DHCPv6 spells no message of DHCPv4
+module _ (ask : AskContent) (sent : Sent6) where
+  abbrev with_mac : List ℕ → Sent6
+  with_mac mac = record { mac = record { bytes = mac }; said = sent.said }
+
+  abbrev SpellsNone : List ℕ → Type 0
+  SpellsNone mac = sent_in ask (frame6_of (with_mac mac)) ≡ None
+
+  other_kind : (kind : ℕ) → kind ≡ 0x86dd → kind ≡ 0x0800 → ⊥
+  other_kind kind ip6 ip4 = omega (arith, ip6, ip4)
+
+  dhcp6_cells : (mac : List ℕ) → SpellsNone (six mac)
+  unfolding udp6_frame_text
+  dhcp6_cells mac =
+      let frame : List ℕ = frame6_of (with_mac (six mac)) in
+      others_spell_nothing ask frame (long (take 14 frame) (drop 14 frame) (lit≤ tt)) (λ same. other_kind _ refl same)
+    where
+      long : (front rest : List ℕ) → 14 ≤ length front → 14 ≤ length (front ++ rest)
+      long front rest h = omega (arith, h, length-append front rest)
+
+  dhcp6_spells : FitsMac sent.mac → sent_in ask (frame6_of sent) ≡ None
+  dhcp6_spells len = subst SpellsNone (sym (six_cells sent.mac.bytes len)) (dhcp6_cells sent.mac.bytes)
+
+module _ (site : Site) (ask_fits : AskFits (ask_of site.duid site.managed)) (mac_fits : FitsMac site.managed.spec.mac) (clean : Type 0) where
   abbrev ask : AskContent
-  ask = ask_of site.managed
+  ask = ask_of site.duid site.managed
 
   spells : (say : Said) → FitsSaid say → sent_in ask (spelled site.managed.spec ask say).bytes ≡ message_said say
   spells (Dhcp4 say) fits = reads_back ask (sent_of say) ask_fits fits
   spells (Arp (Probe addr)) fits = arp_spells ask ask_fits (record { number = 0 }) addr site.managed.spec.mac mac_fits
   spells (Arp (Announce addr)) fits = arp_spells ask ask_fits addr addr site.managed.spec.mac mac_fits
+  spells (Dhcp6 sent) fits = dhcp6_spells ask sent fits
 
   pub messages_are : (said : List Said) (offers : List Offer) → Offered site.managed.spec ask clean said offers → AllByRecursion FitsSaid said
       → map (message_of site) offers ≡ map message_said said
@@ -119,10 +163,11 @@ module _ (at : ℕ) (more : List Said) where
       by_parts (Some say) None = refl
       by_parts (Some say) (Some arp) = refl
 
-  shows_arps : (said : List Said) (s : Seen) → AreArp said → show at (map message_said (said ++ more)) s ≡ show at (map message_said more) s
-  shows_arps [] s h = refl
-  shows_arps (Dhcp4 say ∷ said) s h = absurd h.0
-  shows_arps (Arp say ∷ said) s h = shows_arps said s h.1
+  shows_others : (said : List Said) (s : Seen) → AreOther said → show at (map message_said (said ++ more)) s ≡ show at (map message_said more) s
+  shows_others [] s h = refl
+  shows_others (Dhcp4 say ∷ said) s h = absurd h.0
+  shows_others (Arp say ∷ said) s h = shows_others said s h.1
+  shows_others (Dhcp6 sent ∷ said) s h = shows_others said s h.1
 
   ends_step : (step : Step4) → list_any tells_end (map message_said (said_in step ++ more)) ≡ (tells_end (message_in step) || list_any tells_end (map message_said more))
   ends_step step = by_parts step.say step.arp
@@ -135,16 +180,17 @@ module _ (at : ℕ) (more : List Said) where
       by_parts (Some say) None = refl
       by_parts (Some say) (Some arp) = refl
 
-  ends_arps : (said : List Said) → AreArp said → list_any tells_end (map message_said (said ++ more)) ≡ list_any tells_end (map message_said more)
-  ends_arps [] h = refl
-  ends_arps (Dhcp4 say ∷ said) h = absurd h.0
-  ends_arps (Arp say ∷ said) h = ends_arps said h.1
+  ends_others : (said : List Said) → AreOther said → list_any tells_end (map message_said (said ++ more)) ≡ list_any tells_end (map message_said more)
+  ends_others [] h = refl
+  ends_others (Dhcp4 say ∷ said) h = absurd h.0
+  ends_others (Arp say ∷ said) h = ends_others said h.1
+  ends_others (Dhcp6 sent ∷ said) h = ends_others said h.1
 
--- what an interface says in a turn: a step of its client, ARP packets, another step, ARP packets
+-- what an interface says in a turn: a step of its DHCPv4 client, other messages, another step, other messages
 abbrev pub said_all : (one : Step4) (between : List Said) (two : Step4) (after : List Said) → List Said
 said_all one between two after = (said_in one ++ between) ++ (said_in two ++ after)
 
-module _ (at : ℕ) (one two : Step4) (between after : List Said) (arps : AreArp between) (more_arps : AreArp after) where
+module _ (at : ℕ) (one two : Step4) (between after : List Said) (others : AreOther between) (more_others : AreOther after) where
   same_list : said_all one between two after ≡ said_in one ++ (between ++ (said_in two ++ (after ++ [])))
   same_list =
       append_assoc (said_in one) between (said_in two ++ after)
@@ -158,9 +204,9 @@ module _ (at : ℕ) (one two : Step4) (between after : List Said) (arps : AreArp
   shows_all s =
       ap (λ (said : List Said). show at (map message_said said) s) same_list
       ∙ shows_step at (between ++ (said_in two ++ (after ++ []))) one s
-      ∙ shows_arps at (said_in two ++ (after ++ [])) between (shows at (message_in one) s) arps
+      ∙ shows_others at (said_in two ++ (after ++ [])) between (shows at (message_in one) s) others
       ∙ shows_step at (after ++ []) two (shows at (message_in one) s)
-      ∙ shows_arps at [] after (shows at (message_in two) (shows at (message_in one) s)) more_arps
+      ∙ shows_others at [] after (shows at (message_in two) (shows at (message_in one) s)) more_others
 
   or_none : (a b : Bool) → (a || (b || false)) ≡ (a || b)
   or_none true b = refl
@@ -171,13 +217,13 @@ module _ (at : ℕ) (one two : Step4) (between after : List Said) (arps : AreArp
   ends_all =
       ap (λ (said : List Said). list_any tells_end (map message_said said)) same_list
       ∙ ends_step at (between ++ (said_in two ++ (after ++ []))) one
-      ∙ ap (λ b. tells_end (message_in one) || b) (ends_arps at (said_in two ++ (after ++ [])) between arps
-      ∙ ends_step at (after ++ []) two ∙ ap (λ b. tells_end (message_in two) || b) (ends_arps at [] after more_arps))
+      ∙ ap (λ b. tells_end (message_in one) || b) (ends_others at (said_in two ++ (after ++ [])) between others
+      ∙ ends_step at (after ++ []) two ∙ ap (λ b. tells_end (message_in two) || b) (ends_others at [] after more_others))
       ∙ or_none (tells_end (message_in one)) (tells_end (message_in two))
 
   pub all_fit : IfSome one.say (λ say. FitsSent (sent_of say)) → IfSome two.say (λ say. FitsSent (sent_of say))
       → AllByRecursion FitsSaid (said_all one between two after)
   all_fit first second =
       all_join FitsSaid (said_in one ++ between) (said_in two ++ after)
-      (all_join FitsSaid (said_in one) between (step_fits one first) (arps_fit between arps))
-      (all_join FitsSaid (said_in two) after (step_fits two second) (arps_fit after more_arps))
+      (all_join FitsSaid (said_in one) between (step_fits one first) (others_fit between others))
+      (all_join FitsSaid (said_in two) after (step_fits two second) (others_fit after more_others))

@@ -13,7 +13,7 @@ use Rattle.evidence_words.specs.Inputs.{Site, offers_at}
 
 -- the DHCPv4 message that a frame spells, where it spells one
 abbrev pub message_of : Site → Offer → Option Sent4
-message_of site o = sent_in (ask_of site.managed) o.bytes
+message_of site o = sent_in (ask_of site.duid site.managed) o.bytes
 
 -- what the frames of a turn spell, in order
 abbrev pub messages_at : Site → Entry → List (Option Sent4)

@@ -1,5 +1,5 @@
 -- Why a leased address may be held (RFC 2131, sections 4.3 and 4.4). Moments are in milliseconds.
-use Rattle.std.specs.Prelude.{◌≡◌, ℕ, ◌<◌, Bool, true, false, List, [], ◌∷◌, Option, Some, None}
+use Rattle.std.specs.Prelude.{◌≡◌, ℕ, ◌<◌, Bool, true, false, List, ◌∷◌, Option, Some, None}
 use Rattle.std.specs.List.{list_any}
 use Rattle.machine.specs.Since.{Since, Always}
 use Rattle.net_types.specs.declared.address.Net.{Net}
@@ -67,8 +67,3 @@ pub record LeaseBasis (site : Site) (net : Net) (now : ℕ) (past : List Entry) 
   pub granted : Since (CalmFor site opened) (FirstAck site opened terms) past
   pub unexpired : is_unexpired opened.exchange.first terms.lease now ≡ true
   pub probed : site.managed.conf.noarp ≡ false → Probed (Calm site) (λ first before. Unit {0}) site terms.net.ip past
-
--- the moment of the newest turn, in milliseconds since 1970
-abbrev pub now_in : List Entry → ℕ
-now_in [] = 0
-now_in (e ∷ past) = e.moment

@@ -29,4 +29,4 @@ reply_by settings exchange (Some arrival) = reply_in settings arrival exchange
 
 -- what the input of a turn says in an exchange: an ACK with its terms, or a NAK, where it is acceptable
 abbrev pub reply_at : Site → Exchange4 → Entry → Answer4
-reply_at site exchange e = reply_by (settings_of site.managed) exchange (arrival_in site e)
+reply_at site exchange e = reply_by (settings_of site.duid site.managed) exchange (arrival_in site e)

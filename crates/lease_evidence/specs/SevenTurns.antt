@@ -5,18 +5,19 @@ use Rattle.net_types.specs.declared.address.Mac.{Mac}
 use Rattle.udp_frame.specs.Udp4Frames.{udp4_frame_text}
 use Rattle.v4_frames.specs.declared.sent.TheConstants.{CLIENT_PORT, SERVER_PORT}
 use Rattle.lease_text.specs.Leases.{LeaseContent}
+use Rattle.duid_text.specs.DuidTexts.{link_layer_duid}
 use Rattle.world.specs.declared.wakes.Event.{Event}
 use Rattle.world.specs.declared.wakes.Event.TheVariants.{Frame, Quiet}
 use Rattle.settings.specs.declared.interfaces.Managed.{Managed}
+use Rattle.settings.specs.Dhcp4Settings.{Hardware}
 use Rattle.v4_client.specs.Saying.{discover, request}
-use Rattle.client_model.specs.declared.steps.Said.{Said}
-use Rattle.client_model.specs.declared.steps.Said.TheVariants.{Dhcp4, Arp}
+use Rattle.client_model.specs.Messages.{Said, Dhcp4, Arp}
 use Rattle.arp_acd.specs.declared.detection.ArpSay.TheVariants.{Probe, Announce}
 use Rattle.client_model.specs.ClientSettings.{ask_of, site_of}
 use Rattle.client_model.specs.Clients.{frame_of}
 use Rattle.client_model.specs.KeptLeases.{Beginning}
 use Rattle.evidence_words.specs.Entries.{Offer}
-use Rattle.lease_evidence.specs.HeldLeases.{Opening, Met}
+use Rattle.evidence_words.specs.IfaceLives.{Opening, Met}
 
 abbrev pub client_mac : Mac
 client_mac = record { bytes = 2 ∷ 0 ∷ 0 ∷ 0 ∷ 0 ∷ 1 ∷ [] }
@@ -53,9 +54,14 @@ interface = record {
     metric = None;
     address = None;
     router = None;
-    dhcp4 = record { host = []; vendor = []; identifier = None; asked = []; refused = []; required = []; blacklist = [] };
+    dhcp4 = record { host = []; vendor = []; identifier = Hardware; asked = []; refused = []; required = []; blacklist = [] };
+    dhcp6 = record { rapid = false; ias = [] };
   };
 }
+
+-- the DUID of the host, made of the interface's hardware address
+abbrev pub duid : List ℕ
+duid = link_layer_duid client_mac
 
 -- ---- what the server says
 
@@ -78,7 +84,7 @@ reply_frame kind =
 -- ---- what the client says
 
 abbrev pub says : Said → List Offer
-says message = record { iface = 1; bytes = frame_of interface.spec (ask_of interface) message; taken = true } ∷ []
+says message = record { iface = 1; bytes = frame_of interface.spec (ask_of duid interface) message; taken = true } ∷ []
 
 abbrev pub discovers : List Offer
 discovers = says (Dhcp4 (discover (site_of interface) 1 0))
@@ -96,7 +102,7 @@ announces = says (Arp (Announce granted))
 
 -- no lease was kept
 abbrev pub beginning : Beginning
-beginning = record { managed = interface; kept = None }
+beginning = record { managed = interface; duid = duid; kept4 = None; kept6 = None }
 
 abbrev pub opening : Opening
 opening = record { up = 1; at = 1000; salt = 0; offers = [] }

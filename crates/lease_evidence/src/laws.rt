@@ -4,10 +4,11 @@ ghost use Rattle.std.specs.Prelude.{◌≡◌, ◌∷◌, [], Some};
 ghost use Rattle.net_types.specs.declared.address.Net.TheVariants.{V4};
 ghost use Rattle.v4_client.specs.Clients.{held_of};
 ghost use Rattle.client_model.specs.KeptLeases.{Beginning};
-ghost use Rattle.lease_evidence.specs.HeldLeases.{BeginsWithoutLease, HeldLeasesHaveBasis, IsLived, Opening, iface_after, shown, site_of};
+ghost use Rattle.evidence_words.specs.IfaceLives.{IsLived, Opening, iface_after, shown, site_of};
+ghost use Rattle.lease_evidence.specs.HeldLeases.{BeginsWithoutLease, HeldLeasesHaveBasis};
 ghost use Rattle.lease_evidence.specs.LeaseBasis.{LeaseBasis};
 ghost use Rattle.lease_evidence.specs.Laws.{EndsWithLease, ForeignGivesNothing, NeedsAck};
-ghost use Rattle.lease_evidence.specs.SevenTurns.{beginning, client_mac, interface, lease, opening, seven_turns};
+ghost use Rattle.lease_evidence.specs.SevenTurns.{beginning, client_mac, lease, opening, seven_turns};
 
 /// Law: each lease that an interface holds after its opening and some turns, with any outcomes of its frames, has its basis
 /// in what they showed: an ACK in its own exchange, unexpired, probed and not given up since (RFC 2131, section 4.4).
@@ -43,5 +44,5 @@ pub fn foreign_replies_give_nothing()
 pub fn seven_turns_grant_a_lease()
     ensures lived { IsLived (client_mac ∷ []) beginning opening seven_turns }
     ensures held { held_of (iface_after (client_mac ∷ []) beginning opening seven_turns).dhcp4 ≡ Some lease }
-    ensures basis { LeaseBasis (site_of (client_mac ∷ []) interface opening) (V4 lease.net) 6503 (shown opening seven_turns) }
+    ensures basis { LeaseBasis (site_of (client_mac ∷ []) beginning opening) (V4 lease.net) 6503 (shown opening seven_turns) }
 {}

@@ -15,13 +15,14 @@ use Rattle.frame_link.specs.Frames.{broadcast}
 use Rattle.frame_link.specs.Packets.{arp_kind, no_mac, probe_text, announcement_text}
 use Rattle.udp_frame.specs.declared.udp4.Ends4.{Ends4}
 use Rattle.udp_frame.specs.Udp4Frames.{ip4_kind, said4, udp4_text, udp4_frame_text}
+use Rattle.udp_frame.specs.Udp6Frames.{udp6_frame_text}
 use Rattle.v4_message.specs.Requests.{AskContent, message_text, padded}
 use Rattle.v4_frames.specs.declared.sent.TheConstants.{CLIENT_PORT, SERVER_PORT}
+use Rattle.v6_frames.specs.Spelled.{Sent6, frame6_of}
 use Rattle.lease_text.specs.Leases.{first_byte, is_host_address}
 use Rattle.v4_client.specs.declared.states.Say4.{Say4}
 use Rattle.arp_acd.specs.declared.detection.ArpSay.TheVariants.{Probe, Announce}
-use Rattle.client_model.specs.declared.steps.Said.{Said}
-use Rattle.client_model.specs.declared.steps.Said.TheVariants.{Arp, Dhcp4}
+use Rattle.client_model.specs.Messages.{Said, Arp, Dhcp4, Dhcp6}
 use Rattle.client_model.specs.ClientSettings.{ask_of}
 use Rattle.client_model.specs.Clients.{frame_of}
 use Rattle.evidence_words.specs.Entries.{Offer}
@@ -139,17 +140,25 @@ no_datagram mac from to payload other e =
     let bad : 0 ≡ 6 = ap (λ (bytes : List ℕ). get_or bytes 1 0) words in
     cc
 
--- A message announces nothing: a message of DHCPv4 to every host, or a probe for an address that a host may have.
+-- a message to all servers and relay agents isn't for every host of the link
+no_message6 : (mac : Mac) (sent : Sent6) (other : Ip4) → frame6_of sent ≡ announcement_text mac other → ⊥
+unfolding udp6_frame_text
+no_message6 mac sent other e = let bad : 0x33 ≡ 0xff = ap (λ (bytes : List ℕ). get_or bytes 0 0) e in cc
+
+-- A message announces nothing: a message of DHCPv4 to every host, a probe for an address that a host may have, or a message of
+-- DHCPv6.
 abbrev pub AnnouncesNone : Mac → Said → Type 0
 AnnouncesNone mac (Arp (Probe other)) = is_host_address other ≡ true
 AnnouncesNone mac (Arp (Announce other)) = ⊥
 AnnouncesNone mac (Dhcp4 say) = (say.ends.to_mac ≡ broadcast) × (say.ends.from_mac ≡ mac)
+AnnouncesNone mac (Dhcp6 sent) = Unit {0}
 
 -- It announces no other address.
 abbrev pub AnnouncesOnly : Mac → Ip4 → Said → Type 0
 AnnouncesOnly mac addr (Arp (Probe other)) = is_host_address other ≡ true
 AnnouncesOnly mac addr (Arp (Announce other)) = other ≡ addr
 AnnouncesOnly mac addr (Dhcp4 say) = (say.ends.to_mac ≡ broadcast) × (say.ends.from_mac ≡ mac)
+AnnouncesOnly mac addr (Dhcp6 sent) = Unit {0}
 
 pub none_only : (mac : Mac) (addr : Ip4) (said : List Said) → AllByRecursion (AnnouncesNone mac) said → AllByRecursion (AnnouncesOnly mac addr) said
 none_only mac addr said all = all_map (AnnouncesNone mac) (AnnouncesOnly mac addr) one said all
@@ -158,6 +167,7 @@ none_only mac addr said all = all_map (AnnouncesNone mac) (AnnouncesOnly mac add
     one (Arp (Probe other)) h = h
     one (Arp (Announce other)) h = absurd h
     one (Dhcp4 say) h = h
+    one (Dhcp6 sent) h = h
 
 no_message : (mac : Mac) (ask : AskContent) (say : Say4) (other : Ip4) → say.ends.to_mac ≡ broadcast → say.ends.from_mac ≡ mac
     → udp4_frame_text say.ends CLIENT_PORT SERVER_PORT (padded (message_text say.said ask)) ≡ announcement_text mac other → ⊥
@@ -174,17 +184,18 @@ module _ (site : Site) (addr : Ip4) (fits : FitsIp4 addr) where
   abbrev mac : Mac
   mac = site.managed.spec.mac
 
-  no_other : (say : Said) (offer : Offer) → AnnouncesOnly mac addr say → offer.bytes ≡ frame_of site.managed.spec (ask_of site.managed) say
+  no_other : (say : Said) (offer : Offer) → AnnouncesOnly mac addr say → offer.bytes ≡ frame_of site.managed.spec (ask_of site.duid site.managed) say
       → AnnouncesNoOther site addr offer
   no_other (Arp (Probe a)) offer says same other other_fits e = absurd (no_probe mac a other says other_fits (sym same ∙ e))
   no_other (Arp (Announce a)) offer says same other other_fits e =
       one_address mac other addr other_fits fits (sym e ∙ same ∙ ap (λ (x : Ip4). announcement_text mac x) says)
   no_other (Dhcp4 say) offer says same other other_fits e =
-      absurd (no_message mac (ask_of site.managed) say other says.0 says.1 (sym same ∙ e))
+      absurd (no_message mac (ask_of site.duid site.managed) say other says.0 says.1 (sym same ∙ e))
+  no_other (Dhcp6 sent) offer says same other other_fits e = absurd (no_message6 mac sent other (sym same ∙ e))
 
   -- where no other address was announced by what was said, none was by the offers
   pub alone : (clean : Type 0) (said : List Said) (offers : List Offer) → AllByRecursion (AnnouncesOnly mac addr) said
-      → Offered site.managed.spec (ask_of site.managed) clean said offers → AllByRecursion (AnnouncesNoOther site addr) offers
+      → Offered site.managed.spec (ask_of site.duid site.managed) clean said offers → AllByRecursion (AnnouncesNoOther site addr) offers
   alone clean [] [] all h = tt
   alone clean [] (offer ∷ offers) all h = absurd h
   alone clean (say ∷ said) [] all h = absurd h

@@ -9,7 +9,7 @@ use Rattle.arp_acd.specs.declared.detection.Phase.{Phase}
 use Rattle.arp_acd.specs.declared.detection.Phase.TheVariants.{Probing, Announcing, Held, Over}
 use Rattle.ipv4ll.specs.Choice.{IsChoice}
 use Rattle.evidence_words.specs.Entries.{Entry}
-use Rattle.client_model.specs.declared.steps.Said.{Said}
+use Rattle.client_model.specs.Messages.{Said}
 use Rattle.client_model.specs.ClientSettings.{ask_of}
 use Rattle.evidence_words.specs.Inputs.{Site, offers_at, uses, contests}
 use Rattle.evidence_words.specs.Probed.{TurnWord, Probes, Probed}
@@ -44,7 +44,7 @@ module _ (C : TurnWord) (site : Site) (addr : Ip4) where
   -- what a phase carries within a turn, after its tick: what was said is known, and what the input does isn't yet
   abbrev pub Amid : (clean : Type 0) → Entry → List Said → List Entry → Phase → Type 0
   Amid clean e said past (Probing n due) =
-      (n ≤ 3) × ((more : List Said) → Offered site.managed.spec (ask_of site.managed) clean (said ++ more) (offers_at site e) → clean → C e past
+      (n ≤ 3) × ((more : List Said) → Offered site.managed.spec (ask_of site.duid site.managed) clean (said ++ more) (offers_at site e) → clean → C e past
       → contests site addr e ≡ false → ProbesOf C site addr n due (e ∷ past))
   Amid clean e said past (Announcing due last) = AllByRecursion (AnnouncesOnly site.managed.spec.mac addr) said × HeldBefore last e past
   Amid clean e said past (Held last) = AllByRecursion (AnnouncesOnly site.managed.spec.mac addr) said × HeldBefore last e past
@@ -121,12 +121,12 @@ module _ (C : TurnWord) (site : Site) (addr : Ip4) where
   choice_fits c = let most : addr.number ≤ 0xa9fe_feff = c.at_most in omega arith
 
   pub is_alone : (clean : Type 0) (e : Entry) (said : List Said) → IsChoice addr → AllByRecursion (AnnouncesOnly site.managed.spec.mac addr) said
-      → Offered site.managed.spec (ask_of site.managed) clean said (offers_at site e) → IsAlone site addr e
+      → Offered site.managed.spec (ask_of site.duid site.managed) clean said (offers_at site e) → IsAlone site addr e
   is_alone clean e said c all h = alone site addr (choice_fits c) clean said (offers_at site e) all h
 
   pub quiet : (clean : Type 0) (e : Entry) (said : List Said) (past : List Entry) (phase : Phase) → IsChoice addr
       → Amid clean e said past phase → C e past → contests site addr e ≡ false → uses site addr e ≡ false
-      → Offered site.managed.spec (ask_of site.managed) clean (said ++ []) (offers_at site e) → Carries clean phase (e ∷ past)
+      → Offered site.managed.spec (ask_of site.duid site.managed) clean (said ++ []) (offers_at site e) → Carries clean phase (e ∷ past)
   quiet clean e said past (Probing n due) c m stays calm none h = (m.0, λ k. m.1 [] h k stays calm)
   quiet clean e said past (Announcing due last) c m stays calm none h =
       unused last e past m.1 stays (is_alone clean e (said ++ []) c (all_join _ said [] m.0 tt) h) none
@@ -144,7 +144,7 @@ module _ (C : TurnWord) (site : Site) (addr : Ip4) where
   amid_more clean e said more past (Probing n due) none m = (
     m.0,
     λ rest h k stays calm.
-        m.1 (more ++ rest) (subst (λ (all : List Said). Offered site.managed.spec (ask_of site.managed) clean all (offers_at site e)) (append_assoc said more rest) h)
+        m.1 (more ++ rest) (subst (λ (all : List Said). Offered site.managed.spec (ask_of site.duid site.managed) clean all (offers_at site e)) (append_assoc said more rest) h)
         k stays calm,
   )
   amid_more clean e said more past (Announcing due last) none m = (all_join _ said more m.0 (only_so more none), m.1)

@@ -22,8 +22,7 @@ use Rattle.ipv4ll.specs.Choice.{IsChoice}
 use Rattle.ipv4ll.specs.Table.{chooses, LlStep, moves, tells, choosing, after_conflict, one_more, said_row, tick_row, ll_tick, ll_hears, ll_restarts}
 use Rattle.ipv4ll.proofs.Chosen.{choice_in_range}
 use Rattle.client_model.specs.ClientSettings.{ask_of}
-use Rattle.client_model.specs.declared.steps.Said.{Said}
-use Rattle.client_model.specs.declared.steps.Said.TheVariants.{Arp}
+use Rattle.client_model.specs.Messages.{Said, Arp}
 use Rattle.evidence_words.specs.Entries.{Entry}
 use Rattle.evidence_words.specs.Probed.{TurnWord}
 use Rattle.evidence_words.specs.Inputs.{Site, index_at, offers_at, arp_on, tells_use, tells_contest}
@@ -133,7 +132,7 @@ module _ (C : TurnWord) (site : Site) (clean : Type 0) (e : Entry) (past : List 
       (choice_in_range iface conflicts salt, (lit≤ tt, λ k. tt)) tt
 
   abbrev AfterInput : List Said → LlStep → Type 0
-  AfterInput said step = Offered site.managed.spec (ask_of site.managed) clean (said ++ map Arp (option_to_list step.out.arp)) (offers_at site e) → Bears C site clean step.ll.state (e ∷ past)
+  AfterInput said step = Offered site.managed.spec (ask_of site.duid site.managed) clean (said ++ map Arp (option_to_list step.out.arp)) (offers_at site e) → Bears C site clean step.ll.state (e ∷ past)
 
   -- a packet that uses the held address
   used_bears : (iface i : IfIndex) (conflicts : ℕ) (addr : Ip4) (phase : Phase) (said : List Said) (last : Option ℕ) (defended : Phase)
@@ -157,7 +156,7 @@ module _ (C : TurnWord) (site : Site) (clean : Type 0) (e : Entry) (past : List 
 
   held_hears : (addr : Ip4) (said : List Said) (last : Option ℕ) (arp : ArpView) → IsChoice addr
       → Amid C site addr clean e said past (Held last) → C e past → arp_on (index_at site) e.event e.bytes ≡ Some arp
-      → is_used site.own addr arp ≡ false → Offered site.managed.spec (ask_of site.managed) clean (said ++ []) (offers_at site e) → HeldSince C site addr last (e ∷ past)
+      → is_used site.own addr arp ≡ false → Offered site.managed.spec (ask_of site.duid site.managed) clean (said ++ []) (offers_at site e) → HeldSince C site addr last (e ∷ past)
   held_hears addr said last arp r m stays heard none h =
       unused C site addr last e past m.1 stays (is_alone C site addr clean e (said ++ []) r (all_join _ said [] m.0 tt) h)
       (ap (tells_use site.own addr) heard ∙ none)
@@ -191,7 +190,7 @@ module _ (C : TurnWord) (site : Site) (clean : Type 0) (e : Entry) (past : List 
   -- nothing is heard
   pub quiet_bears : (state : State) (said : List Said) → BearsAmid C site clean e said past state
       → C e past → arp_on (index_at site) e.event e.bytes ≡ None
-      → Offered site.managed.spec (ask_of site.managed) clean (said ++ []) (offers_at site e) → Bears C site clean state (e ∷ past)
+      → Offered site.managed.spec (ask_of site.duid site.managed) clean (said ++ []) (offers_at site e) → Bears C site clean state (e ∷ past)
   quiet_bears Off said b stays none h = tt
   quiet_bears (Armed due waits fallback) said b stays none h = tt
   quiet_bears (Chosen conflicts acd) said b stays none h = (

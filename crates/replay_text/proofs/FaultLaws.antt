@@ -13,14 +13,17 @@ use Rattle.script_model.specs.ScriptTexts.{ScriptLines}
 use Rattle.replay_text.specs.declared.script.ScriptCause.{ScriptCause}
 use Rattle.replay_text.specs.declared.script.ScriptCause.TheVariants as causes
 use Rattle.replay_text.specs.declared.script.ScriptFault.{ScriptFault}
-use Rattle.replay_text.specs.FirstFaults.{known_after, IsInPlace, IsOutOfPlace, IsOutOfForm, IsBadFor, end_cause, Why, IsFault, FaultsAreOne}
+use Rattle.replay_text.specs.Places.{IsInPlace}
+use Rattle.replay_text.specs.FirstFaults.{known_after, IsOutOfPlace, IsOutOfForm, IsBadFor, end_cause, Why, IsFault, FaultsAreOne}
 use Rattle.replay_text.specs.LinesInOrder.{SpellsScript}
 use Rattle.replay_text.specs.ReadLines.{SpellsRead, AfterLines, After}
 use Rattle.replay_text.specs.ScriptContent.{HoldsLines, conf_lines}
-use Rattle.replay_text.specs.ScriptReading.{LinesRead, ScriptRead, may_come, step, given, known_cause, line_cause, cause_of}
+use Rattle.replay_text.specs.LinesRead.{LinesRead}
+use Rattle.replay_text.specs.NextWords.{may_come}
+use Rattle.replay_text.specs.ScriptReading.{ScriptRead, step, given, known_cause, line_cause, cause_of}
 use Rattle.replay_text.specs.Unbuilt.{is_unbuilt}
 use Rattle.replay_text.specs.Words.{Known, word_at, is_text}
-use Rattle.replay_text.proofs.PlaceLaws.{interfaces_told, in_place, place_comes}
+use Rattle.replay_text.proofs.PlaceLaws.{in_place, place_comes}
 use Rattle.replay_text.proofs.ReadScripts.{completes, takes, ends, whole, are}
 
 true_false : {b : Bool} → b ≡ true → b ≡ false → ⊥
@@ -33,7 +36,7 @@ known_is read lines line after = subst (λ ls. known_after ls line ≡ word_at l
 
 -- a known word, by its place and what follows it
 known_bad : (read : LinesRead) (lines : List Line) (line : Line) → run step lines None ≡ Some (Some read) → AfterLines read lines → is_text line ≡ true → (known : Known) → word_at line ≡ Some known
-    → (place : Bool) → may_come read known.0 ≡ place → (unbuilt : Bool) → is_unbuilt (length read.ifaces) known.0 known.1 ≡ unbuilt
+    → (place : Bool) → may_come read known.0 ≡ place → (unbuilt : Bool) → is_unbuilt known.0 known.1 ≡ unbuilt
     → IsBadFor lines line (cond place (cond unbuilt causes.NotBuilt causes.Form) causes.Order)
 known_bad read lines line runs after text known word false place unbuilt form = record {
   known = known;
@@ -46,20 +49,20 @@ known_bad read lines line runs after text known word true place false form = rec
   text = text;
   begins = known_is read lines line after ∙ word;
   place = in_place read lines known.0 after place;
-  form = ap (λ n. is_unbuilt n known.0 known.1) (interfaces_told read lines after) ∙ form;
+  form = form;
 }
 known_bad read lines line runs after text known word true place true form = record {
   known = known;
   text = text;
   begins = known_is read lines line after ∙ word;
   place = in_place read lines known.0 after place;
-  form = ap (λ n. is_unbuilt n known.0 known.1) (interfaces_told read lines after) ∙ form;
+  form = form;
 }
 
 word_bad : (read : LinesRead) (lines : List Line) (line : Line) → run step lines None ≡ Some (Some read) → AfterLines read lines → is_text line ≡ true → (o : Option Known) → word_at line ≡ o → IsBadFor lines line (known_cause read o)
 word_bad read lines line runs after text None word = (text, known_is read lines line after ∙ word)
 word_bad read lines line runs after text (Some known) word =
-    known_bad read lines line runs after text known word (may_come read known.0) refl (is_unbuilt (length read.ifaces) known.0 known.1) refl
+    known_bad read lines line runs after text known word (may_come read known.0) refl (is_unbuilt known.0 known.1) refl
 
 line_bad : (state : Option LinesRead) (lines : List Line) (line : Line) → After state lines → is_text line ≡ true → IsBadFor lines line (line_cause state line)
 line_bad None lines line after text = subst (λ ls. IsBadFor ls line causes.Word) (sym after.read) (text, refl)
@@ -184,7 +187,7 @@ misplaced lines line unbuilt out form =
 
 misformed : (lines : List Line) (line : Line) → IsOutOfForm false lines line → IsOutOfForm true lines line → ⊥
 misformed lines line bad unbuilt =
-    true_false (subst (λ (k : Known). is_unbuilt _ k.0 k.1 ≡ true) (known_one lines line unbuilt.known bad.known unbuilt.begins bad.begins) unbuilt.form) bad.form
+    true_false (subst (λ (k : Known). is_unbuilt k.0 k.1 ≡ true) (known_one lines line unbuilt.known bad.known unbuilt.begins bad.begins) unbuilt.form) bad.form
 
 unknown : (lines : List Line) (line : Line) (known : Known) → known_after lines line ≡ None → known_after lines line ≡ Some known → ⊥
 unknown lines line known none some = none-some known (sym none ∙ some)

@@ -15,6 +15,7 @@ use Rattle.net_types.proofs.AllLaws.{all_join, all_map}
 use Rattle.world.specs.declared.rows.HostRow.{HostRow}
 use Rattle.world.specs.RowOrder.{row_cmp, row_cmp_total, has_row, with_row, put_in_order, in_row_order}
 use Rattle.world.proofs.RowLists.{in_order_has, put_in_order_more}
+use Rattle.script_model.specs.Spellings.{AreSpelled}
 use Rattle.replay_text.proofs.TestLaws.{by_recursion}
 
 -- ---- fronts
@@ -66,6 +67,17 @@ line_more f xs x none e =
 -- and behind other blocks
 pub behind : {L : Type 0} (front rest grown : List L) (line : L) → rest ++ line ∷ [] ≡ grown → (front ++ rest) ++ line ∷ [] ≡ front ++ grown
 behind front rest grown line e = append_assoc front rest (line ∷ []) ∙ ap (λ t. front ++ t) e
+
+-- a text more, and what it spells
+pub spelled_more : {T X : Type 0} (Spells : T → X → Type 0) (texts : List T) (xs : List X) (text : T) (x : X) → AreSpelled Spells texts xs → Spells text x → AreSpelled Spells (texts ++ text ∷ []) (xs ++ x ∷ [])
+spelled_more Spells [] [] text x are spells = (spells, tt)
+spelled_more Spells [] (y ∷ xs) text x are spells = absurd are
+spelled_more Spells (t ∷ texts) [] text x are spells = absurd are
+spelled_more Spells (t ∷ texts) (y ∷ xs) text x are spells = (are.0, spelled_more Spells texts xs text x are.1 spells)
+
+pub none_spelled : {T X : Type 0} (Spells : T → X → Type 0) (texts : List T) → AreSpelled Spells texts [] → texts ≡ []
+none_spelled Spells [] are = refl
+none_spelled Spells (text ∷ texts) are = absurd are
 
 -- ---- rows
 

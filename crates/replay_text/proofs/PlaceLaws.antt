@@ -23,21 +23,26 @@ use Rattle.script_model.specs.Crashes.{CrashScript, crash_text}
 use Rattle.script_model.specs.FailingCalls.{fail_text}
 use Rattle.script_model.specs.FirstFiles.{file_text}
 use Rattle.script_model.specs.Lines.{interface_text, start_text}
-use Rattle.script_model.specs.RowSpellings.{AreRowLines}
+use Rattle.script_model.specs.RowSpellings.{SpellsRow}
 use Rattle.script_model.specs.Scripts.{FitsGiven}
-use Rattle.script_model.specs.ScriptTexts.{ScriptLines, LifeScript, given_text}
+use Rattle.script_model.specs.ScriptTexts.{ScriptLines, LifeScript}
+use Rattle.script_model.specs.Spellings.{AreSpelled}
+use Rattle.script_model.specs.TurnSpellings.{SpellsGiven}
 use Rattle.replay_text.specs.declared.words.Word.{Word}
 use Rattle.replay_text.specs.declared.words.Word.TheVariants.{Head, Conf, Interface, Row, File, Fail, Hook, Start, Turn, Crash}
-use Rattle.replay_text.specs.FirstFaults.{rank, rank_of, interfaces_in, IsInPlace}
-use Rattle.replay_text.specs.LinesInOrder.{head_line, conf_line, row_line, crash_lines, life_lines, lives_lines, SpellsScript, script_lines}
+use Rattle.replay_text.specs.Places.{rank, rank_of, interfaces_in, IsInPlace}
+use Rattle.replay_text.specs.LinesInOrder.{head_line, conf_line, row_line, crash_lines, SpellsLife, lives_lines, SpellsScript, script_lines}
 use Rattle.replay_text.specs.ReadLines.{SpellsRead, FitsLast, AfterLines}
 use Rattle.replay_text.specs.ScriptContent.{conf_lines}
-use Rattle.replay_text.specs.ScriptReading.{LifeRead, LinesRead, last_life, lives_in, script_in, none_of, before_lives, before_rows, may_come, with_turn, with_crash, with_start, with_last, step_after, step}
+use Rattle.replay_text.specs.LinesRead.{LifeRead, LinesRead, last_life, lives_in, script_in}
+use Rattle.replay_text.specs.NextWords.{none_of, before_lives, before_rows, may_come}
+use Rattle.replay_text.specs.NextLines.{with_turn, with_crash, with_start, with_last}
+use Rattle.replay_text.specs.ScriptReading.{step_after, step}
 use Rattle.replay_text.specs.Words.{word_text, word_at}
 use Rattle.replay_text.proofs.CarrierLaws.{begin_words, begin_spelled}
 use Rattle.replay_text.proofs.CrashLaws.{crash_words, crash_spelled}
 use Rattle.replay_text.proofs.FileLaws.{file_words, file_spelled}
-use Rattle.replay_text.proofs.LineLaws.{spec_text, spec_spelled, fail_words, fail_spelled, turn_words, turn_spelled}
+use Rattle.replay_text.proofs.LineLaws.{spec_text, spec_spelled, fail_words, fail_spelled, turn_words, SpellsTurn, turn_spelled}
 use Rattle.replay_text.proofs.ReadScripts.{first_begin, first_fits, completed, whole, are, run_lines}
 use Rattle.replay_text.proofs.TakenLines.{taken_is, start_grows, turn_grows, crash_grows}
 use Rattle.replay_text.proofs.WordLaws.{word_begins, blank_word, conf_word}
@@ -75,11 +80,16 @@ kind_within f k n law [] = sym (or_true (leb n k))
 kind_within f k n law (x ∷ xs) =
     ap (λ r. leb r k && list_all (within k) (map f xs)) (law x) ∙ ap (λ b. leb n k && b) (kind_within f k n law xs) ∙ either_none (leb n k) (none_of xs)
 
-lives_within : (k : ℕ) → leb 7 k ≡ false → (lives : List LifeScript) → list_all (within k) (lives_lines lives) ≡ none_of lives
-lives_within k low [] = refl
-lives_within k low (life ∷ lives) =
-    ap (λ r. leb r k && list_all (within k) ((map given_text life.turns ++ crash_lines life.crash) ++ lives_lines lives)) (start_rank life)
-    ∙ ap (λ b. b && list_all (within k) ((map given_text life.turns ++ crash_lines life.crash) ++ lives_lines lives)) low
+lives_within : (k : ℕ) → leb 7 k ≡ false → (lines : List (List Line)) (lives : List LifeScript) → AreSpelled SpellsLife lines lives → list_all (within k) (lives_lines lines) ≡ none_of lives
+lives_within k low [] [] lived = refl
+lives_within k low [] (life ∷ lives) lived = absurd lived
+lives_within k low (first ∷ lines) [] lived = absurd lived
+lives_within k low (first ∷ lines) (life ∷ lives) lived =
+    let spells = lived.0 in
+    let later = (spells.turns ++ crash_lines life.crash) ++ lives_lines lines in
+    ap (λ ls. list_all (within k) (ls ++ lives_lines lines)) spells.are
+    ∙ ap (λ r. leb r k && list_all (within k) later) (start_rank life)
+    ∙ ap (λ b. b && list_all (within k) later) low
 
 joined : (k : ℕ) (xs ys : List Line) (a b : Bool) → list_all (within k) xs ≡ a → list_all (within k) ys ≡ b → list_all (within k) (xs ++ ys) ≡ (a && b)
 joined k xs ys a b one other = list_all-append (within k) xs ys ∙ ap (λ c. c && list_all (within k) ys) one ∙ ap (λ c. a && c) other
@@ -87,24 +97,24 @@ joined k xs ys a b one other = list_all-append (within k) xs ys ∙ ap (λ c. c 
 abbrev ranked : ℕ → List (List ℕ) → ScriptLines → Bool
 ranked k rows s = (leb 1 k || none_of s.conf) && ((leb 2 k || none_of s.ifaces) && ((leb 3 k || none_of rows) && ((leb 4 k || none_of s.files) && ((leb 5 k || none_of s.fails) && none_of s.lives))))
 
-in_order_is : (k : ℕ) (rows : List (List ℕ)) (s : ScriptLines) → leb 7 k ≡ false → list_all (within k) (script_lines rows s) ≡ ranked k rows s
-in_order_is k rows s low =
+in_order_is : (k : ℕ) (rows : List (List ℕ)) (lives : List (List Line)) (s : ScriptLines) → AreSpelled SpellsLife lives s.lives → leb 7 k ≡ false → list_all (within k) (script_lines rows lives s) ≡ ranked k rows s
+in_order_is k rows lives s lived low =
     let conf_block = kind_within conf_line k 1 (λ text. ap rank_of (conf_word text)) s.conf in
     let iface_block = kind_within interface_text k 2 (λ spec. spelled_word (interface_text spec) Interface (spec_text spec) (spec_spelled spec)) s.ifaces in
     let row_block = kind_within row_line k 3 (λ text. spelled_word (row_line text) Row text refl) rows in
     let file_block = kind_within file_text k 4 (λ file. spelled_word (file_text file) File (file_words file) (file_spelled file)) s.files in
     let fail_block = kind_within fail_text k 5 (λ fail. spelled_word (fail_text fail) Fail (fail_words fail) (fail_spelled fail)) s.fails in
-    ap (λ r. leb r k && list_all (within k) (map conf_line s.conf ++ (map interface_text s.ifaces ++ (map row_line rows ++ (map file_text s.files ++ (map fail_text s.fails ++ lives_lines s.lives)))))) head_rank
-    ∙ ap (λ b. b && list_all (within k) (map conf_line s.conf ++ (map interface_text s.ifaces ++ (map row_line rows ++ (map file_text s.files ++ (map fail_text s.fails ++ lives_lines s.lives)))))) (le-leb 0 k (omega arith))
+    ap (λ r. leb r k && list_all (within k) (map conf_line s.conf ++ (map interface_text s.ifaces ++ (map row_line rows ++ (map file_text s.files ++ (map fail_text s.fails ++ lives_lines lives)))))) head_rank
+    ∙ ap (λ b. b && list_all (within k) (map conf_line s.conf ++ (map interface_text s.ifaces ++ (map row_line rows ++ (map file_text s.files ++ (map fail_text s.fails ++ lives_lines lives)))))) (le-leb 0 k (omega arith))
     ∙ joined k (map conf_line s.conf) _ _ _ conf_block
     (joined k (map interface_text s.ifaces) _ _ _ iface_block
     (joined k (map row_line rows) _ _ _ row_block
     (joined k (map file_text s.files) _ _ _ file_block
-    (joined k (map fail_text s.fails) _ _ _ fail_block (lives_within k low s.lives)))))
+    (joined k (map fail_text s.fails) _ _ _ fail_block (lives_within k low lives s.lives lived)))))
 
 -- ---- what a state tells of its lines
 
-rows_told : (rows : List (List ℕ)) (held : List HostRow) → AreRowLines rows held → none_of rows ≡ none_of held
+rows_told : (rows : List (List ℕ)) (held : List HostRow) → AreSpelled SpellsRow rows held → none_of rows ≡ none_of held
 rows_told [] [] are = refl
 rows_told [] (row ∷ held) are = absurd are
 rows_told (text ∷ rows) [] are = absurd are
@@ -122,7 +132,7 @@ lives_told count past (Some read) fits = some_more past read.life
 told : (k : ℕ) (read : LinesRead) (lines : List Line) → leb 7 k ≡ false → AfterLines read lines
     → list_all (within k) lines ≡ ((leb 1 k || none_of (conf_lines read.conf)) && ((leb 2 k || none_of read.ifaces) && ((leb 3 k || none_of read.rows) && ((leb 4 k || none_of read.files) && ((leb 5 k || none_of read.fails) && before_lives read)))))
 told k read lines low after =
-    ap (list_all (within k)) after.are ∙ in_order_is k after.rows (script_in read) low
+    ap (list_all (within k)) after.are ∙ in_order_is k after.rows after.lives (script_in read) after.lived low
     ∙ ap (λ b. (leb 1 k || none_of (conf_lines read.conf)) && ((leb 2 k || none_of read.ifaces) && ((leb 3 k || b) && ((leb 4 k || none_of read.files) && ((leb 5 k || none_of read.fails) && none_of (lives_in read)))))) (rows_told after.rows read.rows after.spelled)
     ∙ ap (λ b. (leb 1 k || none_of (conf_lines read.conf)) && ((leb 2 k || none_of read.ifaces) && ((leb 3 k || none_of read.rows) && ((leb 4 k || none_of read.files) && ((leb 5 k || none_of read.fails) && b))))) (lives_told (length read.ifaces) read.past read.last after.sound.last)
 
@@ -148,22 +158,34 @@ crash_none : (crash : Option CrashScript) → filter is_interface (crash_lines c
 crash_none None = refl
 crash_none (Some crash) = ap (λ r. cond (eqb r 2) (crash_text crash ∷ []) []) (spelled_word (crash_text crash) Crash (crash_words crash) (crash_spelled crash))
 
-life_none : (life : LifeScript) → filter is_interface (life_lines life) ≡ []
-life_none life =
-    let others = map given_text life.turns ++ crash_lines life.crash in
-    ap (λ r. cond (eqb r 2) (start_text life.begin ∷ filter is_interface others) (filter is_interface others)) (start_rank life)
-    ∙ both_none (map given_text life.turns) (crash_lines life.crash) (kind_none given_text 7 refl (λ given. spelled_word (given_text given) Turn (turn_words given) (turn_spelled given)) life.turns) (crash_none life.crash)
+turns_none : (lines : List Line) (turns : List Given) → AreSpelled SpellsGiven lines turns → filter is_interface lines ≡ []
+turns_none [] [] spelled = refl
+turns_none [] (given ∷ turns) spelled = absurd spelled
+turns_none (line ∷ lines) [] spelled = absurd spelled
+turns_none (line ∷ lines) (given ∷ turns) spelled =
+    let spells = spelled.0 in
+    ap (λ r. cond (eqb r 2) (line ∷ filter is_interface lines) (filter is_interface lines)) (spelled_word line Turn (turn_words given spells.event) (turn_spelled line given spells))
+    ∙ turns_none lines turns spelled.1
 
-lives_none : (lives : List LifeScript) → filter is_interface (lives_lines lives) ≡ []
-lives_none [] = refl
-lives_none (life ∷ lives) = both_none (life_lines life) (lives_lines lives) (life_none life) (lives_none lives)
+life_none : (lines : List Line) (life : LifeScript) → SpellsLife lines life → filter is_interface lines ≡ []
+life_none lines life spells =
+    let others = spells.turns ++ crash_lines life.crash in
+    ap (filter is_interface) spells.are
+    ∙ ap (λ r. cond (eqb r 2) (start_text life.begin ∷ filter is_interface others) (filter is_interface others)) (start_rank life)
+    ∙ both_none spells.turns (crash_lines life.crash) (turns_none spells.turns life.turns spells.spelled) (crash_none life.crash)
 
-counted : (rows : List (List ℕ)) (s : ScriptLines) → interfaces_in (script_lines rows s) ≡ length s.ifaces
-counted rows s =
-    let behind = map row_line rows ++ (map file_text s.files ++ (map fail_text s.fails ++ lives_lines s.lives)) in
+lives_none : (lines : List (List Line)) (lives : List LifeScript) → AreSpelled SpellsLife lines lives → filter is_interface (lives_lines lines) ≡ []
+lives_none [] [] lived = refl
+lives_none [] (life ∷ lives) lived = absurd lived
+lives_none (first ∷ lines) [] lived = absurd lived
+lives_none (first ∷ lines) (life ∷ lives) lived = both_none first (lives_lines lines) (life_none first life lived.0) (lives_none lines lives lived.1)
+
+counted : (rows : List (List ℕ)) (lives : List (List Line)) (s : ScriptLines) → AreSpelled SpellsLife lives s.lives → interfaces_in (script_lines rows lives s) ≡ length s.ifaces
+counted rows lives s lived =
+    let behind = map row_line rows ++ (map file_text s.files ++ (map fail_text s.fails ++ lives_lines lives)) in
     let none = both_none (map row_line rows) _ (kind_none row_line 3 refl (λ text. spelled_word (row_line text) Row text refl) rows)
     (both_none (map file_text s.files) _ (kind_none file_text 4 refl (λ file. spelled_word (file_text file) File (file_words file) (file_spelled file)) s.files)
-    (both_none (map fail_text s.fails) _ (kind_none fail_text 5 refl (λ fail. spelled_word (fail_text fail) Fail (fail_words fail) (fail_spelled fail)) s.fails) (lives_none s.lives))) in
+    (both_none (map fail_text s.fails) _ (kind_none fail_text 5 refl (λ fail. spelled_word (fail_text fail) Fail (fail_words fail) (fail_spelled fail)) s.fails) (lives_none lives s.lives lived))) in
     let all : filter is_interface (map interface_text s.ifaces) ≡ map interface_text s.ifaces = ifaces_all interface_text (λ spec. spelled_word (interface_text spec) Interface (spec_text spec) (spec_spelled spec)) s.ifaces in
     let after_conf : filter is_interface (map interface_text s.ifaces ++ behind) ≡ map interface_text s.ifaces =
     filter-append is_interface (map interface_text s.ifaces) behind ∙ ap (λ ls. ls ++ filter is_interface behind) all ∙ ap (λ ls. map interface_text s.ifaces ++ ls) none ∙ append-nil (map interface_text s.ifaces) in
@@ -175,7 +197,7 @@ counted rows s =
     ap (λ r. length (cond (eqb r 2) (head_line ∷ filter is_interface rest) (filter is_interface rest))) head_rank ∙ ap length whole_lines ∙ length-map s.ifaces interface_text
 
 pub interfaces_told : (read : LinesRead) (lines : List Line) → AfterLines read lines → interfaces_in lines ≡ length read.ifaces
-interfaces_told read lines after = ap interfaces_in after.are ∙ counted after.rows (script_in read)
+interfaces_told read lines after = ap interfaces_in after.are ∙ counted after.rows after.lives (script_in read) after.lived
 
 -- ---- in a life: a script goes on with the word
 
@@ -196,6 +218,12 @@ quiet_turn = record { wake = record { at = 0; salt = 0; event = Quiet }; bytes =
 quiet_fits : FitsGiven 64 quiet_turn
 quiet_fits = record { at = omega arith; salt = omega arith; event = tt; bytes = refl }
 
+abbrev quiet_words : List ℕ
+quiet_words = turn_words quiet_turn (codes "quiet")
+
+quiet_spelled : SpellsTurn quiet_words quiet_turn
+quiet_spelled = record { event = codes "quiet"; spelled = refl; spells = refl; fits = quiet_fits }
+
 abbrev last_crash : CrashScript
 last_crash = record { calls = None; kind = Old }
 
@@ -205,7 +233,7 @@ start_begins read lines after comes =
 
 turn_begins : (read : LinesRead) (lines : List Line) → AfterLines read lines → may_come read Turn ≡ true → IsInPlace lines Turn
 turn_begins read lines after comes =
-    begins_by lines Turn (turn_words quiet_turn) (completed (with_last read (with_turn quiet_turn)) (lines ++ (word_text Turn ++ 32 ∷ turn_words quiet_turn) ∷ []) (turn_grows read lines quiet_turn after comes quiet_fits refl))
+    begins_by lines Turn quiet_words (completed (with_last read (with_turn quiet_turn)) (lines ++ (word_text Turn ++ 32 ∷ quiet_words) ∷ []) (turn_grows read lines quiet_words quiet_turn after comes quiet_spelled refl))
 
 crash_begins : (read : LinesRead) (lines : List Line) → AfterLines read lines → may_come read Crash ≡ true → IsInPlace lines Crash
 crash_begins read lines after comes =

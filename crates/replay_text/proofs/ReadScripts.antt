@@ -25,7 +25,10 @@ use Rattle.replay_text.specs.declared.words.Word.TheVariants.{Start}
 use Rattle.replay_text.specs.LinesInOrder.{head_line}
 use Rattle.replay_text.specs.ReadLines.{SpellsRead, HasPassed, FitsLast, AfterLines, IsAfter, After}
 use Rattle.replay_text.specs.ScriptContent.{conf_lines}
-use Rattle.replay_text.specs.ScriptReading.{LifeRead, LinesRead, ScriptRead, last_life, lives_in, script_read, nothing_read, may_begin, with_start, step_after, step, given}
+use Rattle.replay_text.specs.LinesRead.{LifeRead, LinesRead, last_life, lives_in, nothing_read}
+use Rattle.replay_text.specs.NextWords.{may_begin}
+use Rattle.replay_text.specs.NextLines.{with_start}
+use Rattle.replay_text.specs.ScriptReading.{ScriptRead, script_read, step_after, step, given}
 use Rattle.replay_text.specs.Words.{word_text, is_text}
 use Rattle.replay_text.proofs.CarrierLaws.{begin_words, FitsBegin}
 use Rattle.replay_text.proofs.Grown.{pairs_none, pairs_more}
@@ -100,6 +103,8 @@ ends_here read lines after some =
       spells = record {
         rows = after.rows;
         spelled = after.spelled;
+        lives = after.lives;
+        lived = after.lived;
         are = after.are;
         fits = record {
           conf = All-from_recursion (Lacks 10) (conf_lines read.conf) sound.conf;
@@ -142,6 +147,8 @@ unfolding conf_lines
 nothing_fits = record {
   rows = [];
   spelled = tt;
+  lives = [];
+  lived = tt;
   are = refl;
   sound = record {
     conf = tt;
@@ -192,7 +199,7 @@ ends (Some read) lines value after e = by (is_some read.last) refl e
 pub whole : (value : ScriptRead) (lines : List Line) → SpellsRead value lines → WholeRun step given None lines value
 whole value lines spells =
     let s = spells.spells in
-    let w = whole_of s.rows value.script s.spelled s.fits in
+    let w = whole_of s.rows s.lives value.script s.spelled s.lived s.fits in
     record {
       state = Some w.read;
       runs = ap (λ ls. run step ls None) s.are ∙ w.runs;

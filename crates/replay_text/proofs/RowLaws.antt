@@ -62,13 +62,13 @@ iface_reads =
 pub iface_lacks : (iface : IfIndex) → FitsIface iface → Lacks 32 (iface_text iface)
 iface_lacks iface fits = let within : iface.number ≤ 64 = fits.1 in decimal_lacks iface.number 32 (omega arith) refl
 
-abbrev SpellsIface : List ℕ → IfIndex → Type 0
+abbrev pub SpellsIface : List ℕ → IfIndex → Type 0
 SpellsIface = OneText iface_text FitsIface
 
-iface_finds : Finds SpellsIface iface_at
+pub iface_finds : Finds SpellsIface iface_at
 iface_finds = one_text iface_reads
 
-iface_apart : (text : List ℕ) (iface : IfIndex) → SpellsIface text iface → Lacks 32 text
+pub iface_apart : (text : List ℕ) (iface : IfIndex) → SpellsIface text iface → Lacks 32 text
 iface_apart text iface spells = subst (Lacks 32) (sym spells.0) (iface_lacks iface spells.1)
 
 metric_reads : Reads decimal (λ n. n < 2 ^ 32) metric_at

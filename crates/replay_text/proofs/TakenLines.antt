@@ -26,26 +26,31 @@ use Rattle.script_model.specs.Crashes.{CrashScript, FitsCrash, crash_text}
 use Rattle.script_model.specs.FailingCalls.{FitsFail, fail_text}
 use Rattle.script_model.specs.FirstFiles.{FitsFile, UnlikeNames, file_text}
 use Rattle.script_model.specs.Lines.{interface_text, start_text}
-use Rattle.script_model.specs.RowSpellings.{SpellsRow, AreRowLines}
+use Rattle.script_model.specs.RowSpellings.{SpellsRow}
 use Rattle.script_model.specs.Scripts.{FitsGiven, FitsLife}
-use Rattle.script_model.specs.ScriptTexts.{LifeScript, given_text}
+use Rattle.script_model.specs.ScriptTexts.{LifeScript}
+use Rattle.script_model.specs.Spellings.{AreSpelled}
+use Rattle.script_model.specs.TurnSpellings.{SpellsGiven}
 use Rattle.replay_text.specs.declared.words.Word.{Word}
 use Rattle.replay_text.specs.declared.words.Word.TheVariants.{Head, Conf, Interface, Row, File, Fail, Hook, Start, Turn, Crash}
 use Rattle.replay_text.specs.Clocks.{clock_at, clock_after, clock_through, is_over, is_in_time}
 use Rattle.replay_text.specs.KindTests.{is_listed}
-use Rattle.replay_text.specs.LinesInOrder.{head_line, conf_line, row_line, crash_lines, life_lines, lives_lines, script_lines}
+use Rattle.replay_text.specs.LinesInOrder.{head_line, conf_line, row_line, crash_lines, SpellsLife, lives_lines, script_lines}
 use Rattle.replay_text.specs.ReadLines.{HasPassed, FitsLast, IsSound, AfterLines}
-use Rattle.replay_text.specs.RowReading.{row_at}
 use Rattle.replay_text.specs.ScriptContent.{conf_lines}
-use Rattle.replay_text.specs.ScriptReading.{LifeRead, LinesRead, last_life, lives_in, script_in, none_of, before_lives, before_fails, before_files, before_rows, before_interfaces, may_begin, has_begun, is_going_on, may_come, after_blank, fits_next, is_new_row, is_new_file, begun, with_turn, with_crash, with_start, with_last, with_line, in_place, step_after}
+use Rattle.replay_text.specs.LinesRead.{LifeRead, LinesRead, last_life, lives_in, script_in}
+use Rattle.replay_text.specs.NextWords.{none_of, before_lives, before_fails, before_files, before_rows, before_interfaces, may_begin, has_begun, is_going_on, may_come}
+use Rattle.replay_text.specs.NextLines.{after_blank, fits_next, is_new_row, is_new_file, begun, with_turn, with_crash, with_start, with_last, with_line}
+use Rattle.replay_text.specs.ScriptReading.{in_place, step_after}
 use Rattle.replay_text.specs.Words.{Known, word_text, word_at, is_text}
 use Rattle.replay_text.proofs.CarrierLaws.{begin_words, FitsBegin, begin_reads, begin_spelled}
 use Rattle.replay_text.proofs.ClockLaws.{in_time_sound, in_time_whole}
 use Rattle.replay_text.proofs.CrashLaws.{crash_words, crash_reads, crash_spelled}
 use Rattle.replay_text.proofs.FileLaws.{file_words, file_reads, file_spelled, new_unlike}
-use Rattle.replay_text.proofs.Grown.{pairs_more, line_more, behind, once_more}
-use Rattle.replay_text.proofs.LineLaws.{spec_text, FitsSpec, spec_reads, spec_spelled, fail_words, fail_reads, fail_spelled, turn_words, turn_reads, turn_spelled}
+use Rattle.replay_text.proofs.Grown.{pairs_more, line_more, behind, spelled_more, none_spelled, once_more}
+use Rattle.replay_text.proofs.LineLaws.{spec_text, FitsSpec, spec_reads, spec_spelled, fail_words, fail_reads, fail_spelled, SpellsTurn, turn_finds, turn_line}
 use Rattle.replay_text.proofs.RowLaws.{row_finds}
+use Rattle.replay_text.proofs.SpellingLaws.{Finds}
 use Rattle.replay_text.proofs.ConfLineLaws.{conf_lines_of}
 use Rattle.replay_text.proofs.TestLaws.{by_recursion, interfaces_sound, interfaces_whole, listed_sound}
 use Rattle.replay_text.proofs.WordLaws.{word_is}
@@ -87,47 +92,44 @@ no_past read sound e = subst (FitsLast (length read.ifaces) read.past) (no_last 
 pub no_lives : (read : LinesRead) → IsSound read → before_lives read ≡ true → lives_in read ≡ []
 no_lives read sound e = ap (λ p. p ++ last_life read.last) (no_past read sound e) ∙ ap last_life (no_last read.last e)
 
-abbrev behind_fails : LinesRead → List Line
-behind_fails read = lives_lines (lives_in read)
+abbrev behind_files : List (List Line) → LinesRead → List Line
+behind_files lives read = map fail_text read.fails ++ lives_lines lives
 
-abbrev behind_files : LinesRead → List Line
-behind_files read = map fail_text read.fails ++ behind_fails read
+abbrev behind_rows : List (List Line) → LinesRead → List Line
+behind_rows lives read = map file_text read.files ++ behind_files lives read
 
-abbrev behind_rows : LinesRead → List Line
-behind_rows read = map file_text read.files ++ behind_files read
+abbrev behind_ifaces : List (List ℕ) → List (List Line) → LinesRead → List Line
+behind_ifaces rows lives read = map row_line rows ++ behind_rows lives read
 
-abbrev behind_ifaces : List (List ℕ) → LinesRead → List Line
-behind_ifaces rows read = map row_line rows ++ behind_rows read
+abbrev behind_conf : List (List ℕ) → List (List Line) → LinesRead → List Line
+behind_conf rows lives read = map interface_text read.ifaces ++ behind_ifaces rows lives read
 
-abbrev behind_conf : List (List ℕ) → LinesRead → List Line
-behind_conf rows read = map interface_text read.ifaces ++ behind_ifaces rows read
+abbrev AreLives : List (List Line) → LinesRead → Type 0
+AreLives lives read = AreSpelled SpellsLife lives (lives_in read)
 
-none_behind_fails : (read : LinesRead) → IsSound read → before_lives read ≡ true → behind_fails read ≡ []
-none_behind_fails read sound e = ap lives_lines (no_lives read sound e)
+none_behind_fails : (lives : List (List Line)) (read : LinesRead) → IsSound read → AreLives lives read → before_lives read ≡ true → lives_lines lives ≡ []
+none_behind_fails lives read sound lived e =
+    ap lives_lines (none_spelled SpellsLife lives (subst (AreSpelled SpellsLife lives) (no_lives read sound e) lived))
 
-none_behind_files : (read : LinesRead) → IsSound read → before_fails read ≡ true → behind_files read ≡ []
-none_behind_files read sound e =
+none_behind_files : (lives : List (List Line)) (read : LinesRead) → IsSound read → AreLives lives read → before_fails read ≡ true → behind_files lives read ≡ []
+none_behind_files lives read sound lived e =
     let parts = and_parts (none_of read.fails) (before_lives read) e in
-    ap (λ fs. map fail_text fs ++ behind_fails read) (none_is read.fails parts.0) ∙ none_behind_fails read sound parts.1
+    ap (λ fs. map fail_text fs ++ lives_lines lives) (none_is read.fails parts.0) ∙ none_behind_fails lives read sound lived parts.1
 
-none_behind_rows : (read : LinesRead) → IsSound read → before_files read ≡ true → behind_rows read ≡ []
-none_behind_rows read sound e =
+none_behind_rows : (lives : List (List Line)) (read : LinesRead) → IsSound read → AreLives lives read → before_files read ≡ true → behind_rows lives read ≡ []
+none_behind_rows lives read sound lived e =
     let parts = and_parts (none_of read.files) (before_fails read) e in
-    ap (λ fs. map file_text fs ++ behind_files read) (none_is read.files parts.0) ∙ none_behind_files read sound parts.1
+    ap (λ fs. map file_text fs ++ behind_files lives read) (none_is read.files parts.0) ∙ none_behind_files lives read sound lived parts.1
 
-no_row_lines : (rows : List (List ℕ)) → AreRowLines rows [] → rows ≡ []
-no_row_lines [] are = refl
-no_row_lines (row ∷ rows) are = absurd are
-
-none_behind_ifaces : (rows : List (List ℕ)) (read : LinesRead) → IsSound read → AreRowLines rows read.rows → before_rows read ≡ true → behind_ifaces rows read ≡ []
-none_behind_ifaces rows read sound spelled e =
+none_behind_ifaces : (rows : List (List ℕ)) (lives : List (List Line)) (read : LinesRead) → IsSound read → AreSpelled SpellsRow rows read.rows → AreLives lives read → before_rows read ≡ true → behind_ifaces rows lives read ≡ []
+none_behind_ifaces rows lives read sound spelled lived e =
     let parts = and_parts (none_of read.rows) (before_files read) e in
-    ap (λ rs. map row_line rs ++ behind_rows read) (no_row_lines rows (subst (AreRowLines rows) (none_is read.rows parts.0) spelled)) ∙ none_behind_rows read sound parts.1
+    ap (λ rs. map row_line rs ++ behind_rows lives read) (none_spelled SpellsRow rows (subst (AreSpelled SpellsRow rows) (none_is read.rows parts.0) spelled)) ∙ none_behind_rows lives read sound lived parts.1
 
-none_behind_conf : (rows : List (List ℕ)) (read : LinesRead) → IsSound read → AreRowLines rows read.rows → before_interfaces read ≡ true → behind_conf rows read ≡ []
-none_behind_conf rows read sound spelled e =
+none_behind_conf : (rows : List (List ℕ)) (lives : List (List Line)) (read : LinesRead) → IsSound read → AreSpelled SpellsRow rows read.rows → AreLives lives read → before_interfaces read ≡ true → behind_conf rows lives read ≡ []
+none_behind_conf rows lives read sound spelled lived e =
     let parts = and_parts (none_of read.ifaces) (before_rows read) e in
-    ap (λ is. map interface_text is ++ behind_ifaces rows read) (none_is read.ifaces parts.0) ∙ none_behind_ifaces rows read sound spelled parts.1
+    ap (λ is. map interface_text is ++ behind_ifaces rows lives read) (none_is read.ifaces parts.0) ∙ none_behind_ifaces rows lives read sound spelled lived parts.1
 
 -- nothing stands behind interfaces, so that their number may change
 lives_of_none : (read : LinesRead) → IsSound read → before_rows read ≡ true → before_lives read ≡ true
@@ -159,6 +161,16 @@ tested_grows {found = found} lines word rest next test make law grows e =
     let r = (word_reads (codes " ") law).sound rest m.value g.0 in
     subst (Grows lines (word_text word ++ rest)) m.gives (subst (λ t. Grows lines (word_text word ++ t) (make m.value)) (sym r.0) (grows m.value r.1 g.1))
 
+found_grows : {X : Type 0} {Spells : List ℕ → X → Type 0} {found : List ℕ → Option X} (lines : List Line) (word : Word) (rest : List ℕ) (next : LinesRead) (test : X → Bool) (make : X → LinesRead) → Finds Spells found
+    → ((text : List ℕ) (x : X) → Spells text x → test x ≡ true → Grows lines (word_text word ++ 32 ∷ text) (make x)) → option_map make (guarded test (after_blank found rest)) ≡ Some next → Grows lines (word_text word ++ rest) next
+found_grows {found = found} lines word rest next test make law grows e =
+    let m = mapped make (guarded test (after_blank found rest)) next e in
+    let g = guard_passed test (after_blank found rest) m.value m.was in
+    let p = passed (strip_word (codes " ") rest) found m.value g.0 in
+    let spelled : rest ≡ codes " " ++ p.value = strip_sound (codes " ") rest p.value p.was in
+    subst (Grows lines (word_text word ++ rest)) m.gives
+    (subst (λ t. Grows lines (word_text word ++ t) (make m.value)) (sym spelled) (grows p.value m.value (law.sound p.value m.value p.gives) g.1))
+
 -- ---- the configuration
 
 pub lines_ended : (lines : List (List ℕ)) (line : List ℕ) → flat_map ended (lines ++ line ∷ []) ≡ flat_map ended lines ++ ended line
@@ -175,12 +187,14 @@ conf_grows read lines text next after is comes e =
     let free = all_join (Lacks 10) (conf_lines read.conf) (text ∷ []) sound.conf (conf_free text is, tt) in
     let joined : read.conf ++ ended text ≡ flat_map ended (conf_lines read.conf ++ text ∷ []) = ap (λ c. c ++ ended text) sound.holds ∙ sym (lines_ended (conf_lines read.conf) text) in
     let grown : conf_lines (read.conf ++ ended text) ≡ conf_lines read.conf ++ text ∷ [] = ap conf_lines joined ∙ conf_lines_of (conf_lines read.conf ++ text ∷ []) free in
-    let rest = behind_conf after.rows read in
+    let rest = behind_conf after.rows after.lives read in
     subst (Grows lines (word_text Conf ++ text)) (some_same e) (record {
       rows = after.rows;
       spelled = after.spelled;
-      are = one_more lines (script_lines after.rows (script_in read)) _ (conf_line text) (conf_line text) after.are refl
-          (ap (λ ls. head_line ∷ ls) (line_more conf_line (conf_lines read.conf) text rest (none_behind_conf after.rows read sound after.spelled comes) ∙ ap (λ ts. map conf_line ts ++ rest) (sym grown)));
+      lives = after.lives;
+      lived = after.lived;
+      are = one_more lines (script_lines after.rows after.lives (script_in read)) _ (conf_line text) (conf_line text) after.are refl
+          (ap (λ ls. head_line ∷ ls) (line_more conf_line (conf_lines read.conf) text rest (none_behind_conf after.rows after.lives read sound after.spelled after.lived comes) ∙ ap (λ ts. map conf_line ts ++ rest) (sym grown)));
       sound = record {
         conf = subst (AllByRecursion (Lacks 10)) (sym grown) free;
         holds = joined ∙ ap (flat_map ended) (sym grown);
@@ -204,13 +218,15 @@ iface_grows read lines spec after comes fits test =
     let lives = lives_of_none read sound comes in
     let ifaces = interfaces_whole read.ifaces sound.ifaces in
     let count = length (read.ifaces ++ spec ∷ []) in
-    let rest = behind_ifaces after.rows read in
+    let rest = behind_ifaces after.rows after.lives read in
     record {
       rows = after.rows;
       spelled = after.spelled;
-      are = one_more lines (script_lines after.rows (script_in read)) _ _ (interface_text spec) after.are (sym (spec_spelled spec))
-          (ap (λ ls. head_line ∷ ls) (behind (map conf_line (conf_lines read.conf)) (behind_conf after.rows read) _ (interface_text spec)
-          (line_more interface_text read.ifaces spec rest (none_behind_ifaces after.rows read sound after.spelled comes))));
+      lives = after.lives;
+      lived = after.lived;
+      are = one_more lines (script_lines after.rows after.lives (script_in read)) _ _ (interface_text spec) after.are (sym (spec_spelled spec))
+          (ap (λ ls. head_line ∷ ls) (behind (map conf_line (conf_lines read.conf)) (behind_conf after.rows after.lives read) _ (interface_text spec)
+          (line_more interface_text read.ifaces spec rest (none_behind_ifaces after.rows after.lives read sound after.spelled after.lived comes))));
       sound = record {
         conf = sound.conf;
         holds = sound.holds;
@@ -225,24 +241,20 @@ iface_grows read lines spec after comes fits test =
       };
     }
 
-rows_more : (texts : List (List ℕ)) (rows : List HostRow) (text : List ℕ) (row : HostRow) → AreRowLines texts rows → SpellsRow text row → AreRowLines (texts ++ text ∷ []) (rows ++ row ∷ [])
-rows_more [] [] text row are spells = (spells, tt)
-rows_more [] (r ∷ rows) text row are spells = absurd are
-rows_more (t ∷ texts) [] text row are spells = absurd are
-rows_more (t ∷ texts) (r ∷ rows) text row are spells = (are.0, rows_more texts rows text row are.1 spells)
-
 row_grows : (read : LinesRead) (lines : List Line) (text : List ℕ) (row : HostRow) → AfterLines read lines → before_files read ≡ true → SpellsRow text row → IsRow row → is_new_row read.rows row ≡ true
     → Grows lines (row_line text) (record read { rows = read.rows ++ row ∷ [] })
 row_grows read lines text row after comes spells fits test =
     let sound = after.sound in
-    let rest = behind_rows read in
+    let rest = behind_rows after.lives read in
     record {
       rows = after.rows ++ text ∷ [];
-      spelled = rows_more after.rows read.rows text row after.spelled spells;
-      are = one_more lines (script_lines after.rows (script_in read)) _ (row_line text) (row_line text) after.are refl
-          (ap (λ ls. head_line ∷ ls) (behind (map conf_line (conf_lines read.conf)) (behind_conf after.rows read) _ (row_line text)
-          (behind (map interface_text read.ifaces) (behind_ifaces after.rows read) _ (row_line text)
-          (line_more row_line after.rows text rest (none_behind_rows read sound comes)))));
+      spelled = spelled_more SpellsRow after.rows read.rows text row after.spelled spells;
+      lives = after.lives;
+      lived = after.lived;
+      are = one_more lines (script_lines after.rows after.lives (script_in read)) _ (row_line text) (row_line text) after.are refl
+          (ap (λ ls. head_line ∷ ls) (behind (map conf_line (conf_lines read.conf)) (behind_conf after.rows after.lives read) _ (row_line text)
+          (behind (map interface_text read.ifaces) (behind_ifaces after.rows after.lives read) _ (row_line text)
+          (line_more row_line after.rows text rest (none_behind_rows after.lives read sound after.lived comes)))));
       sound = record {
         conf = sound.conf;
         holds = sound.holds;
@@ -257,30 +269,21 @@ row_grows read lines text row after comes spells fits test =
       };
     }
 
-row_line_grows : (read : LinesRead) (lines : List Line) (rest : List ℕ) (next : LinesRead) → AfterLines read lines → before_files read ≡ true
-    → option_map (λ row. record read { rows = read.rows ++ row ∷ [] }) (guarded (is_new_row read.rows) (after_blank row_at rest)) ≡ Some next → Grows lines (word_text Row ++ rest) next
-row_line_grows read lines rest next after comes e =
-    let m = mapped (λ row. record read { rows = read.rows ++ row ∷ [] }) (guarded (is_new_row read.rows) (after_blank row_at rest)) next e in
-    let g = guard_passed (is_new_row read.rows) (after_blank row_at rest) m.value m.was in
-    let p = passed (strip_word (codes " ") rest) row_at m.value g.0 in
-    let r = row_finds.sound p.value m.value p.gives in
-    let spelled : rest ≡ codes " " ++ p.value = strip_sound (codes " ") rest p.value p.was in
-    subst (Grows lines (word_text Row ++ rest)) m.gives
-    (subst (λ t. Grows lines (word_text Row ++ t) (record read { rows = read.rows ++ m.value ∷ [] })) (sym spelled) (row_grows read lines p.value m.value after comes r.0 r.1 g.1))
-
 file_grows : (read : LinesRead) (lines : List Line) (file : StoreFile) → AfterLines read lines → before_fails read ≡ true → FitsFile file → is_new_file read.files file ≡ true
     → Grows lines (word_text File ++ 32 ∷ file_words file) (record read { files = read.files ++ file ∷ [] })
 file_grows read lines file after comes fits test =
     let sound = after.sound in
-    let rest = behind_files read in
+    let rest = behind_files after.lives read in
     record {
       rows = after.rows;
       spelled = after.spelled;
-      are = one_more lines (script_lines after.rows (script_in read)) _ _ (file_text file) after.are (sym (file_spelled file))
-          (ap (λ ls. head_line ∷ ls) (behind (map conf_line (conf_lines read.conf)) (behind_conf after.rows read) _ (file_text file)
-          (behind (map interface_text read.ifaces) (behind_ifaces after.rows read) _ (file_text file)
-          (behind (map row_line after.rows) (behind_rows read) _ (file_text file)
-          (line_more file_text read.files file rest (none_behind_files read sound comes))))));
+      lives = after.lives;
+      lived = after.lived;
+      are = one_more lines (script_lines after.rows after.lives (script_in read)) _ _ (file_text file) after.are (sym (file_spelled file))
+          (ap (λ ls. head_line ∷ ls) (behind (map conf_line (conf_lines read.conf)) (behind_conf after.rows after.lives read) _ (file_text file)
+          (behind (map interface_text read.ifaces) (behind_ifaces after.rows after.lives read) _ (file_text file)
+          (behind (map row_line after.rows) (behind_rows after.lives read) _ (file_text file)
+          (line_more file_text read.files file rest (none_behind_files after.lives read sound after.lived comes))))));
       sound = record {
         conf = sound.conf;
         holds = sound.holds;
@@ -299,16 +302,18 @@ fail_grows : (read : LinesRead) (lines : List Line) (fail : FailLine) → AfterL
     → Grows lines (word_text Fail ++ 32 ∷ fail_words fail) (record read { fails = read.fails ++ fail ∷ [] })
 fail_grows read lines fail after comes fits =
     let sound = after.sound in
-    let rest = behind_fails read in
+    let rest = lives_lines after.lives in
     record {
       rows = after.rows;
       spelled = after.spelled;
-      are = one_more lines (script_lines after.rows (script_in read)) _ _ (fail_text fail) after.are (sym (fail_spelled fail))
-          (ap (λ ls. head_line ∷ ls) (behind (map conf_line (conf_lines read.conf)) (behind_conf after.rows read) _ (fail_text fail)
-          (behind (map interface_text read.ifaces) (behind_ifaces after.rows read) _ (fail_text fail)
-          (behind (map row_line after.rows) (behind_rows read) _ (fail_text fail)
-          (behind (map file_text read.files) (behind_files read) _ (fail_text fail)
-          (line_more fail_text read.fails fail rest (none_behind_fails read sound comes)))))));
+      lives = after.lives;
+      lived = after.lived;
+      are = one_more lines (script_lines after.rows after.lives (script_in read)) _ _ (fail_text fail) after.are (sym (fail_spelled fail))
+          (ap (λ ls. head_line ∷ ls) (behind (map conf_line (conf_lines read.conf)) (behind_conf after.rows after.lives read) _ (fail_text fail)
+          (behind (map interface_text read.ifaces) (behind_ifaces after.rows after.lives read) _ (fail_text fail)
+          (behind (map row_line after.rows) (behind_rows after.lives read) _ (fail_text fail)
+          (behind (map file_text read.files) (behind_files after.lives read) _ (fail_text fail)
+          (line_more fail_text read.fails fail rest (none_behind_fails after.lives read sound after.lived comes)))))));
       sound = record {
         conf = sound.conf;
         holds = sound.holds;
@@ -326,15 +331,15 @@ fail_grows read lines fail after comes fits =
 -- ---- lives
 
 -- a line more of the lives
-lives_grow : (rows : List (List ℕ)) (read : LinesRead) (past : List LifeScript) (last : Option LifeRead) (lines : List Line) (line same : Line) → lines ≡ script_lines rows (script_in read) → line ≡ same
-    → lives_lines (lives_in read) ++ same ∷ [] ≡ lives_lines (past ++ last_life last) → lines ++ line ∷ [] ≡ script_lines rows (script_in (record read { past = past; last = last }))
-lives_grow rows read past last lines line same are is more =
-    one_more lines (script_lines rows (script_in read)) _ line same are is
-    (ap (λ ls. head_line ∷ ls) (behind (map conf_line (conf_lines read.conf)) (behind_conf rows read) _ same
-    (behind (map interface_text read.ifaces) (behind_ifaces rows read) _ same
-    (behind (map row_line rows) (behind_rows read) _ same
-    (behind (map file_text read.files) (behind_files read) _ same
-    (behind (map fail_text read.fails) (behind_fails read) _ same more))))))
+lives_grow : (rows : List (List ℕ)) (lives grown : List (List Line)) (read : LinesRead) (lines : List Line) (line same : Line) → lines ≡ script_lines rows lives (script_in read) → line ≡ same
+    → lives_lines lives ++ same ∷ [] ≡ lives_lines grown → lines ++ line ∷ [] ≡ script_lines rows grown (script_in read)
+lives_grow rows lives grown read lines line same are is more =
+    one_more lines (script_lines rows lives (script_in read)) _ line same are is
+    (ap (λ ls. head_line ∷ ls) (behind (map conf_line (conf_lines read.conf)) (behind_conf rows lives read) _ same
+    (behind (map interface_text read.ifaces) (behind_ifaces rows lives read) _ same
+    (behind (map row_line rows) (behind_rows lives read) _ same
+    (behind (map file_text read.files) (behind_files lives read) _ same
+    (behind (map fail_text read.fails) (lives_lines lives) _ same more))))))
 
 with_lives : (read : LinesRead) (past : List LifeScript) (last : Option LifeRead) → IsSound read → AllByRecursion (HasPassed (length read.ifaces)) past → FitsLast (length read.ifaces) past last
     → IsSound (record read { past = past; last = last })
@@ -351,13 +356,24 @@ with_lives read past last sound passed fits = record {
   last = fits;
 }
 
--- the lines of the last life
-last_lines : (past : List LifeScript) (life : LifeScript) → lives_lines (past ++ life ∷ []) ≡ lives_lines past ++ life_lines life
-last_lines past life = flat_map-append life_lines past (life ∷ []) ∙ ap (λ ls. lives_lines past ++ ls) (append-nil (life_lines life))
+-- the lines of lives, with a line more of the last one
+record GrownLast (lives : List (List Line)) (line : Line) (lasting : List LifeScript) : Type 0 where
+  grown : List (List Line)
+  lived : AreSpelled SpellsLife grown lasting
+  more : lives_lines lives ++ line ∷ [] ≡ lives_lines grown
 
-last_grows : (past : List LifeScript) (old new : LifeScript) (line : Line) → life_lines old ++ line ∷ [] ≡ life_lines new → lives_lines (past ++ old ∷ []) ++ line ∷ [] ≡ lives_lines (past ++ new ∷ [])
-last_grows past old new line more =
-    ap (λ ls. ls ++ line ∷ []) (last_lines past old) ∙ behind (lives_lines past) (life_lines old) (life_lines new) line more ∙ sym (last_lines past new)
+last_grows : (past : List LifeScript) (old new : LifeScript) (line : Line) → ((lines : List Line) → SpellsLife lines old → SpellsLife (lines ++ line ∷ []) new) → (lives : List (List Line)) → AreSpelled SpellsLife lives (past ++ old ∷ []) → GrownLast lives line (past ++ new ∷ [])
+last_grows [] old new line grows [] lived = absurd lived
+last_grows [] old new line grows (lines ∷ []) lived = record {
+  grown = (lines ++ line ∷ []) ∷ [];
+  lived = (grows lines lived.0, tt);
+  more = ap (λ ls. ls ++ line ∷ []) (append-nil lines) ∙ sym (append-nil (lines ++ line ∷ []));
+}
+last_grows [] old new line grows (lines ∷ (next ∷ lives)) lived = absurd lived.1
+last_grows (life ∷ past) old new line grows [] lived = absurd lived
+last_grows (life ∷ past) old new line grows (lines ∷ lives) lived =
+    let later = last_grows past old new line grows lives lived.1 in
+    record { grown = lines ∷ later.grown; lived = (lived.0, later.lived); more = behind lines (lives_lines lives) (lives_lines later.grown) line later.more }
 
 passed_lives : (count : ℕ) (past : List LifeScript) (last : Option LifeRead) → AllByRecursion (HasPassed count) past → FitsLast count past last → may_begin last ≡ true → AllByRecursion (HasPassed count) (past ++ last_life last)
 passed_lives count past None passed fits may = all_join (HasPassed count) past [] passed tt
@@ -377,10 +393,13 @@ pub start_grows : (read : LinesRead) (lines : List Line) (begin : Begin) → Aft
     → Grows lines (word_text Start ++ 32 ∷ begin_words begin) (with_start read begin)
 start_grows read lines begin after comes fits =
     let sound = after.sound in
+    let first = start_text begin ∷ [] in
     record {
       rows = after.rows;
       spelled = after.spelled;
-      are = lives_grow after.rows read (lives_in read) (Some (begun begin)) lines _ (start_text begin) after.are (sym (begin_spelled begin)) (sym (last_lines (lives_in read) (begun begin).life));
+      lives = after.lives ++ first ∷ [];
+      lived = spelled_more SpellsLife after.lives (lives_in read) first (begun begin).life after.lived (record { turns = []; spelled = tt; are = refl });
+      are = lives_grow after.rows after.lives (after.lives ++ first ∷ []) read lines _ (start_text begin) after.are (sym (begin_spelled begin)) (sym (flat_map-append (λ ls. ls) after.lives (first ∷ [])));
       sound = with_lives read (lives_in read) (Some (begun begin)) sound (passed_lives (length read.ifaces) read.past read.last sound.past sound.last comes) (begun_fits (length read.ifaces) begin fits, refl);
     }
 
@@ -398,13 +417,24 @@ pub through_more : (clock : _) (turns : List Given) (given : Given) → clock_th
 through_more clock [] given = refl
 through_more clock (turn ∷ turns) given = through_more (clock_after clock turn.wake) turns given
 
-turn_lines : (past : List LifeScript) (last : Option LifeRead) (given : Given) → is_going_on last ≡ true → lives_lines (past ++ last_life last) ++ given_text given ∷ [] ≡ lives_lines (past ++ last_life (option_map (with_turn given) last))
-turn_lines past None given on = cc
-turn_lines past (Some read) given on =
+turn_more : (turns : List Line) (line : Line) (none : List Line) → none ≡ [] → (turns ++ none) ++ line ∷ [] ≡ (turns ++ line ∷ []) ++ none
+turn_more turns line none e =
+    ap (λ t. (turns ++ t) ++ line ∷ []) e
+    ∙ ap (λ t. t ++ line ∷ []) (append-nil turns)
+    ∙ sym (append-nil (turns ++ line ∷ []))
+    ∙ ap (λ t. (turns ++ line ∷ []) ++ t) (sym e)
+
+turn_last : (past : List LifeScript) (last : Option LifeRead) (line : Line) (given : Given) → SpellsGiven line given → is_going_on last ≡ true → (lives : List (List Line)) → AreSpelled SpellsLife lives (past ++ last_life last) → GrownLast lives line (past ++ last_life (option_map (with_turn given) last))
+turn_last past None line given spells on = cc
+turn_last past (Some read) line given spells on =
     let life = read.life in
     let none : life.crash ≡ None = no_crash life.crash (and_parts (not (is_some life.crash)) _ on).0 in
-    last_grows past life (with_turn given read).life (given_text given)
-    (ap (λ ls. start_text life.begin ∷ ls) (line_more given_text life.turns given (crash_lines life.crash) (ap crash_lines none)))
+    last_grows past life (with_turn given read).life line
+    (λ lines is. record {
+      turns = is.turns ++ line ∷ [];
+      spelled = spelled_more SpellsGiven is.turns life.turns line given is.spelled spells;
+      are = ap (λ ls. ls ++ line ∷ []) is.are ∙ ap (λ ls. start_text life.begin ∷ ls) (turn_more is.turns line (crash_lines life.crash) (ap crash_lines none));
+    })
 
 turn_fits : (count : ℕ) (past : List LifeScript) (last : Option LifeRead) (given : Given) → FitsLast count past last → is_going_on last ≡ true → FitsGiven 64 given → is_listed count given.wake.event ≡ true → FitsLast count past (option_map (with_turn given) last)
 turn_fits count past None given fits on given_fits listed = cc
@@ -424,24 +454,32 @@ turn_fits count past (Some read) given fits on given_fits listed =
       ap (λ c. clock_after c given.wake) fits.1 ∙ sym (through_more (clock_at life.begin.at) life.turns given),
     )
 
-pub turn_grows : (read : LinesRead) (lines : List Line) (given : Given) → AfterLines read lines → is_going_on read.last ≡ true → FitsGiven 64 given → is_listed (length read.ifaces) given.wake.event ≡ true
-    → Grows lines (word_text Turn ++ 32 ∷ turn_words given) (with_last read (with_turn given))
-turn_grows read lines given after comes fits listed =
+pub turn_grows : (read : LinesRead) (lines : List Line) (text : List ℕ) (given : Given) → AfterLines read lines → is_going_on read.last ≡ true → SpellsTurn text given → is_listed (length read.ifaces) given.wake.event ≡ true
+    → Grows lines (word_text Turn ++ 32 ∷ text) (with_last read (with_turn given))
+turn_grows read lines text given after comes spells listed =
     let sound = after.sound in
+    let last = turn_last read.past read.last (codes "turn " ++ text) given (turn_line text given spells) comes after.lives after.lived in
     record {
       rows = after.rows;
       spelled = after.spelled;
-      are = lives_grow after.rows read read.past (option_map (with_turn given) read.last) lines _ (given_text given) after.are (sym (turn_spelled given)) (turn_lines read.past read.last given comes);
-      sound = with_lives read read.past (option_map (with_turn given) read.last) sound sound.past (turn_fits (length read.ifaces) read.past read.last given sound.last comes fits listed);
+      lives = last.grown;
+      lived = last.lived;
+      are = lives_grow after.rows after.lives last.grown read lines _ (codes "turn " ++ text) after.are refl last.more;
+      sound = with_lives read read.past (option_map (with_turn given) read.last) sound sound.past (turn_fits (length read.ifaces) read.past read.last given sound.last comes spells.fits listed);
     }
 
-crash_line_more : (past : List LifeScript) (last : Option LifeRead) (crash : CrashScript) → has_begun last ≡ true → lives_lines (past ++ last_life last) ++ crash_text crash ∷ [] ≡ lives_lines (past ++ last_life (option_map (with_crash crash) last))
-crash_line_more past None crash on = cc
-crash_line_more past (Some read) crash on =
+crash_last : (past : List LifeScript) (last : Option LifeRead) (crash : CrashScript) → has_begun last ≡ true → (lives : List (List Line)) → AreSpelled SpellsLife lives (past ++ last_life last) → GrownLast lives (crash_text crash) (past ++ last_life (option_map (with_crash crash) last))
+crash_last past None crash on = cc
+crash_last past (Some read) crash on =
     let life = read.life in
+    let line = crash_text crash in
     let none : life.crash ≡ None = no_crash life.crash on in
-    last_grows past life (with_crash crash read).life (crash_text crash)
-    (ap (λ ls. start_text life.begin ∷ ls) (ap (λ c. (map given_text life.turns ++ crash_lines c) ++ crash_text crash ∷ []) none ∙ ap (λ ls. ls ++ crash_text crash ∷ []) (append-nil (map given_text life.turns))))
+    last_grows past life (with_crash crash read).life line
+    (λ lines is. record {
+      turns = is.turns;
+      spelled = is.spelled;
+      are = ap (λ ls. ls ++ line ∷ []) is.are ∙ ap (λ ls. start_text life.begin ∷ ls) (ap (λ c. (is.turns ++ crash_lines c) ++ line ∷ []) none ∙ ap (λ ls. ls ++ line ∷ []) (append-nil is.turns));
+    })
 
 crash_fits : (count : ℕ) (past : List LifeScript) (last : Option LifeRead) (crash : CrashScript) → FitsLast count past last → has_begun last ≡ true → FitsCrash crash → FitsLast count past (option_map (with_crash crash) last)
 crash_fits count past None crash fits on crash_fit = cc
@@ -453,10 +491,13 @@ pub crash_grows : (read : LinesRead) (lines : List Line) (crash : CrashScript) �
     → Grows lines (word_text Crash ++ 32 ∷ crash_words crash) (with_last read (with_crash crash))
 crash_grows read lines crash after comes fits =
     let sound = after.sound in
+    let last = crash_last read.past read.last crash comes after.lives after.lived in
     record {
       rows = after.rows;
       spelled = after.spelled;
-      are = lives_grow after.rows read read.past (option_map (with_crash crash) read.last) lines _ (crash_text crash) after.are (sym (crash_spelled crash)) (crash_line_more read.past read.last crash comes);
+      lives = last.grown;
+      lived = last.lived;
+      are = lives_grow after.rows after.lives last.grown read lines _ (crash_text crash) after.are (sym (crash_spelled crash)) last.more;
       sound = with_lives read read.past (option_map (with_crash crash) read.last) sound sound.past (crash_fits (length read.ifaces) read.past read.last crash sound.last comes fits);
     }
 
@@ -469,7 +510,9 @@ grows read lines Conf rest next after text comes e = conf_grows read lines rest 
 grows read lines Interface rest next after text comes e =
     tested_grows lines Interface rest next (fits_next read.ifaces) (λ spec. record read { ifaces = read.ifaces ++ spec ∷ [] }) spec_reads
     (λ spec fits test. iface_grows read lines spec after (and_parts _ (before_rows read) comes).1 fits test) e
-grows read lines Row rest next after text comes e = row_line_grows read lines rest next after comes e
+grows read lines Row rest next after text comes e =
+    found_grows lines Row rest next (is_new_row read.rows) (λ row. record read { rows = read.rows ++ row ∷ [] }) row_finds
+    (λ words row is test. row_grows read lines words row after comes is.0 is.1 test) e
 grows read lines File rest next after text comes e =
     tested_grows lines File rest next (is_new_file read.files) (λ file. record read { files = read.files ++ file ∷ [] }) file_reads
     (λ file fits test. file_grows read lines file after comes fits test) e
@@ -479,8 +522,8 @@ grows read lines Hook rest next after text comes e = absurd (none-some next e)
 grows read lines Start rest next after text comes e =
     word_grows lines Start rest next (with_start read) (begin_reads (length read.ifaces) (let few = after.sound.ifaces.few in few)) (λ begin fits. start_grows read lines begin after comes fits) e
 grows read lines Turn rest next after text comes e =
-    tested_grows lines Turn rest next (λ given. is_listed (length read.ifaces) given.wake.event) (λ given. with_last read (with_turn given)) turn_reads
-    (λ given fits listed. turn_grows read lines given after comes fits listed) e
+    found_grows lines Turn rest next (λ given. is_listed (length read.ifaces) given.wake.event) (λ given. with_last read (with_turn given)) turn_finds
+    (λ words given spells listed. turn_grows read lines words given after comes spells listed) e
 grows read lines Crash rest next after text comes e =
     word_grows lines Crash rest next (λ crash. with_last read (with_crash crash)) crash_reads (λ crash fits. crash_grows read lines crash after comes fits) e
 

@@ -115,7 +115,7 @@ interfaces_whole specs fit =
 pub listed_sound : (count : ℕ) (event : Event) → FitsEvent 64 event → is_listed count event ≡ true → FitsEvent count event
 listed_sound count (Frame iface len) fits e = (fits.0, leb-true _ _ e)
 listed_sound count (Carrier iface up) fits e = (fits.0, leb-true _ _ e)
-listed_sound count (Duplicate iface addr) fits e = absurd fits
+listed_sound count (Duplicate iface addr) fits e = ((fits.0.0, leb-true _ _ e), fits.1)
 listed_sound count (Release iface) fits e = (fits.0, leb-true _ _ e)
 listed_sound count (Rebind iface) fits e = (fits.0, leb-true _ _ e)
 listed_sound count Stop fits e = tt
@@ -128,7 +128,7 @@ within count iface few fits = let last = fits.1 in ((fits.0, omega arith), le-le
 pub listed_whole : (count : ℕ) (event : Event) → count ≤ 64 → FitsEvent count event → FitsEvent 64 event × (is_listed count event ≡ true)
 listed_whole count (Frame iface len) few fits = within count iface few fits
 listed_whole count (Carrier iface up) few fits = within count iface few fits
-listed_whole count (Duplicate iface addr) few fits = absurd fits
+listed_whole count (Duplicate iface addr) few fits = let is = within count iface few fits.0 in ((is.0, fits.1), is.1)
 listed_whole count (Release iface) few fits = within count iface few fits
 listed_whole count (Rebind iface) few fits = within count iface few fits
 listed_whole count Stop few fits = (tt, refl)

@@ -22,26 +22,31 @@ use Rattle.script_model.specs.Crashes.{CrashScript, FitsCrash, crash_text}
 use Rattle.script_model.specs.FailingCalls.{FitsFail, fail_text}
 use Rattle.script_model.specs.FirstFiles.{FitsFile, UnlikeNames, file_text}
 use Rattle.script_model.specs.Lines.{interface_text, start_text}
-use Rattle.script_model.specs.RowSpellings.{SpellsRow, AreRowLines}
+use Rattle.script_model.specs.RowSpellings.{SpellsRow}
 use Rattle.script_model.specs.Scripts.{CountsFrom, Unlike, FitInterfaces, FitsGiven, FitsLife, CrashBetween, FitsScript}
-use Rattle.script_model.specs.ScriptTexts.{ScriptLines, LifeScript, given_text}
+use Rattle.script_model.specs.ScriptTexts.{ScriptLines, LifeScript}
+use Rattle.script_model.specs.Spellings.{AreSpelled}
+use Rattle.script_model.specs.TurnSpellings.{SpellsGiven}
 use Rattle.script_model.proofs.SpelledRows.{spelled_printable}
 use Rattle.replay_text.specs.declared.words.Word.{Word}
 use Rattle.replay_text.specs.declared.words.Word.TheVariants.{Head, Conf, Interface, Row, File, Fail, Hook, Start, Turn, Crash}
 use Rattle.replay_text.specs.Clocks.{clock_at, clock_after, clock_through, is_over, is_in_time}
 use Rattle.replay_text.specs.KindTests.{is_listed}
-use Rattle.replay_text.specs.LinesInOrder.{conf_line, row_line, crash_lines, life_lines, lives_lines, script_lines}
-use Rattle.replay_text.specs.RowReading.{row_at}
-use Rattle.replay_text.specs.ScriptReading.{LifeRead, LinesRead, last_life, script_in, nothing_read, may_begin, may_come, after_blank, fits_next, is_new_row, is_new_file, with_turn, with_crash, with_start, with_last, with_line, step_after, step}
+use Rattle.replay_text.specs.LinesInOrder.{conf_line, row_line, crash_lines, SpellsLife, lives_lines, script_lines}
+use Rattle.replay_text.specs.LinesRead.{LifeRead, LinesRead, last_life, script_in, nothing_read}
+use Rattle.replay_text.specs.NextWords.{may_begin, may_come}
+use Rattle.replay_text.specs.NextLines.{after_blank, fits_next, is_new_row, is_new_file, with_turn, with_crash, with_start, with_last, with_line}
+use Rattle.replay_text.specs.ScriptReading.{step_after, step}
 use Rattle.replay_text.specs.Words.{word_text, word_at, is_text}
 use Rattle.replay_text.proofs.CarrierLaws.{begin_words, FitsBegin, begin_reads, begin_spelled, begin_printable}
 use Rattle.replay_text.proofs.ClockLaws.{in_time_whole}
 use Rattle.replay_text.proofs.CrashLaws.{crash_words, crash_reads, crash_spelled, crash_printable}
 use Rattle.replay_text.proofs.FileLaws.{file_words, file_reads, file_spelled, file_printable, unlike_new}
 use Rattle.replay_text.proofs.Grown.{all_next, pairs_front, pairs_next, pairs_tail, once_next}
-use Rattle.replay_text.proofs.LineLaws.{spec_text, FitsSpec, spec_reads, spec_spelled, spec_printable, fail_words, fail_reads, fail_spelled, fail_printable, turn_words, turn_reads, turn_spelled, turn_printable}
+use Rattle.replay_text.proofs.LineLaws.{spec_text, FitsSpec, spec_reads, spec_spelled, spec_printable, fail_words, fail_reads, fail_spelled, fail_printable, turn_words, SpellsTurn, turn_finds, turn_spelled, turn_printable}
 use Rattle.replay_text.proofs.Printables.{no_feed_in}
 use Rattle.replay_text.proofs.RowLaws.{row_finds}
+use Rattle.replay_text.proofs.SpellingLaws.{Finds}
 use Rattle.replay_text.proofs.ConfLineLaws.{conf_lines_of}
 use Rattle.replay_text.proofs.TakenLines.{lines_ended, through_more}
 use Rattle.replay_text.proofs.TestLaws.{by_recursion, interfaces_whole, listed_whole}
@@ -73,6 +78,10 @@ word_line read line word said next spelled text comes grown =
 
 guarded_whole : {X : Type 0} {text_of : X → List ℕ} {Fits : X → Type 0} {found : List ℕ → Option X} (test : X → Bool) (x : X) → Reads text_of Fits found → Fits x → test x ≡ true → guarded test (after_blank found (32 ∷ text_of x)) ≡ Some x
 guarded_whole test x law fits passes = ap (guarded test) ((word_reads (codes " ") law).whole x fits) ∙ ap (λ b. cond b (Some x) None) passes
+
+found_whole : {X : Type 0} {Spells : List ℕ → X → Type 0} {found : List ℕ → Option X} (test : X → Bool) (text : List ℕ) (x : X) → Finds Spells found → Spells text x → test x ≡ true → guarded test (after_blank found (32 ∷ text)) ≡ Some x
+found_whole {found = found} test text x law spells passes =
+    ap (guarded test) (ap (option_and_then found) (strip_whole (codes " ") text) ∙ law.whole text x spells) ∙ ap (λ b. cond b (Some x) None) passes
 
 -- ---- lines of one kind
 
@@ -126,9 +135,6 @@ iface_step conf done spec later fit =
     (spec_spelled spec) (printed_text Interface (spec_text spec) (spec_printable spec fits)) (and_from _ _ (lt-ltb _ _ room) refl)
     (ap (option_map (λ s. lines_at conf (done ++ s ∷ []) [] [] [] [] None)) (guarded_whole (fits_next done) spec spec_reads fits are.test))
 
-row_found : (text : List ℕ) (row : HostRow) → SpellsRow text row → IsRow row → after_blank row_at (32 ∷ text) ≡ Some row
-row_found text row spells is = ap (option_and_then row_at) (strip_whole (codes " ") text) ∙ row_finds.whole text row (spells, is)
-
 row_step : (conf : List ℕ) (ifaces : List IfSpec) (done : List HostRow) (text : List ℕ) (row : HostRow) (later : List HostRow) → SpellsRow text row → IsRow row → length (in_row_order (done ++ row ∷ later)) ≡ length (done ++ row ∷ later)
     → step (Some (lines_at conf ifaces done [] [] [] None)) (row_line text) ≡ Some (Some (lines_at conf ifaces (done ++ row ∷ []) [] [] [] None))
 unfolding with_line
@@ -136,9 +142,9 @@ row_step conf ifaces done text row later spells is once =
     let new : is_new_row done row ≡ true = ap not (once_next done row later once) in
     word_line (lines_at conf ifaces done [] [] [] None) (row_line text) Row text (lines_at conf ifaces (done ++ row ∷ []) [] [] [] None)
     refl (printed_text Row text (spelled_printable text row is spells)) refl
-    (ap (option_map (λ r. lines_at conf ifaces (done ++ r ∷ []) [] [] [] None)) (ap (guarded (is_new_row done)) (row_found text row spells is) ∙ ap (λ b. cond b (Some row) None) new))
+    (ap (option_map (λ r. lines_at conf ifaces (done ++ r ∷ []) [] [] [] None)) (found_whole (is_new_row done) text row row_finds (spells, is) new))
 
-rows_run : (conf : List ℕ) (ifaces : List IfSpec) (done : List HostRow) (texts : List (List ℕ)) (rows : List HostRow) → AreRowLines texts rows → AllByRecursion IsRow rows → length (in_row_order (done ++ rows)) ≡ length (done ++ rows)
+rows_run : (conf : List ℕ) (ifaces : List IfSpec) (done : List HostRow) (texts : List (List ℕ)) (rows : List HostRow) → AreSpelled SpellsRow texts rows → AllByRecursion IsRow rows → length (in_row_order (done ++ rows)) ≡ length (done ++ rows)
     → run step (map row_line texts) (Some (lines_at conf ifaces done [] [] [] None)) ≡ Some (Some (lines_at conf ifaces (done ++ rows) [] [] [] None))
 rows_run conf ifaces done [] [] spelled are once = ap (λ d. Some (Some (lines_at conf ifaces d [] [] [] None))) (sym (append-nil done))
 rows_run conf ifaces done [] (row ∷ rows) spelled are once = absurd spelled
@@ -201,18 +207,29 @@ going_on clock (turn ∷ done) given later e = going_on (clock_after clock turn.
 abbrev FitTurns : ℕ → ℕ → List Given → Type 0
 FitTurns count at turns = AllByRecursion (FitsGiven count) turns × (is_in_time (clock_at at) turns ≡ true)
 
-turn_step : (read : LinesRead) (past : List LifeScript) (life : LifeScript) → length read.ifaces ≤ 64 → (done : List Given) (given : Given) (later : List Given) → FitTurns (length read.ifaces) life.begin.at (done ++ given ∷ later)
-    → step (Some (with_lives read past (Some (life_so_far life done)))) (given_text given) ≡ Some (Some (with_lives read past (Some (life_so_far life (done ++ given ∷ [])))))
+turn_step : (read : LinesRead) (past : List LifeScript) (life : LifeScript) → length read.ifaces ≤ 64 → (done : List Given) (line : Line) (given : Given) (later : List Given) → SpellsGiven line given → FitTurns (length read.ifaces) life.begin.at (done ++ given ∷ later)
+    → step (Some (with_lives read past (Some (life_so_far life done)))) line ≡ Some (Some (with_lives read past (Some (life_so_far life (done ++ given ∷ [])))))
 unfolding with_line
-turn_step read past life few done given later fit =
+turn_step read past life few done line given later spells fit =
     let count = length read.ifaces in
     let fits : FitsGiven count given = all_next (FitsGiven count) done given later fit.0 in
     let listed = listed_whole count given.wake.event few fits.event in
-    let whole : FitsGiven 64 given = record { at = fits.at; salt = fits.salt; event = listed.0; bytes = fits.bytes } in
-    word_line (with_lives read past (Some (life_so_far life done))) (given_text given) Turn (turn_words given) (with_lives read past (Some (life_so_far life (done ++ given ∷ []))))
-    (turn_spelled given) (printed_text Turn (turn_words given) (turn_printable given whole)) (going_on (clock_at life.begin.at) done given later fit.1)
-    (ap (option_map (λ g. with_last (with_lives read past (Some (life_so_far life done))) (with_turn g))) (guarded_whole (λ g. is_listed count g.wake.event) given turn_reads whole listed.1)
+    let words = turn_words given spells.event in
+    let turn : SpellsTurn words given = record { event = spells.event; spelled = refl; spells = spells.spells; fits = record { at = fits.at; salt = fits.salt; event = listed.0; bytes = fits.bytes } } in
+    word_line (with_lives read past (Some (life_so_far life done))) line Turn words (with_lives read past (Some (life_so_far life (done ++ given ∷ []))))
+    (turn_spelled line given spells) (printed_text Turn words (turn_printable words given turn)) (going_on (clock_at life.begin.at) done given later fit.1)
+    (ap (option_map (λ g. with_last (with_lives read past (Some (life_so_far life done))) (with_turn g))) (found_whole (λ g. is_listed count g.wake.event) words given turn_finds turn listed.1)
     ∙ ap (λ c. Some (with_lives read past (Some (record { life = record { begin = life.begin; turns = done ++ given ∷ []; crash = None }; clock = c })))) (sym (through_more (clock_at life.begin.at) done given)))
+
+turns_run : (read : LinesRead) (past : List LifeScript) (life : LifeScript) → length read.ifaces ≤ 64 → (done : List Given) (lines : List Line) (turns : List Given) → AreSpelled SpellsGiven lines turns → FitTurns (length read.ifaces) life.begin.at (done ++ turns)
+    → run step lines (Some (with_lives read past (Some (life_so_far life done)))) ≡ Some (Some (with_lives read past (Some (life_so_far life (done ++ turns)))))
+turns_run read past life few done [] [] spelled fit = ap (λ d. Some (Some (with_lives read past (Some (life_so_far life d))))) (sym (append-nil done))
+turns_run read past life few done [] (given ∷ turns) spelled fit = absurd spelled
+turns_run read past life few done (line ∷ lines) [] spelled fit = absurd spelled
+turns_run read past life few done (line ∷ lines) (given ∷ turns) spelled fit =
+    ap (option_and_then (run step lines)) (turn_step read past life few done line given turns spelled.0 fit)
+    ∙ turns_run read past life few (done ++ given ∷ []) lines turns spelled.1 (subst (FitTurns (length read.ifaces) life.begin.at) (sym (append_assoc done (given ∷ []) turns)) fit)
+    ∙ ap (λ d. Some (Some (with_lives read past (Some (life_so_far life d))))) (append_assoc done (given ∷ []) turns)
 
 crash_step : (read : LinesRead) (past : List LifeScript) (life : LifeScript) (crash : Option CrashScript) → IfSome crash FitsCrash
     → run step (crash_lines crash) (Some (with_lives read past (Some (life_so_far life life.turns)))) ≡ Some (Some (with_lives read past (Some (whole_life (record life { crash = crash })))))
@@ -224,76 +241,77 @@ crash_step read past life (Some crash) fits =
     (crash_spelled crash) (printed_text Crash (crash_words crash) (crash_printable crash fits)) refl
     (ap (option_map (λ c. with_last (with_lives read past (Some (life_so_far life life.turns))) (with_crash c))) ((word_reads (codes " ") crash_reads).whole crash fits)))
 
-life_run : (read : LinesRead) (past : List LifeScript) (last : Option LifeRead) (life : LifeScript) → length read.ifaces ≤ 64 → may_begin last ≡ true → FitsLife (length read.ifaces) life
-    → run step (life_lines life) (Some (with_lives read past last)) ≡ Some (Some (with_lives read (past ++ last_life last) (Some (whole_life life))))
-life_run read past last life few may fits =
+life_run : (read : LinesRead) (past : List LifeScript) (last : Option LifeRead) (lines : List Line) (life : LifeScript) → SpellsLife lines life → length read.ifaces ≤ 64 → may_begin last ≡ true → FitsLife (length read.ifaces) life
+    → run step lines (Some (with_lives read past last)) ≡ Some (Some (with_lives read (past ++ last_life last) (Some (whole_life life))))
+life_run read past last lines life spells few may fits =
     let count = length read.ifaces in
     let gone = past ++ last_life last in
-    ap (option_and_then (run step (map given_text life.turns ++ crash_lines life.crash))) (start_step read past last life few may fits)
-    ∙ follow (map given_text life.turns) (crash_lines life.crash) (Some (with_lives read gone (Some (life_so_far life [])))) (Some (with_lives read gone (Some (life_so_far life life.turns)))) _
-    (blocks given_text (λ turns. with_lives read gone (Some (life_so_far life turns))) (FitTurns count life.begin.at) (turn_step read gone life few) [] life.turns
-    (by_recursion (FitsGiven count) life.turns fits.turns, in_time_whole life.turns life.begin.at fits.over))
+    ap (λ ls. run step ls (Some (with_lives read past last))) spells.are
+    ∙ ap (option_and_then (run step (spells.turns ++ crash_lines life.crash))) (start_step read past last life few may fits)
+    ∙ follow spells.turns (crash_lines life.crash) (Some (with_lives read gone (Some (life_so_far life [])))) (Some (with_lives read gone (Some (life_so_far life life.turns)))) _
+    (turns_run read gone life few [] spells.turns life.turns spells.spelled (by_recursion (FitsGiven count) life.turns fits.turns, in_time_whole life.turns life.begin.at fits.over))
     (crash_step read gone life life.crash fits.crash)
 
 -- ---- the lives
 
-record LivesRun (read : LinesRead) (past : List LifeScript) (last : Option LifeRead) (lives : List LifeScript) : Type 0 where
+record LivesRun (read : LinesRead) (past : List LifeScript) (last : Option LifeRead) (lines : List (List Line)) (lives : List LifeScript) : Type 0 where
   gone : List LifeScript
   life : LifeRead
-  runs : run step (lives_lines lives) (Some (with_lives read past last)) ≡ Some (Some (with_lives read gone (Some life)))
+  runs : run step (lives_lines lines) (Some (with_lives read past last)) ≡ Some (Some (with_lives read gone (Some life)))
   are : gone ++ life.life ∷ [] ≡ (past ++ last_life last) ++ lives
 
-lives_run : (read : LinesRead) (past : List LifeScript) (last : Option LifeRead) (life : LifeScript) (lives : List LifeScript) → length read.ifaces ≤ 64 → may_begin last ≡ true → AllByRecursion (FitsLife (length read.ifaces)) (life ∷ lives) → CrashBetween (life ∷ lives)
-    → LivesRun read past last (life ∷ lives)
-lives_run read past last life [] few may fits parted = record {
+lives_run : (read : LinesRead) (past : List LifeScript) (last : Option LifeRead) (lines : List (List Line)) (life : LifeScript) (lives : List LifeScript) → AreSpelled SpellsLife lines (life ∷ lives) → length read.ifaces ≤ 64 → may_begin last ≡ true → AllByRecursion (FitsLife (length read.ifaces)) (life ∷ lives) → CrashBetween (life ∷ lives)
+    → LivesRun read past last lines (life ∷ lives)
+lives_run read past last [] life lives lived few may fits parted = absurd lived
+lives_run read past last (first ∷ []) life [] lived few may fits parted = record {
   gone = past ++ last_life last;
   life = whole_life life;
-  runs = ap (λ ls. run step ls (Some (with_lives read past last))) (append-nil (life_lines life)) ∙ life_run read past last life few may fits.0;
+  runs = ap (λ ls. run step ls (Some (with_lives read past last))) (append-nil first) ∙ life_run read past last first life lived.0 few may fits.0;
   are = refl;
 }
-lives_run read past last life (next ∷ lives) few may fits parted =
+lives_run read past last (first ∷ (second ∷ lines)) life [] lived few may fits parted = absurd lived.1
+lives_run read past last (first ∷ lines) life (next ∷ lives) lived few may fits parted =
     let gone = past ++ last_life last in
-    let others = lives_run read gone (Some (whole_life life)) next lives few (parted 0 1 life (omega arith) (omega arith)) fits.1 (pairs_tail (λ one later. IsTrue (is_some one.crash)) life (next ∷ lives) parted) in
+    let others = lives_run read gone (Some (whole_life life)) lines next lives lived.1 few (parted 0 1 life (omega arith) (omega arith)) fits.1 (pairs_tail (λ one later. IsTrue (is_some one.crash)) life (next ∷ lives) parted) in
     record {
       gone = others.gone;
       life = others.life;
-      runs = follow (life_lines life) (lives_lines (next ∷ lives)) (Some (with_lives read past last)) (Some (with_lives read gone (Some (whole_life life)))) _ (life_run read past last life few may fits.0) others.runs;
+      runs = follow first (lives_lines lines) (Some (with_lives read past last)) (Some (with_lives read gone (Some (whole_life life)))) _ (life_run read past last first life lived.0 few may fits.0) others.runs;
       are = others.are ∙ append_assoc gone (life ∷ []) (next ∷ lives);
     }
 
 -- ---- scripts
 
-pub record WholeOf (rows : List (List ℕ)) (script : ScriptLines) : Type 0 where
+pub record WholeOf (rows : List (List ℕ)) (lives : List (List Line)) (script : ScriptLines) : Type 0 where
   pub read : LinesRead
-  pub runs : run step (script_lines rows script) None ≡ Some (Some read)
+  pub runs : run step (script_lines rows lives script) None ≡ Some (Some read)
   pub is : script_in read ≡ script
   pub conf : read.conf ≡ flat_map ended script.conf
   pub some : is_some read.last ≡ true
 
-with_life : (rows : List (List ℕ)) (script : ScriptLines) → AreRowLines rows script.rows → FitsScript script → (life : LifeScript) (lives : List LifeScript) → script.lives ≡ life ∷ lives → WholeOf rows script
-with_life rows script spelled fits life lives first =
+with_life : (rows : List (List ℕ)) (lines : List (List Line)) (script : ScriptLines) → AreSpelled SpellsRow rows script.rows → AreSpelled SpellsLife lines script.lives → FitsScript script → (life : LifeScript) (lives : List LifeScript) → script.lives ≡ life ∷ lives → WholeOf rows lines script
+with_life rows lines script spelled lived fits life lives first =
     let conf = flat_map ended script.conf in
     let few = fits.ifaces.few in
     let free = by_recursion (Lacks 10) script.conf fits.conf in
     let base : LinesRead = lines_at conf script.ifaces script.rows script.files script.fails [] None in
     let count = length script.ifaces in
     let each : AllByRecursion (FitsLife count) (life ∷ lives) = subst (AllByRecursion (FitsLife count)) first (by_recursion (FitsLife count) script.lives fits.lives) in
-    let of_lives = lives_run base [] None life lives few refl each (subst CrashBetween first fits.parted) in
+    let of_lives = lives_run base [] None lines life lives (subst (AreSpelled SpellsLife lines) first lived) few refl each (subst CrashBetween first fits.parted) in
     let end : Option (Option LinesRead) = Some (Some (with_lives base of_lives.gone (Some of_lives.life))) in
-    let lives_end : run step (lives_lines script.lives) (Some base) ≡ end = ap (λ ls. run step (lives_lines ls) (Some base)) first ∙ of_lives.runs in
-    let fails_end = follow (map fail_text script.fails) (lives_lines script.lives) (Some (lines_at conf script.ifaces script.rows script.files [] [] None)) (Some base) end
+    let fails_end = follow (map fail_text script.fails) (lives_lines lines) (Some (lines_at conf script.ifaces script.rows script.files [] [] None)) (Some base) end
     (blocks fail_text (λ fails. lines_at conf script.ifaces script.rows script.files fails [] None) (AllByRecursion FitsFail) (fail_step conf script.ifaces script.rows script.files) [] script.fails (by_recursion FitsFail script.fails fits.fails))
-    lives_end in
-    let files_end = follow (map file_text script.files) (map fail_text script.fails ++ lives_lines script.lives) (Some (lines_at conf script.ifaces script.rows [] [] [] None)) (Some (lines_at conf script.ifaces script.rows script.files [] [] None)) end
+    of_lives.runs in
+    let files_end = follow (map file_text script.files) (map fail_text script.fails ++ lives_lines lines) (Some (lines_at conf script.ifaces script.rows [] [] [] None)) (Some (lines_at conf script.ifaces script.rows script.files [] [] None)) end
     (blocks file_text (λ files. lines_at conf script.ifaces script.rows files [] [] None) FitFiles (file_step conf script.ifaces script.rows) [] script.files (by_recursion FitsFile script.files fits.files, fits.unlike))
     fails_end in
-    let rows_end = follow (map row_line rows) (map file_text script.files ++ (map fail_text script.fails ++ lives_lines script.lives)) (Some (lines_at conf script.ifaces [] [] [] [] None)) (Some (lines_at conf script.ifaces script.rows [] [] [] None)) end
+    let rows_end = follow (map row_line rows) (map file_text script.files ++ (map fail_text script.fails ++ lives_lines lines)) (Some (lines_at conf script.ifaces [] [] [] [] None)) (Some (lines_at conf script.ifaces script.rows [] [] [] None)) end
     (rows_run conf script.ifaces [] rows script.rows spelled (by_recursion IsRow script.rows fits.rows) fits.once)
     files_end in
-    let ifaces_end = follow (map interface_text script.ifaces) (map row_line rows ++ (map file_text script.files ++ (map fail_text script.fails ++ lives_lines script.lives))) (Some (lines_at conf [] [] [] [] [] None)) (Some (lines_at conf script.ifaces [] [] [] [] None)) end
+    let ifaces_end = follow (map interface_text script.ifaces) (map row_line rows ++ (map file_text script.files ++ (map fail_text script.fails ++ lives_lines lines))) (Some (lines_at conf [] [] [] [] [] None)) (Some (lines_at conf script.ifaces [] [] [] [] None)) end
     (blocks interface_text (λ ifaces. lines_at conf ifaces [] [] [] [] None) FitInterfaces (iface_step conf) [] script.ifaces fits.ifaces)
     rows_end in
-    let conf_end = follow (map conf_line script.conf) (map interface_text script.ifaces ++ (map row_line rows ++ (map file_text script.files ++ (map fail_text script.fails ++ lives_lines script.lives)))) (Some nothing_read) (Some (lines_at conf [] [] [] [] [] None)) end
+    let conf_end = follow (map conf_line script.conf) (map interface_text script.ifaces ++ (map row_line rows ++ (map file_text script.files ++ (map fail_text script.fails ++ lives_lines lines)))) (Some nothing_read) (Some (lines_at conf [] [] [] [] [] None)) end
     (blocks conf_line (λ texts. lines_at (flat_map ended texts) [] [] [] [] [] None) (AllByRecursion (Lacks 10)) conf_step [] script.conf free)
     ifaces_end in
     record {
@@ -306,9 +324,9 @@ with_life rows script spelled fits life lives first =
       some = refl;
     }
 
-pub whole_of : (rows : List (List ℕ)) (script : ScriptLines) → AreRowLines rows script.rows → FitsScript script → WholeOf rows script
-whole_of rows script spelled fits = by script.lives refl
+pub whole_of : (rows : List (List ℕ)) (lines : List (List Line)) (script : ScriptLines) → AreSpelled SpellsRow rows script.rows → AreSpelled SpellsLife lines script.lives → FitsScript script → WholeOf rows lines script
+whole_of rows lines script spelled lived fits = by script.lives refl
   where
-    by : (lives : List LifeScript) → script.lives ≡ lives → WholeOf rows script
+    by : (lives : List LifeScript) → script.lives ≡ lives → WholeOf rows lines script
     by [] none = absurd (omega (arith, fits.some, ap length none))
-    by (life ∷ lives) first = with_life rows script spelled fits life lives first
+    by (life ∷ lives) first = with_life rows lines script spelled lived fits life lives first

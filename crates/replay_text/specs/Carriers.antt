@@ -4,7 +4,7 @@ use Rattle.net_types.specs.Cutting.{◌>>=◌, after_word, field_at, list_at}
 use Rattle.world.specs.declared.wakes.Begin.{Begin}
 use Rattle.replay_text.specs.declared.carriers.Listed.{Listed}
 use Rattle.replay_text.specs.RowReading.{iface_at}
-use Rattle.replay_text.specs.LineReading.{moment_at, salt_at}
+use Rattle.replay_text.specs.TurnReading.{moment_at, salt_at}
 
 unfoldable pub listed_at : List ℕ → Option Listed
 listed_at text = option_map (λ i. record { iface = i }) (iface_at text)

@@ -7,7 +7,7 @@ use Rattle.std.specs.String.{string_bytes}
 use Rattle.net_types.specs.declared.interface.IfSpec.{IfSpec}
 use Rattle.net_types.specs.NameText.{name_text}
 use Rattle.world.specs.declared.wakes.Event.{Event}
-use Rattle.world.specs.declared.wakes.Event.TheVariants.{Frame, Carrier, Release, Rebind}
+use Rattle.world.specs.declared.wakes.Event.TheVariants.{Frame, Carrier, Duplicate, Release, Rebind}
 use Rattle.world.specs.FileLists.{StoreFile, file_name}
 use Rattle.world.specs.FileNames.{is_name}
 
@@ -33,6 +33,7 @@ AreNames keys files = (q : String Global) → list_any (λ key. is_name (string_
 abbrev pub is_listed : ℕ → Event → Bool
 is_listed count (Frame iface len) = nat_le iface count
 is_listed count (Carrier iface up) = nat_le iface count
+is_listed count (Duplicate iface addr) = nat_le iface count
 is_listed count (Release iface) = nat_le iface count
 is_listed count (Rebind iface) = nat_le iface count
 is_listed count event = true

@@ -1,5 +1,6 @@
 pub mod RowReading
 pub mod LineReading
+pub mod TurnReading
 pub mod FileReading
 pub mod CrashReading
 pub mod Carriers
@@ -10,7 +11,11 @@ pub mod KindTests
 pub mod Words
 pub mod LinesInOrder
 pub mod Unbuilt
+pub mod LinesRead
+pub mod NextWords
+pub mod NextLines
 pub mod ScriptReading
 pub mod ReadLines
 pub mod SoFar
+pub mod Places
 pub mod FirstFaults

@@ -5,9 +5,11 @@ use Rattle.script_model.specs.Crashes.{CrashScript, crash_text}
 use Rattle.script_model.specs.FailingCalls.{fail_text}
 use Rattle.script_model.specs.FirstFiles.{file_text}
 use Rattle.script_model.specs.Lines.{interface_text, start_text}
-use Rattle.script_model.specs.RowSpellings.{AreRowLines}
+use Rattle.script_model.specs.RowSpellings.{SpellsRow}
 use Rattle.script_model.specs.Scripts.{FitsScript}
-use Rattle.script_model.specs.ScriptTexts.{ScriptLines, LifeScript, given_text}
+use Rattle.script_model.specs.ScriptTexts.{ScriptLines, LifeScript}
+use Rattle.script_model.specs.Spellings.{AreSpelled}
+use Rattle.script_model.specs.TurnSpellings.{SpellsGiven}
 
 abbrev pub head_line : Line
 head_line = codes "dhcpcd-script 1"
@@ -23,26 +25,32 @@ abbrev pub crash_lines : Option CrashScript → List Line
 crash_lines None = []
 crash_lines (Some crash) = crash_text crash ∷ []
 
-abbrev pub life_lines : LifeScript → List Line
-life_lines life = start_text life.begin ∷ (map given_text life.turns ++ crash_lines life.crash)
+-- These lines are a text of the life: a turn may have any of its texts, all else has one.
+pub record SpellsLife (lines : List Line) (life : LifeScript) : Type 0 where
+  pub turns : List Line
+  pub spelled : AreSpelled SpellsGiven turns life.turns
+  pub are : lines ≡ start_text life.begin ∷ (turns ++ crash_lines life.crash)
 
-abbrev pub lives_lines : List LifeScript → List Line
-lives_lines lives = flat_map life_lines lives
+-- the lines of lives, one life after another
+abbrev pub lives_lines : List (List Line) → List Line
+lives_lines lives = flat_map (λ lines. lines) lives
 
--- the lines of a script whose rows have these texts
-abbrev pub script_lines : List (List ℕ) → ScriptLines → List Line
-script_lines rows script =
+-- the lines of a script whose rows have these texts, and whose lives these lines
+abbrev pub script_lines : List (List ℕ) → List (List Line) → ScriptLines → List Line
+script_lines rows lives script =
     head_line
     ∷ (map conf_line script.conf
     ++ (map interface_text script.ifaces
     ++ (map row_line rows
     ++ (map file_text script.files
     ++ (map fail_text script.fails
-    ++ lives_lines script.lives)))))
+    ++ lives_lines lives)))))
 
--- These lines are a text of the script: a row may have any of its texts, all else has one.
+-- These lines are a text of the script: rows and turns may have any of their texts, all else has one.
 pub record SpellsScript (script : ScriptLines) (lines : List Line) : Type 0 where
   pub rows : List (List ℕ)
-  pub spelled : AreRowLines rows script.rows
-  pub are : lines ≡ script_lines rows script
+  pub spelled : AreSpelled SpellsRow rows script.rows
+  pub lives : List (List Line)
+  pub lived : AreSpelled SpellsLife lives script.lives
+  pub are : lines ≡ script_lines rows lives script
   pub fits : FitsScript script

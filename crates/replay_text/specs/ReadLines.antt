@@ -8,13 +8,15 @@ use Rattle.world.specs.Rows.{IsRow}
 use Rattle.world.specs.RowOrder.{in_row_order}
 use Rattle.script_model.specs.FailingCalls.{FitsFail}
 use Rattle.script_model.specs.FirstFiles.{FitsFile, UnlikeNames}
-use Rattle.script_model.specs.RowSpellings.{AreRowLines}
+use Rattle.script_model.specs.RowSpellings.{SpellsRow}
 use Rattle.script_model.specs.Scripts.{FitInterfaces, FitsLife}
 use Rattle.script_model.specs.ScriptTexts.{LifeScript}
+use Rattle.script_model.specs.Spellings.{AreSpelled}
 use Rattle.replay_text.specs.Clocks.{clock_at, clock_through}
-use Rattle.replay_text.specs.LinesInOrder.{SpellsScript, script_lines}
+use Rattle.replay_text.specs.LinesInOrder.{SpellsLife, SpellsScript, script_lines}
 use Rattle.replay_text.specs.ScriptContent.{conf_lines}
-use Rattle.replay_text.specs.ScriptReading.{LifeRead, LinesRead, ScriptRead, script_in, step}
+use Rattle.replay_text.specs.LinesRead.{LifeRead, LinesRead, lives_in, script_in}
+use Rattle.replay_text.specs.ScriptReading.{ScriptRead, step}
 
 -- these lines are a text of what was read
 pub record SpellsRead (read : ScriptRead) (lines : List Line) : Type 0 where
@@ -44,8 +46,10 @@ pub record IsSound (read : LinesRead) : Type 0 where
 -- these lines were read: they are those of a script so far
 pub record AfterLines (read : LinesRead) (lines : List Line) : Type 0 where
   pub rows : List (List ℕ)
-  pub spelled : AreRowLines rows read.rows
-  pub are : lines ≡ script_lines rows (script_in read)
+  pub spelled : AreSpelled SpellsRow rows read.rows
+  pub lives : List (List Line)
+  pub lived : AreSpelled SpellsLife lives (lives_in read)
+  pub are : lines ≡ script_lines rows lives (script_in read)
   pub sound : IsSound read
 
 abbrev pub IsAfter : Option LinesRead → List Line → Type 0

@@ -6,7 +6,8 @@ use Rattle.replay_text.specs.declared.so_far.LinesSoFar.{LinesSoFar}
 use Rattle.replay_text.specs.declared.reading.ScriptState.{ScriptState}
 use Rattle.replay_text.specs.declared.reading.ScriptState.TheVariants as states
 use Rattle.replay_text.specs.ScriptContent.{life_of, script_of}
-use Rattle.replay_text.specs.ScriptReading.{LifeRead, LinesRead, ScriptRead}
+use Rattle.replay_text.specs.LinesRead.{LifeRead, LinesRead}
+use Rattle.replay_text.specs.ScriptReading.{ScriptRead}
 
 abbrev pub life_read : LastLife → LifeRead
 life_read last = record { life = life_of last.life; clock = last.clock }

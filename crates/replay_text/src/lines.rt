@@ -2,15 +2,16 @@
 ghost use Rattle.std.specs.Prelude.{◌≡◌, ◌^◌, ◌<◌, option_map, IfOk};
 ghost use Rattle.net_types.specs.NameText.{name_at};
 ghost use Rattle.net_types.specs.Cutting.{field_at};
-ghost use Rattle.replay_text.specs.LineReading.{spec_at, call_at, failing_at, fail_at, moment_at, salt_at, turn_at};
-ghost use Rattle.replay_text.specs.LineReading.{without_bytes, frame_bytes_at, frame_at, switch_at, lone_at, carrier_at, release_at, rebind_at, plain_at, came_at};
+ghost use Rattle.replay_text.specs.LineReading.{spec_at, call_at, failing_at, fail_at};
+ghost use Rattle.replay_text.specs.TurnReading.{moment_at, salt_at, turn_at};
+ghost use Rattle.replay_text.specs.TurnReading.{without_bytes, frame_bytes_at, frame_at, switch_at, lone_at, carrier_at, release_at, rebind_at, plain_at, input_at, duplicate_at, came_at};
 ghost use Rattle.replay_text.specs.ScriptContent.{given_of};
 
 use crate::rows::{iface_field_of, iface_of};
 use crate::script::TurnLine;
 use net_types::{
-    IfSpec, Name, NoMemory, end_of, hex_of, mac_of, name_of, number_of, split_at_byte, strip_word,
-    u64_of,
+    IfSpec, Name, NoMemory, end_of, hex_of, ip6_of, mac_of, name_of, number_of, split_at_byte,
+    strip_word, u64_of,
 };
 use script_model::{FailDevice, FailLine};
 use std::alloc::Global;
@@ -73,7 +74,7 @@ pub fn fail_of(bytes: &[u8]) -> Option<FailLine>
     }
 }
 
-#[tactic(auto, unfolding(crate::specs::LineReading::moment_at))]
+#[tactic(auto, unfolding(crate::specs::TurnReading::moment_at))]
 fn moment_of(bytes: &[u8]) -> Option<u64>
     ensures { result ≡ moment_at bytes.now }
 {
@@ -89,7 +90,7 @@ pub fn moment_field_of(bytes: &[u8]) -> Option<(u64, &[u8])>
     Some((moment, rest))
 }
 
-#[tactic(auto, unfolding(crate::specs::LineReading::salt_at))]
+#[tactic(auto, unfolding(crate::specs::TurnReading::salt_at))]
 fn salt_of(bytes: &[u8]) -> Option<u64>
     ensures { result ≡ salt_at bytes.now }
 {
@@ -105,7 +106,7 @@ pub fn salt_field_of(bytes: &[u8]) -> Option<(u64, &[u8])>
     Some((salt, rest))
 }
 
-#[tactic(auto, unfolding(crate::specs::LineReading::switch_at))]
+#[tactic(auto, unfolding(crate::specs::TurnReading::switch_at))]
 fn switch_of(bytes: &[u8]) -> Option<bool>
     ensures { result ≡ switch_at bytes.now }
 {
@@ -151,7 +152,7 @@ fn rebind_of(bytes: &[u8]) -> Option<Event>
 }
 
 /// An input without bytes.
-#[tactic(auto, unfolding(crate::specs::LineReading::plain_at))]
+#[tactic(auto, unfolding(crate::specs::TurnReading::plain_at))]
 fn plain_of(bytes: &[u8]) -> Option<Event>
     ensures { option_map without_bytes result ≡ plain_at bytes.now }
 {
@@ -174,7 +175,7 @@ fn plain_of(bytes: &[u8]) -> Option<Event>
 }
 
 /// Bytes that a frame has room for.
-#[tactic(auto, unfolding(crate::specs::LineReading::frame_bytes_at))]
+#[tactic(auto, unfolding(crate::specs::TurnReading::frame_bytes_at))]
 fn frame_bytes_of(alloc: Global, bytes: &[u8]) -> Result<Option<Vec<u8>>, NoMemory>
     ensures { IfOk result (λ o. option_map (λ v. v.items) o ≡ frame_bytes_at bytes.now) }
 {
@@ -188,7 +189,7 @@ fn frame_bytes_of(alloc: Global, bytes: &[u8]) -> Result<Option<Vec<u8>>, NoMemo
     }
 }
 
-#[tactic(auto, unfolding(crate::specs::LineReading::frame_at))]
+#[tactic(auto, unfolding(crate::specs::TurnReading::frame_at))]
 fn frame_of(alloc: Global, bytes: &[u8]) -> Result<Option<(Event, Vec<u8>)>, NoMemory>
     ensures { IfOk result (λ o. option_map (λ p. (p.0, p.1.items)) o ≡ frame_at bytes.now) }
 {
@@ -205,10 +206,10 @@ fn frame_of(alloc: Global, bytes: &[u8]) -> Result<Option<(Event, Vec<u8>)>, NoM
     Ok(Some((event, frame)))
 }
 
-/// What came, with the bytes of a frame.
-#[tactic(auto, unfolding(crate::specs::LineReading::came_at, crate::specs::LineReading::plain_at))]
-fn came_of(alloc: Global, bytes: &[u8]) -> Result<Option<(Event, Vec<u8>)>, NoMemory>
-    ensures { IfOk result (λ o. option_map (λ p. (p.0, p.1.items)) o ≡ came_at bytes.now) }
+/// An input of one text, with the bytes of a frame.
+#[tactic(auto, unfolding(crate::specs::TurnReading::input_at, crate::specs::TurnReading::plain_at))]
+fn input_of(alloc: Global, bytes: &[u8]) -> Result<Option<(Event, Vec<u8>)>, NoMemory>
+    ensures { IfOk result (λ o. option_map (λ p. (p.0, p.1.items)) o ≡ input_at bytes.now) }
 {
     match strip_word(bytes, b"frame ") {
         Some(rest) => frame_of(alloc, rest),
@@ -219,8 +220,34 @@ fn came_of(alloc: Global, bytes: &[u8]) -> Result<Option<(Event, Vec<u8>)>, NoMe
     }
 }
 
+/// An interface and the address that another node there has, in any spelling.
+fn duplicate_of(bytes: &[u8]) -> Option<Event>
+    ensures { option_map without_bytes result ≡ duplicate_at bytes.now }
+{
+    let (iface, rest) = iface_field_of(bytes)?;
+    let addr = ip6_of(rest)?;
+    Some(Event::Duplicate {
+        iface: iface.number,
+        addr,
+    })
+}
+
+/// What came, with the bytes of a frame.
+#[tactic(auto, unfolding(crate::specs::TurnReading::came_at))]
+fn came_of(alloc: Global, bytes: &[u8]) -> Result<Option<(Event, Vec<u8>)>, NoMemory>
+    ensures { IfOk result (λ o. option_map (λ p. (p.0, p.1.items)) o ≡ came_at bytes.now) }
+{
+    match strip_word(bytes, b"dup ") {
+        Some(rest) => match duplicate_of(rest) {
+            Some(event) => Ok(Some((event, Vec::new(alloc)))),
+            None => Ok(None),
+        },
+        None => input_of(alloc, bytes),
+    }
+}
+
 /// What a turn is given.
-#[tactic(auto, unfolding(crate::specs::LineReading::turn_at))]
+#[tactic(auto, unfolding(crate::specs::TurnReading::turn_at))]
 pub fn turn_of(alloc: Global, bytes: &[u8]) -> Result<Option<TurnLine>, NoMemory>
     ensures { IfOk result (λ o. option_map given_of o ≡ turn_at bytes.now) }
 {

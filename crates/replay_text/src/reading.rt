@@ -5,7 +5,8 @@ ghost use Rattle.replay_text.specs.FirstFaults.{Why, NamesFault};
 ghost use Rattle.replay_text.specs.LinesInOrder.{SpellsScript};
 ghost use Rattle.replay_text.specs.ReadLines.{After, SpellsRead};
 ghost use Rattle.replay_text.specs.ScriptContent.{script_of, HoldsLines};
-ghost use Rattle.replay_text.specs.ScriptReading.{LinesRead, ScriptRead, step, given, cause_of};
+ghost use Rattle.replay_text.specs.LinesRead.{LinesRead};
+ghost use Rattle.replay_text.specs.ScriptReading.{ScriptRead, step, given, cause_of};
 ghost use Rattle.replay_text.specs.SoFar.{state_read, script_said};
 
 use crate::script::{Script, ScriptAnswer, ScriptCause, ScriptFault};

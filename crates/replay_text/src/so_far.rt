@@ -6,11 +6,14 @@ ghost use Rattle.replay_text.specs.Carriers.{begin_at};
 ghost use Rattle.replay_text.specs.CrashReading.{crash_at};
 ghost use Rattle.replay_text.specs.FileReading.{file_at};
 ghost use Rattle.replay_text.specs.KindTests.{is_listed};
-ghost use Rattle.replay_text.specs.LineReading.{spec_at, fail_at, turn_at};
+ghost use Rattle.replay_text.specs.LineReading.{spec_at, fail_at};
+ghost use Rattle.replay_text.specs.TurnReading.{turn_at};
 ghost use Rattle.replay_text.specs.RowReading.{row_at};
 ghost use Rattle.replay_text.specs.ScriptContent.{file_of, given_of, crash_of, life_of};
-ghost use Rattle.replay_text.specs.ScriptReading.{last_life, nothing_read, before_lives, before_fails, before_files, before_rows, before_interfaces, may_begin, has_begun, is_going_on, may_come};
-ghost use Rattle.replay_text.specs.ScriptReading.{after_blank, begun, with_turn, with_crash, with_start, with_last, with_line, step_after, cause_of, given_after};
+ghost use Rattle.replay_text.specs.LinesRead.{last_life, nothing_read};
+ghost use Rattle.replay_text.specs.NextWords.{before_lives, before_fails, before_files, before_rows, before_interfaces, may_begin, has_begun, is_going_on, may_come};
+ghost use Rattle.replay_text.specs.NextLines.{after_blank, begun, with_turn, with_crash, with_start, with_last, with_line};
+ghost use Rattle.replay_text.specs.ScriptReading.{step_after, cause_of, given_after};
 ghost use Rattle.replay_text.specs.SoFar.{life_read, lines_read, script_said};
 ghost use Rattle.replay_text.specs.declared.words.Word.TheVariants as Word;
 
@@ -82,7 +85,7 @@ fn is_listed(count: u32, event: Event) -> bool
     match event {
         Event::Frame { iface, .. } => iface <= count,
         Event::Carrier { iface, .. } => iface <= count,
-        Event::Duplicate { .. } => true,
+        Event::Duplicate { iface, .. } => iface <= count,
         Event::Release { iface } => iface <= count,
         Event::Rebind { iface } => iface <= count,
         Event::Stop => true,
@@ -288,7 +291,7 @@ impl LinesSoFar {
         }
     }
 
-    #[tactic(auto, unfolding(crate::specs::ScriptReading::with_line))]
+    #[tactic(auto, unfolding(crate::specs::NextLines::with_line))]
     fn with_conf(self, rest: &[u8]) -> Result<Option<LinesSoFar>, NoMemory>
         ensures { IfOk result (λ o. option_map lines_read o ≡ with_line (lines_read self) Word.Conf rest.now) }
     {
@@ -298,7 +301,7 @@ impl LinesSoFar {
         Ok(Some(LinesSoFar { conf, ..self }))
     }
 
-    #[tactic(auto, unfolding(crate::specs::ScriptReading::with_line))]
+    #[tactic(auto, unfolding(crate::specs::NextLines::with_line))]
     fn with_interface(self, rest: &[u8]) -> Result<Option<LinesSoFar>, NoMemory>
         ensures { IfOk result (λ o. option_map lines_read o ≡ with_line (lines_read self) Word.Interface rest.now) }
     {
@@ -311,7 +314,7 @@ impl LinesSoFar {
         }
     }
 
-    #[tactic(auto, unfolding(crate::specs::ScriptReading::with_line))]
+    #[tactic(auto, unfolding(crate::specs::NextLines::with_line))]
     fn with_row(self, rest: &[u8]) -> Result<Option<LinesSoFar>, NoMemory>
         ensures { IfOk result (λ o. option_map lines_read o ≡ with_line (lines_read self) Word.Row rest.now) }
     {
@@ -324,7 +327,7 @@ impl LinesSoFar {
         }
     }
 
-    #[tactic(auto, unfolding(crate::specs::ScriptReading::with_line))]
+    #[tactic(auto, unfolding(crate::specs::NextLines::with_line))]
     fn with_file(self, alloc: Global, rest: &[u8]) -> Result<Option<LinesSoFar>, NoMemory>
         ensures { IfOk result (λ o. option_map lines_read o ≡ with_line (lines_read self) Word.File rest.now) }
     {
@@ -337,7 +340,7 @@ impl LinesSoFar {
         }
     }
 
-    #[tactic(auto, unfolding(crate::specs::ScriptReading::with_line))]
+    #[tactic(auto, unfolding(crate::specs::NextLines::with_line))]
     fn with_fail(self, rest: &[u8]) -> Result<Option<LinesSoFar>, NoMemory>
         ensures { IfOk result (λ o. option_map lines_read o ≡ with_line (lines_read self) Word.Fail rest.now) }
     {
@@ -358,7 +361,7 @@ impl LinesSoFar {
         Ok(LinesSoFar { past, last, ..self })
     }
 
-    #[tactic(auto, unfolding(crate::specs::ScriptReading::with_line))]
+    #[tactic(auto, unfolding(crate::specs::NextLines::with_line))]
     fn with_start(self, alloc: Global, rest: &[u8]) -> Result<Option<LinesSoFar>, NoMemory>
         ensures { IfOk result (λ o. option_map lines_read o ≡ with_line (lines_read self) Word.Start rest.now) }
     {
@@ -377,7 +380,7 @@ impl LinesSoFar {
         Ok(LinesSoFar { last, ..self })
     }
 
-    #[tactic(auto, unfolding(crate::specs::ScriptReading::with_line))]
+    #[tactic(auto, unfolding(crate::specs::NextLines::with_line))]
     fn with_turn(self, alloc: Global, rest: &[u8]) -> Result<Option<LinesSoFar>, NoMemory>
         ensures { IfOk result (λ o. option_map lines_read o ≡ with_line (lines_read self) Word.Turn rest.now) }
     {
@@ -391,7 +394,7 @@ impl LinesSoFar {
         Ok(Some(lines))
     }
 
-    #[tactic(auto, unfolding(crate::specs::ScriptReading::with_line))]
+    #[tactic(auto, unfolding(crate::specs::NextLines::with_line))]
     fn with_crash(self, rest: &[u8]) -> Option<LinesSoFar>
         ensures { option_map lines_read result ≡ with_line (lines_read self) Word.Crash rest.now }
     {
@@ -401,7 +404,7 @@ impl LinesSoFar {
     }
 
     /// With a line more, by its word and what follows it.
-    #[tactic(auto, unfolding(crate::specs::ScriptReading::with_line))]
+    #[tactic(auto, unfolding(crate::specs::NextLines::with_line))]
     fn with_line(
         self,
         alloc: Global,
@@ -438,10 +441,9 @@ impl LinesSoFar {
         if !self.may_come(word) {
             return Err(LineFault::Bad(ScriptCause::Order));
         }
-        let count = self.ifaces.len();
         match self.with_line(alloc, word, rest)? {
             Some(next) => Ok(next),
-            None if is_unbuilt(count, word, rest) => Err(LineFault::Bad(ScriptCause::NotBuilt)),
+            None if is_unbuilt(word, rest) => Err(LineFault::Bad(ScriptCause::NotBuilt)),
             None => Err(LineFault::Bad(ScriptCause::Form)),
         }
     }

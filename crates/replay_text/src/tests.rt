@@ -1,8 +1,8 @@
 use super::*;
-use net_types::{IfIndex, Ip4, Net, Net4};
+use net_types::{IfIndex, Ip4, Ip6, Net, Net4};
 use script_model::CrashKind;
 use std::test::*;
-use world::{HostRow, Via};
+use world::{Event, HostRow, Via};
 
 #[test]
 fn a_route(rt: HostRuntime) -> Result<(), Fail> {
@@ -37,7 +37,7 @@ fn a_route(rt: HostRuntime) -> Result<(), Fail> {
 #[test]
 fn refusals(rt: HostRuntime) {
     use crate::script::ScriptCause::{Form, NotBuilt, NotText, Order, Word};
-    let bad: [(&[u8], u64, ScriptCause); 20] = [
+    let bad: [(&[u8], u64, ScriptCause); 21] = [
         (b"", 1, Word),
         (b"c:noarp\n", 1, Word),
         (
@@ -93,6 +93,17 @@ fn refusals(rt: HostRuntime) {
             3,
             Form,
         ),
+        // `::` twice, and a dotted tail
+        (
+            b"dhcpcd-script 1\nif 1 eth0 02:00:00:00:00:01\nstart 0 0 up -\nturn 5 0 dup 1 fe80::1::2\n",
+            4,
+            Form,
+        ),
+        (
+            b"dhcpcd-script 1\nif 1 eth0 02:00:00:00:00:01\nstart 0 0 up -\nturn 5 0 dup 1 ::10.0.0.1\n",
+            4,
+            Form,
+        ),
         (
             b"dhcpcd-script 1\nhook ended 256\nstart 0 0 up -\n",
             2,
@@ -102,11 +113,6 @@ fn refusals(rt: HostRuntime) {
         (
             b"dhcpcd-script 1\nfail hooks 1\nstart 0 0 up -\n",
             2,
-            NotBuilt,
-        ),
-        (
-            b"dhcpcd-script 1\nif 1 eth0 02:00:00:00:00:01\nstart 0 0 up -\nturn 5 0 dup 1 FE80::1\n",
-            4,
             NotBuilt,
         ),
         // a hook's answer within a life
@@ -119,6 +125,22 @@ fn refusals(rt: HostRuntime) {
             Err(answer) => assert!(rt; answer == fault),
         }
     }
+}
+
+#[test]
+fn duplicates(rt: HostRuntime) -> Result<(), Fail> {
+    let text = b"dhcpcd-script 1\nif 1 eth0 02:00:00:00:00:01\nstart 0 0 up 1\n\
+        turn 5 0 dup 1 FE80:0:0:0:0:0:0:A1\nturn 6 0 dup 1 fe80::a1\nturn 7 0 dup 1 ::\n";
+    let script = read_script(rt.alloc(), text).ok().ok_or("it is a script")?;
+    let life = script.lives.first().ok_or("it has a life")?;
+    let numbers = [0xfe80_u128 << 112 | 0xa1, 0xfe80_u128 << 112 | 0xa1, 0];
+    assert_eq!(rt; life.turns.len(), 3);
+    for (turn, number) in life.turns.iter().zip(numbers) {
+        let addr = Ip6 { number };
+        assert!(rt; turn.wake.event == Event::Duplicate { iface: 1, addr });
+        assert!(rt; turn.bytes.is_empty());
+    }
+    Ok(())
 }
 
 #[test]

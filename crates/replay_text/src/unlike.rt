@@ -3,7 +3,8 @@ ghost use Rattle.std.specs.Prelude.{◌≡◌, [], ◌∷◌, ◌++◌, ◌+◌,
 ghost use Rattle.std.specs.List.{list_all};
 ghost use Rattle.replay_text.specs.KindTests.{counts_from, is_unlike, all_unlike, interfaces_fit};
 ghost use Rattle.replay_text.specs.ScriptContent.{file_of};
-ghost use Rattle.replay_text.specs.ScriptReading.{none_of, fits_next, is_new_row, is_new_file};
+ghost use Rattle.replay_text.specs.NextWords.{none_of};
+ghost use Rattle.replay_text.specs.NextLines.{fits_next, is_new_row, is_new_file};
 
 use crate::script::FileLine;
 use net_types::{IfSpec, NoMemory};

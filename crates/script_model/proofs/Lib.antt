@@ -1,2 +1,3 @@
 pub mod LineNumberLaws
 pub mod SpelledRows
+pub mod SpelledTurns

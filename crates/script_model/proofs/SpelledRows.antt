@@ -18,7 +18,8 @@ use Rattle.world.specs.declared.rows.Via.{Via}
 use Rattle.world.specs.declared.rows.Via.TheVariants.{OnLink, Reject, Gate4, Gate6}
 use Rattle.world.specs.Rows.{IsInterface, IsNet, IsRow, LeadsTo}
 use Rattle.world.specs.RowText.{row_text, way_text}
-use Rattle.script_model.specs.RowSpellings.{SpellsNet, SpellsWay, SpellsRow, AreRowLines}
+use Rattle.script_model.specs.RowSpellings.{SpellsNet, SpellsWay, SpellsRow}
+use Rattle.script_model.specs.Spellings.{AreSpelled}
 
 net_printed : (net : Net) → IsNet net → SpellsNet (net_text net) net
 unfolding net_text
@@ -44,19 +45,19 @@ row_printed (Route iface dest way metric) fits = record {
 }
 
 -- so do the printed texts of rows, one by one
-pub rows_printed : (rows : List HostRow) → AllByRecursion IsRow rows → AreRowLines (map row_text rows) rows
+pub rows_printed : (rows : List HostRow) → AllByRecursion IsRow rows → AreSpelled SpellsRow (map row_text rows) rows
 rows_printed [] fits = tt
 rows_printed (row ∷ rows) fits = (row_printed row fits.0, rows_printed rows fits.1)
 
 -- ---- the bytes of a spelling are printable
 
-printable_word : (word text : List ℕ) → IsPrintable word → IsPrintable text → IsPrintable (word ++ text)
+pub printable_word : (word text : List ℕ) → IsPrintable word → IsPrintable text → IsPrintable (word ++ text)
 printable_word word text one other = only-append is_printable word text one other
 
 group_printable : (b : ℕ) → is_group_byte b ≡ true → is_printable b ≡ true
 group_printable b h = grind (arith, nat_tests)
 
-ip6_printable : (text : List ℕ) (ip : Ip6) → SpellsIp6 text ip → IsPrintable text
+pub ip6_printable : (text : List ℕ) (ip : Ip6) → SpellsIp6 text ip → IsPrintable text
 ip6_printable text ip spells = only_weaker is_group_byte is_printable text group_printable spells.bytes
 
 net6_printable : (text : List ℕ) (net : Net6) → SpellsNet6 text net → IsPrintable text

@@ -1,6 +1,8 @@
 pub mod IfaceSets
+pub mod Spellings
 pub mod RowSpellings
 pub mod Lines
+pub mod TurnSpellings
 pub mod FailingCalls
 pub mod FirstFiles
 pub mod Crashes

@@ -1,6 +1,6 @@
 -- Which texts spell a row of the host: its words in order. An IPv6 address may have any spelling (RFC 4291, section 2.2),
 -- all else is as printed.
-use Rattle.std.specs.Prelude.{◌≡◌, ℕ, List, [], ◌∷◌, ◌++◌, codes, decimal}
+use Rattle.std.specs.Prelude.{◌≡◌, ℕ, List, [], ◌++◌, codes, decimal}
 use Rattle.net_types.specs.declared.address.Ip6.{Ip6}
 use Rattle.net_types.specs.declared.address.Net.{Net}
 use Rattle.net_types.specs.declared.address.Net.TheVariants as Family
@@ -44,9 +44,3 @@ pub record SpellsRoute (text : List ℕ) (iface : IfIndex) (dest : Net) (way : V
 abbrev pub SpellsRow : List ℕ → HostRow → Type 0
 SpellsRow text (Addr iface net) = SpellsAddr text iface net
 SpellsRow text (Route iface dest way metric) = SpellsRoute text iface dest way metric
-
--- the texts after the words `row ` of a script's lines spell the rows one by one
-abbrev pub AreRowLines : List (List ℕ) → List HostRow → Type 0
-AreRowLines [] [] = Unit {0}
-AreRowLines (text ∷ texts) (row ∷ rows) = SpellsRow text row × AreRowLines texts rows
-AreRowLines texts rows = ⊥

@@ -1,11 +1,11 @@
 -- Which scripts are built.
 use Rattle.std.specs.Prelude.{ℕ, ◌≡◌, ◌+◌, ◌^◌, ◌<◌, ◌≤◌, List, [], ◌∷◌, length, All, AllPairs, IfSome, IsTrue, is_some}
 use Rattle.net_types.specs.declared.interface.IfSpec.{IfSpec}
-use Rattle.net_types.specs.AddressText.{FitsMac}
+use Rattle.net_types.specs.AddressText.{FitsIp6, FitsMac}
 use Rattle.net_types.specs.NameText.{FitsName}
 use Rattle.net_types.specs.Marks.{Lacks, AreBytes}
 use Rattle.world.specs.declared.wakes.Event.{Event}
-use Rattle.world.specs.declared.wakes.Event.TheVariants.{Frame, Carrier, Release, Rebind, Stop, Quiet}
+use Rattle.world.specs.declared.wakes.Event.TheVariants.{Frame, Carrier, Duplicate, Release, Rebind, Stop, Quiet, End}
 use Rattle.world.specs.LinkCalls.{Given}
 use Rattle.world.specs.RowOrder.{in_row_order}
 use Rattle.world.specs.Rows.{IsRow}
@@ -28,15 +28,20 @@ pub record FitInterfaces (specs : List IfSpec) : Type 0 where
   pub counted : CountsFrom 1 specs
   pub unlike : AllPairs Unlike specs
 
--- inputs that are built: those on an interface are on one of the script
+-- one of the interfaces of a script with so many
+abbrev pub IsOneOf : ℕ → ℕ → Type 0
+IsOneOf count iface = (1 ≤ iface) × (iface ≤ count)
+
+-- what may come: on an interface of the script, any address; all but the end of what comes
 abbrev pub FitsEvent : ℕ → Event → Type 0
-FitsEvent count (Frame iface len) = (1 ≤ iface) × (iface ≤ count)
-FitsEvent count (Carrier iface up) = (1 ≤ iface) × (iface ≤ count)
-FitsEvent count (Release iface) = (1 ≤ iface) × (iface ≤ count)
-FitsEvent count (Rebind iface) = (1 ≤ iface) × (iface ≤ count)
+FitsEvent count (Frame iface len) = IsOneOf count iface
+FitsEvent count (Carrier iface up) = IsOneOf count iface
+FitsEvent count (Duplicate iface addr) = IsOneOf count iface × FitsIp6 addr
+FitsEvent count (Release iface) = IsOneOf count iface
+FitsEvent count (Rebind iface) = IsOneOf count iface
 FitsEvent count Stop = Unit {0}
 FitsEvent count Quiet = Unit {0}
-FitsEvent count event = ⊥
+FitsEvent count End = ⊥
 
 -- a frame has at most so many bytes
 abbrev pub frame_room : ℕ

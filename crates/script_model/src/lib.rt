@@ -7,4 +7,4 @@ mod laws;
 
 pub use crashing::CrashKind;
 pub use failing::{FailDevice, FailLine};
-pub use laws::printed_rows_are_spelled;
+pub use laws::{printed_rows_are_spelled, printed_turns_are_spelled};

@@ -1,3 +1,4 @@
 pub mod Dhcp4Settings
+pub mod Dhcp6Settings
 pub mod Fitting
 pub mod ManagedRows

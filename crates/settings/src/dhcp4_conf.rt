@@ -1,10 +1,34 @@
 //! What the DHCPv4 client of an interface is told to say and to want.
 ghost use Rattle.std.specs.Prelude.{◌≡◌, IfOk};
-ghost use Rattle.settings.specs.Dhcp4Settings.{bytes_in};
+ghost use Rattle.settings.specs.Dhcp4Settings.{identifier_in};
 
 use net_types::Net4;
 use std::alloc::{AllocError, Global};
 use std::marker::Model;
+
+/// What tells a client apart from the others of its network (option 61; RFC 2132, section 9.14).
+#[derive(Drop)]
+pub enum Identifier {
+    /// The hardware address of the interface.
+    Hardware,
+    /// The bytes of the option.
+    Bytes(Vec<u8>),
+    /// The DUID of the host, after the interface's index (RFC 4361, section 6.1).
+    Duid,
+}
+
+impl Identifier {
+    /// A copy of it.
+    fn to_owned(&self, alloc: Global) -> Result<Identifier, AllocError>
+        ensures { IfOk result (λ copy. identifier_in copy ≡ identifier_in self.now) }
+    {
+        match self {
+            Identifier::Hardware => Ok(Identifier::Hardware),
+            Identifier::Bytes(bytes) => Ok(Identifier::Bytes(bytes.to_vec(alloc)?)),
+            Identifier::Duid => Ok(Identifier::Duid),
+        }
+    }
+}
 
 /// What the DHCPv4 client of an interface says of itself, and which options and servers it takes.
 #[derive(Drop)]
@@ -13,8 +37,8 @@ pub struct Dhcp4Conf {
     pub host: Vec<u8>,
     /// `vendorclassid`: option 60, not sent where it is empty.
     pub vendor: Vec<u8>,
-    /// `clientid`: the bytes of option 61. None is the hardware address.
-    pub identifier: Option<Vec<u8>>,
+    /// `clientid` or `duid`: option 61.
+    pub identifier: Identifier,
     /// `option`: codes that are asked for beside those that are always.
     pub asked: Vec<u8>,
     /// `nooption`: codes that are neither asked for nor taken.
@@ -33,16 +57,6 @@ impl Model for Dhcp4Conf {
     ghost view = { λ conf. dhcp4_settings conf.host.items conf.vendor.items conf.identifier conf.asked.items conf.refused.items conf.required.items conf.blacklist.items };
 }
 
-/// A copy of an identifier.
-fn copied(alloc: Global, identifier: &Option<Vec<u8>>) -> Result<Option<Vec<u8>>, AllocError>
-    ensures { IfOk result (λ copy. bytes_in copy ≡ bytes_in identifier.now) }
-{
-    match identifier {
-        Some(bytes) => Ok(Some(bytes.to_vec(alloc)?)),
-        None => Ok(None),
-    }
-}
-
 impl Dhcp4Conf {
     /// A copy of it.
     pub fn to_owned(&self, alloc: Global) -> Result<Dhcp4Conf, AllocError>
@@ -51,7 +65,7 @@ impl Dhcp4Conf {
         Ok(Dhcp4Conf {
             host: self.host.to_vec(alloc)?,
             vendor: self.vendor.to_vec(alloc)?,
-            identifier: copied(alloc, &self.identifier)?,
+            identifier: self.identifier.to_owned(alloc)?,
             asked: self.asked.to_vec(alloc)?,
             refused: self.refused.to_vec(alloc)?,
             required: self.required.to_vec(alloc)?,

@@ -1,6 +1,7 @@
 ghost use Rattle.std.specs.Prelude.{◌≡◌, IfOk};
 
 use crate::dhcp4_conf::Dhcp4Conf;
+use crate::dhcp6_conf::Dhcp6Conf;
 use net_types::{IfSpec, Ip4, Net4};
 use std::alloc::{AllocError, Global};
 
@@ -37,6 +38,8 @@ pub struct IfConf {
     pub router: Option<Ip4>,
     /// What its DHCPv4 client says and wants.
     pub dhcp4: Dhcp4Conf,
+    /// What its DHCPv6 client asks for.
+    pub dhcp6: Dhcp6Conf,
 }
 
 impl IfConf {
@@ -60,6 +63,7 @@ impl IfConf {
             address: self.address,
             router: self.router,
             dhcp4: self.dhcp4.to_owned(alloc)?,
+            dhcp6: self.dhcp6.to_owned(alloc)?,
         })
     }
 }

@@ -1,11 +1,18 @@
 -- The fields of a line, read from its text.
-use Rattle.std.proofs.Common.{◌≡◌, ℕ, ◌^◌, ◌<◌, List, [], ◌∷◌, ◌++◌, decimal, refl, arith, Some, None, Option}
-use Rattle.std.specs.Prelude.{unwrap_or}
+use Rattle.std.proofs.Common.{◌≡◌, ℕ, ◌/◌, ◌%◌, ◌^◌, ◌<◌, Bool, true, false, not, eqb, List, [], ◌∷◌, ◌++◌, decimal, refl, sym, ◌∙◌, ap, arith, append_assoc, append-nil, Some, None, Option}
+use Rattle.std.specs.Prelude.{◌&&◌, codes, unwrap_or}
+use Rattle.std.specs.Char.{is_ascii_digit}
+use Rattle.std.specs.List.{list_all}
 use Rattle.net_types.specs.declared.address.Ip4.{Ip4}
+use Rattle.net_types.specs.declared.address.Ip6.{Ip6}
+use Rattle.net_types.specs.declared.address.Net.{Net}
+use Rattle.net_types.specs.declared.address.Net.TheVariants.{V4, V6}
 use Rattle.net_types.specs.declared.address.Net4.{Net4}
+use Rattle.net_types.specs.declared.address.Net6.{Net6}
 use Rattle.net_types.specs.declared.address.Mac.{Mac}
 use Rattle.net_types.specs.declared.interface.Name.{Name}
-use Rattle.net_types.specs.AddressText.{ip4_text, net4_text, mac_text, ip4_at, net4_at, mac_at, FitsIp4, FitsNet4, FitsMac}
+use Rattle.net_types.specs.AddressText.{ip4_text, ip6_text, net4_text, net6_text, net_text, mac_text, ip4_at, net4_at, mac_at, FitsIp4, FitsIp6, FitsNet4, FitsNet6, FitsNet, FitsMac}
+use Rattle.net_types.specs.Ip6Text.{printed_ip6_at, printed_net6_at}
 use Rattle.net_types.specs.NameText.{name_text, name_at, FitsName}
 use Rattle.net_types.specs.HexText.{hex_text, hex_at}
 use Rattle.net_types.specs.Numbers.{number_at}
@@ -14,9 +21,13 @@ use Rattle.net_types.specs.Marks.{Lacks, AreBytes}
 use Rattle.net_types.proofs.ReadsLaws.{split_whole}
 use Rattle.net_types.proofs.NumberLaws.{number_reads}
 use Rattle.net_types.proofs.AddressLaws.{ip4_reads, net4_reads, mac_reads}
+use Rattle.net_types.proofs.Ip6Laws.{printed_ip6_reads, printed_net6_reads}
+use Rattle.net_types.proofs.Ip6Marks.{is_ip6_byte, ip6_lacks}
 use Rattle.net_types.proofs.NameLaws.{name_reads, name_lacks}
 use Rattle.net_types.proofs.HexLaws.{hex_reads}
-use Rattle.net_types.proofs.MarkLaws.{decimal_lacks, hex_lacks, lacks_from, net4_lacks, ip4_lacks}
+use Rattle.net_types.proofs.MarkLaws.{decimal_lacks, hex_lacks, lacks-append, lacks_from, net4_lacks, ip4_lacks}
+use Rattle.world.specs.declared.rows.Via.{Via}
+use Rattle.world.specs.declared.rows.Via.TheVariants.{Gate4, Gate6}
 use Rattle.world.specs.FileNames.{IsFileName, is_file_byte}
 
 -- what follows a word is read one way, a text without it another way
@@ -43,6 +54,30 @@ ip4_in text = unwrap_or (ip4_at text) (record { number = 0 })
 unfoldable pub net4_in : List ℕ → Net4
 net4_in text = unwrap_or (net4_at text) (record { ip = record { number = 0 }; len = 0 })
 
+unfoldable pub ip6_in : List ℕ → Ip6
+ip6_in text = unwrap_or (printed_ip6_at text) (record { number = 0 })
+
+unfoldable pub net6_in : List ℕ → Net6
+net6_in text = unwrap_or (printed_net6_at text) (record { ip = record { number = 0 }; len = 0 })
+
+-- the texts of IPv4 have dots, those of IPv6 none
+abbrev lacks_dots : List ℕ → Bool
+lacks_dots text = list_all (λ b. not (eqb b 46)) text
+
+abbrev net_of : Bool → List ℕ → Net
+net_of true text = V6 (net6_in text)
+net_of false text = V4 (net4_in text)
+
+unfoldable pub net_in : List ℕ → Net
+net_in text = net_of (lacks_dots text) text
+
+abbrev gate_of : Bool → List ℕ → Via
+gate_of true text = Gate6 (ip6_in text)
+gate_of false text = Gate4 (ip4_in text)
+
+unfoldable pub gate_in : List ℕ → Via
+gate_in text = gate_of (lacks_dots text) text
+
 unfoldable pub mac_in : List ℕ → Mac
 mac_in text = unwrap_or (mac_at text) (record { bytes = [] })
 
@@ -64,13 +99,65 @@ pub hex_whole : (bytes : List ℕ) → AreBytes bytes → hex_in (hex_text bytes
 unfolding hex_in
 hex_whole bytes h = rw (hex_reads.whole bytes h) refl
 
-pub ip4_whole : (ip : Ip4) → FitsIp4 ip → ip4_in (ip4_text ip) ≡ ip
+ip4_whole : (ip : Ip4) → FitsIp4 ip → ip4_in (ip4_text ip) ≡ ip
 unfolding ip4_in
 ip4_whole ip h = rw (ip4_reads.whole ip h) refl
 
-pub net4_whole : (net : Net4) → FitsNet4 net → net4_in (net4_text net) ≡ net
+net4_whole : (net : Net4) → FitsNet4 net → net4_in (net4_text net) ≡ net
 unfolding net4_in
 net4_whole net h = rw (net4_reads.whole net h) refl
+
+pub ip6_whole : (ip : Ip6) → FitsIp6 ip → ip6_in (ip6_text ip) ≡ ip
+unfolding ip6_in
+ip6_whole ip h = rw (printed_ip6_reads.whole ip h) refl
+
+net6_whole : (net : Net6) → FitsNet6 net → net6_in (net6_text net) ≡ net
+unfolding net6_in
+net6_whole net h = rw (printed_net6_reads.whole net h) refl
+
+-- ---- addresses of either family
+
+never : (b : Bool) → (b && false) ≡ false
+never true = refl
+never false = refl
+
+has_dot : (front back : List ℕ) → lacks_dots (front ++ 46 ∷ back) ≡ false
+has_dot [] back = refl
+has_dot (b ∷ front) back = ap (λ later. not (eqb b 46) && later) (has_dot front back) ∙ never (not (eqb b 46))
+
+dots_grouped : (a b c d back : List ℕ) → (a ++ codes "." ++ b ++ codes "." ++ c ++ codes "." ++ d) ++ back ≡ a ++ 46 ∷ (b ++ (codes "." ++ (c ++ (codes "." ++ (d ++ back)))))
+dots_grouped a b c d back = simp append_assoc
+
+ip4_dotted : (ip : Ip4) (back : List ℕ) → lacks_dots (ip4_text ip ++ back) ≡ false
+unfolding ip4_text
+ip4_dotted ip back =
+    let first = decimal (ip.number / 2 ^ 24) in
+    let second = decimal (ip.number / 2 ^ 16 % 256) in
+    let third = decimal (ip.number / 2 ^ 8 % 256) in
+    let last = decimal (ip.number % 256) in
+    ap lacks_dots (dots_grouped first second third last back) ∙ has_dot first (second ++ (codes "." ++ (third ++ (codes "." ++ (last ++ back)))))
+
+net6_lacks : (byte : ℕ) (net : Net6) → FitsNet6 net → is_ip6_byte byte ≡ false → Lacks byte (codes "/") → is_ascii_digit byte ≡ false → Lacks byte (net6_text net)
+unfolding net6_text
+net6_lacks byte net fits address slash digit =
+    let small : net.len < 2 ^ 64 = let most = fits.prefix in omega arith in
+    lacks-append byte (ip6_text net.ip ++ codes "/") (decimal net.len) (lacks-append byte (ip6_text net.ip) (codes "/") (ip6_lacks net.ip byte address) slash) (decimal_lacks net.len byte small digit)
+
+pub net_whole : (net : Net) → FitsNet net → net_in (net_text net) ≡ net
+unfolding net_in net_text net4_text
+net_whole (V4 net) h =
+    ap (λ b. net_of b (net4_text net)) (ap lacks_dots (append_assoc (ip4_text net.ip) (codes "/") (decimal net.len)) ∙ ip4_dotted net.ip (codes "/" ++ decimal net.len)) ∙ ap V4 (net4_whole net h)
+net_whole (V6 net) h = ap (λ b. net_of b (net6_text net)) (net6_lacks 46 net h refl refl refl) ∙ ap V6 (net6_whole net h)
+
+pub gate4_whole : (ip : Ip4) → FitsIp4 ip → gate_in (ip4_text ip) ≡ Gate4 ip
+unfolding gate_in
+gate4_whole ip h = ap (λ b. gate_of b (ip4_text ip)) (ap lacks_dots (sym (append-nil (ip4_text ip))) ∙ ip4_dotted ip []) ∙ ap Gate4 (ip4_whole ip h)
+
+pub gate6_whole : (ip : Ip6) → FitsIp6 ip → gate_in (ip6_text ip) ≡ Gate6 ip
+unfolding gate_in
+gate6_whole ip h = ap (λ b. gate_of b (ip6_text ip)) (ip6_lacks ip 46 refl) ∙ ap Gate6 (ip6_whole ip h)
+
+-- ---- other fields
 
 pub mac_whole : (mac : Mac) → FitsMac mac → mac_in (mac_text mac) ≡ mac
 unfolding mac_in
@@ -84,11 +171,16 @@ name_whole name h = rw (name_reads.whole name h) refl
 pub cut_number : (n : ℕ) (rest : List ℕ) → n < 2 ^ 64 → cut (decimal n ++ 32 ∷ rest) ≡ (decimal n, rest)
 cut_number n rest h = cut_whole (decimal n) rest (decimal_lacks n 32 h refl)
 
-pub cut_net4 : (net : Net4) (rest : List ℕ) → FitsNet4 net → cut (net4_text net ++ 32 ∷ rest) ≡ (net4_text net, rest)
-cut_net4 net rest h = cut_whole (net4_text net) rest (net4_lacks net 32 h refl)
+pub cut_net : (net : Net) (rest : List ℕ) → FitsNet net → cut (net_text net ++ 32 ∷ rest) ≡ (net_text net, rest)
+unfolding net_text
+cut_net (V4 net) rest h = cut_whole (net4_text net) rest (net4_lacks net 32 h refl)
+cut_net (V6 net) rest h = cut_whole (net6_text net) rest (net6_lacks 32 net h refl refl refl)
 
 pub cut_ip4 : (ip : Ip4) (rest : List ℕ) → FitsIp4 ip → cut (ip4_text ip ++ 32 ∷ rest) ≡ (ip4_text ip, rest)
 cut_ip4 ip rest h = cut_whole (ip4_text ip) rest (ip4_lacks ip 32 h refl)
+
+pub cut_ip6 : (ip : Ip6) (rest : List ℕ) → cut (ip6_text ip ++ 32 ∷ rest) ≡ (ip6_text ip, rest)
+cut_ip6 ip rest = cut_whole (ip6_text ip) rest (ip6_lacks ip 32 refl)
 
 pub cut_name : (name : Name) (rest : List ℕ) → FitsName name → cut (name_text name ++ 32 ∷ rest) ≡ (name_text name, rest)
 cut_name name rest h = cut_whole (name_text name) rest (name_lacks name 32 h refl)

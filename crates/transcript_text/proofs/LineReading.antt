@@ -7,8 +7,7 @@ use Rattle.std.specs.List.{AllByRecursion}
 use Rattle.net_types.specs.declared.interface.IfIndex.{IfIndex}
 use Rattle.net_types.specs.declared.interface.IfSpec.{IfSpec}
 use Rattle.net_types.specs.declared.address.Net.{Net}
-use Rattle.net_types.specs.declared.address.Net.TheVariants.{V4, V6}
-use Rattle.net_types.specs.AddressText.{net4_text, net_text, mac_text}
+use Rattle.net_types.specs.AddressText.{ip6_text, net_text, mac_text}
 use Rattle.net_types.specs.NameText.{name_text}
 use Rattle.net_types.specs.HexText.{hex_text, hex_at, hex_byte_at, hex_digit_at}
 use Rattle.net_types.specs.Numbers.{number_at, is_numeral}
@@ -21,11 +20,12 @@ use Rattle.world.specs.declared.wakes.Event.TheVariants.{Frame, Carrier, Duplica
 use Rattle.world.specs.declared.rows.HostRow.{HostRow}
 use Rattle.world.specs.FileNames.{IsFileName}
 use Rattle.world.specs.StoreCalls.{Reading, Found, Missing, Unread}
-use Rattle.world.specs.RowText.{row_text, IsBuiltRow}
+use Rattle.world.specs.RowText.{row_text}
+use Rattle.world.specs.Rows.{IsRow}
 use Rattle.script_model.specs.Lines as Model
 use Rattle.script_model.specs.Lines.{Line, line_words, outcome_text, event_text, up_text, reading_text, moment_text}
 use Rattle.transcript_text.specs.Fits.{FitsLine, FitsEvent, FitsReading, FitsMoment, LinesApart}
-use Rattle.transcript_text.proofs.Fields.{after, cut, number_in, hex_in, net4_in, mac_in, name_in, cut_number, cut_name, cut_file, cut_hex, file_lacks, number_found, number_whole, hex_whole, net4_whole, mac_whole, name_whole}
+use Rattle.transcript_text.proofs.Fields.{after, cut, number_in, hex_in, ip6_in, net_in, mac_in, name_in, cut_number, cut_name, cut_file, cut_hex, file_lacks, number_found, number_whole, hex_whole, ip6_whole, net_whole, mac_whole, name_whole}
 use Rattle.transcript_text.proofs.UpLaws.{bits_of, numbers_in, up_whole}
 use Rattle.transcript_text.proofs.RowReading.{index_in, row_in, row_whole}
 
@@ -104,9 +104,10 @@ unfoldable pub event_in : List ℕ → Event
 event_in =
     after (codes "frame ") (λ text. Frame (number_in (cut text).0) (length (hex_in (cut text).1)))
     (after (codes "carrier ") (λ text. Carrier (number_in (cut text).0) (bytes_eq (cut text).1 (codes "up")))
+    (after (codes "dup ") (λ text. Duplicate (number_in (cut text).0) (ip6_in (cut text).1))
     (after (codes "release ") (λ text. Release (number_in text))
     (after (codes "rebind ") (λ text. Rebind (number_in text))
-    (after (codes "stop") (λ text. Stop) (λ text. Quiet)))))
+    (after (codes "stop") (λ text. Stop) (λ text. Quiet))))))
 
 unfoldable pub bytes_in : List ℕ → List ℕ
 bytes_in = after (codes "frame ") (λ text. hex_in (cut text).1) (λ text. [])
@@ -134,7 +135,9 @@ event_whole (Release iface) bytes h = let small : iface < 2 ^ 64 = omega (arith,
 event_whole (Rebind iface) bytes h = let small : iface < 2 ^ 64 = omega (arith, h.0) in (rw (number_whole iface small) refl, sym h.1)
 event_whole Stop bytes h = (refl, sym h)
 event_whole Quiet bytes h = (refl, sym h)
-event_whole (Duplicate iface addr) bytes h = absurd h
+event_whole (Duplicate iface addr) bytes h =
+    let small : iface < 2 ^ 64 = omega (arith, h.0) in
+    (simp append_assoc (rw (cut_number iface (ip6_text addr) small, number_whole iface small, ip6_whole addr h.1) refl), sym h.2)
 event_whole End bytes h = absurd h
 
 unfoldable pub turn_in : List ℕ → Line
@@ -181,26 +184,25 @@ read_whole name reading h fits = simp append_assoc (rw (cut_file name (reading_t
 unfoldable pub change_in : (HostRow → Bool → Line) → List ℕ → Line
 change_in make text = make (row_in text).0 (done_in (row_in text).1)
 
-change_whole : (make : HostRow → Bool → Line) (row : HostRow) (done : Bool) → IsBuiltRow row → change_in make (row_text row ++ codes " " ++ outcome_text done) ≡ make row done
+change_whole : (make : HostRow → Bool → Line) (row : HostRow) (done : Bool) → IsRow row → change_in make (row_text row ++ codes " " ++ outcome_text done) ≡ make row done
 unfolding change_in
 change_whole make row done h = simp append_assoc (rw (row_whole row (outcome_text done) h, done_whole done) refl)
 
 unfoldable pub listed_row_in : List ℕ → Line
 listed_row_in text = Model.Row (row_in (text ++ 32 ∷ [])).0
 
-listed_row_whole : (row : HostRow) → IsBuiltRow row → listed_row_in (row_text row) ≡ Model.Row row
+listed_row_whole : (row : HostRow) → IsRow row → listed_row_in (row_text row) ≡ Model.Row row
 unfolding listed_row_in
 listed_row_whole row h = rw (row_whole row [] h) refl
 
 unfoldable pub hold_in : List ℕ → Line
-hold_in text = Model.Hold (index_in (cut text).0) (V4 (net4_in (cut text).1))
+hold_in text = Model.Hold (index_in (cut text).0) (net_in (cut text).1)
 
 hold_whole : (iface : IfIndex) (net : Net) → FitsLine (Model.Hold iface net) → hold_in (decimal iface.number ++ codes " " ++ net_text net) ≡ Model.Hold iface net
-unfolding hold_in net_text
-hold_whole iface (V4 net) h =
+unfolding hold_in
+hold_whole iface net h =
     let small : iface.number < 2 ^ 64 = omega (arith, h.0) in
-    simp append_assoc (rw (cut_number iface.number (net4_text net) small, number_whole iface.number small, net4_whole net h.1) refl)
-hold_whole iface (V6 net) h = absurd h.1
+    simp append_assoc (rw (cut_number iface.number (net_text net) small, number_whole iface.number small, net_whole net h.1) refl)
 
 none_whole : number_at (2 ^ 64) (codes "none") ≡ None
 unfolding number_at is_numeral

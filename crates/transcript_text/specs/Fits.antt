@@ -1,16 +1,14 @@
--- The lines that a transcript can have so far: numbers of the daemon's types, names as they are allowed, rows of IPv4.
+-- The lines that a transcript can have: numbers of the daemon's types, names as they are allowed, rows that a host can hold.
 use Rattle.std.specs.Prelude.{◌≡◌, ℕ, ◌<◌, ◌^◌, List, [], length, Option, Some, None}
 use Rattle.std.specs.List.{AllByRecursion}
-use Rattle.net_types.specs.declared.address.Net.{Net}
-use Rattle.net_types.specs.declared.address.Net.TheVariants.{V4, V6}
-use Rattle.net_types.specs.AddressText.{FitsMac, FitsNet4}
+use Rattle.net_types.specs.AddressText.{FitsIp6, FitsMac, FitsNet}
 use Rattle.net_types.specs.NameText.{FitsName}
 use Rattle.net_types.specs.Marks.{AreBytes}
 use Rattle.world.specs.declared.wakes.Event.{Event}
 use Rattle.world.specs.declared.wakes.Event.TheVariants.{Frame, Carrier, Duplicate, Release, Rebind, Stop, Quiet, End}
 use Rattle.world.specs.FileNames.{IsFileName}
 use Rattle.world.specs.StoreCalls.{Reading, Found, Missing, Unread}
-use Rattle.world.specs.RowText.{IsBuiltRow}
+use Rattle.world.specs.Rows.{IsRow}
 use Rattle.script_model.specs.Lines.{Line}
 use Rattle.script_model.specs.Lines as Model
 
@@ -21,11 +19,11 @@ IsWord number = number < 2 ^ 64
 abbrev pub FitsEvent : Event → List ℕ → Type 0
 FitsEvent (Frame iface len) bytes = (iface < 2 ^ 32) × (len ≡ length bytes) × AreBytes bytes
 FitsEvent (Carrier iface up) bytes = (iface < 2 ^ 32) × (bytes ≡ [])
+FitsEvent (Duplicate iface addr) bytes = (iface < 2 ^ 32) × FitsIp6 addr × (bytes ≡ [])
 FitsEvent (Release iface) bytes = (iface < 2 ^ 32) × (bytes ≡ [])
 FitsEvent (Rebind iface) bytes = (iface < 2 ^ 32) × (bytes ≡ [])
 FitsEvent Stop bytes = bytes ≡ []
 FitsEvent Quiet bytes = bytes ≡ []
-FitsEvent (Duplicate iface addr) bytes = ⊥
 FitsEvent End bytes = ⊥
 
 abbrev pub FitsReading : Reading → Type 0
@@ -36,10 +34,6 @@ FitsReading Unread = Unit {0}
 abbrev pub FitsMoment : Option ℕ → Type 0
 FitsMoment (Some at) = IsWord at
 FitsMoment None = Unit {0}
-
-abbrev pub FitsNet : Net → Type 0
-FitsNet (V4 net) = FitsNet4 net
-FitsNet (V6 net) = ⊥
 
 abbrev pub FitsLine : Line → Type 0
 FitsLine Model.Head = Unit {0}
@@ -59,10 +53,10 @@ FitsLine (Model.Read name reading) = IsFileName name × FitsReading reading
 FitsLine (Model.Turn at salt event bytes) = IsWord at × IsWord salt × FitsEvent event bytes
 FitsLine (Model.Send iface bytes taken) = (iface.number < 2 ^ 32) × AreBytes bytes
 FitsLine (Model.HostListed count) = IsWord count
-FitsLine (Model.Row row) = IsBuiltRow row
+FitsLine (Model.Row row) = IsRow row
 FitsLine Model.HostListFailed = Unit {0}
-FitsLine (Model.HostDel row done) = IsBuiltRow row
-FitsLine (Model.HostAdd row done) = IsBuiltRow row
+FitsLine (Model.HostDel row done) = IsRow row
+FitsLine (Model.HostAdd row done) = IsRow row
 FitsLine (Model.Until moment) = FitsMoment moment
 FitsLine (Model.Hold iface net) = (iface.number < 2 ^ 32) × FitsNet net
 FitsLine Model.EndOfLife = Unit {0}

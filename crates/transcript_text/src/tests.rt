@@ -31,7 +31,7 @@ fn printed(alloc: Global, lines: &[TranscriptLine<'_>]) -> Result<Vec<u8>, NoMem
     Ok(text)
 }
 
-/// Lines that no script leads to yet.
+/// Lines that no example shows.
 #[test]
 fn prints_what_examples_do_not_show(rt: HostRuntime) -> Result<(), Fail> {
     let alloc = rt.alloc();

@@ -14,11 +14,12 @@ use Rattle.device_calls.specs.Calls.{Read}
 use Rattle.device_calls.specs.Programs.{Asks, Done, Then, after}
 use Rattle.device_calls.specs.Worlds.{World, Told, Ran, run, answer_to, world_with}
 use Rattle.device_calls.proofs.Programs.{run_after, ran_both}
-use Rattle.turn_model.specs.LeaseFiles.{LeaseFile, Loaded, loading, keeping}
+use Rattle.turn_model.specs.KeptFiles.{KeptFile, keeping}
+use Rattle.turn_model.specs.Loading.{FilesLoaded, loading_files}
 use Rattle.turn_model.specs.Turns.{Life, Outlook, offering, hosting, acting, step_of, outlook_of, turn_moment, stop_after, turn_asks}
 use Rattle.turn_model.specs.Opening.{clearing, resolver_file, outlook_from, opening_step, opening_asks}
 use Rattle.turn_model.proofs.HostRuns.{host_left, host_known}
-use Rattle.turn_model.proofs.Leaving.{offers_leave, clearing_leaves_host, loading_leaves, hosting_leaves_store, keeping_leaves_host}
+use Rattle.turn_model.proofs.Leaving.{offers_leave, clearing_leaves_host, files_leave, hosting_leaves_store, keeping_leaves_host}
 
 -- ---- a step
 
@@ -31,7 +32,7 @@ pub record Acts (managed : List Managed) (known : Option (List HostRow)) (client
 
 -- what the run of a step makes, in its parts
 module _ (managed : List Managed) (outlook : Outlook) (step : ClientStep) (moment : ℕ) (stop : Option ℕ) where
-  abbrev pub life_with : ℕ → Option (List HostRow) → List LeaseFile → Life
+  abbrev pub life_with : ℕ → Option (List HostRow) → List KeptFile → Life
   life_with unsent known files = record { client = step.client; known = known; files = files; now = moment; stop = stop; unsent = unsent }
 
   abbrev to_keep : ℕ → Option (List HostRow) → Asks Life
@@ -46,7 +47,7 @@ module _ (managed : List Managed) (outlook : Outlook) (step : ClientStep) (momen
   abbrev pub hosted : World → Ran (Option (List HostRow))
   hosted world = run (hosting managed (rows_of step.client) outlook.known) (offered world).world
 
-  abbrev pub kept : World → Ran (List LeaseFile)
+  abbrev pub kept : World → Ran (List KeptFile)
   kept world = run (keeping step.client.ifaces outlook.files) (hosted world).world
 
   abbrev pub lives : World → Ran Life
@@ -92,17 +93,17 @@ unfolding turn_asks
 turn_acts managed life wake bytes world = acts managed (outlook_of life) (step_of life wake bytes) (turn_moment life wake) (stop_after life.stop wake.event (turn_moment life wake)) world
 
 module _ (managed : List Managed) (specs : List IfSpec) (begin : Begin) where
-  abbrev step_asks : List Loaded → Asks Life
-  step_asks files = acting managed (outlook_from files) (opening_step files specs begin) (moment_of begin.at) None
+  abbrev step_asks : FilesLoaded → Asks Life
+  step_asks files = acting managed (outlook_from managed files) (opening_step managed files specs begin) (moment_of begin.at) None
 
-  abbrev rest_asks : List Loaded → Asks Life
+  abbrev rest_asks : FilesLoaded → Asks Life
   rest_asks files = Then (Read resolver_file) (λ _. step_asks files)
 
   abbrev pub ran_clearing : World → Ran (Unit {0})
   ran_clearing world = run clearing world
 
-  abbrev pub ran_loading : World → Ran (List Loaded)
-  ran_loading world = run (loading managed) (ran_clearing world).world
+  abbrev pub ran_loading : World → Ran FilesLoaded
+  ran_loading world = run (loading_files managed) (ran_clearing world).world
 
   -- the world in which the step acts
   abbrev pub world_read : World → World
@@ -115,15 +116,15 @@ module _ (managed : List Managed) (specs : List IfSpec) (begin : Begin) where
       ≡ ran_both (ran_clearing world) (ran_both (ran_loading world) (run (rest_asks (ran_loading world).result) (ran_loading world).world))
   unfolding opening_asks
   opening_ran world =
-      run_after clearing (λ _. after (loading managed) (λ files. rest_asks files)) world
-      ∙ ap (λ (ran : Ran Life). ran_both (ran_clearing world) ran) (run_after (loading managed) (λ files. rest_asks files) (ran_clearing world).world)
+      run_after clearing (λ _. after (loading_files managed) (λ files. rest_asks files)) world
+      ∙ ap (λ (ran : Ran Life). ran_both (ran_clearing world) ran) (run_after (loading_files managed) (λ files. rest_asks files) (ran_clearing world).world)
 
-  pub opening_acts : (world : World) → Acts managed None (opening_step (ran_loading world).result specs begin).client world.host (run (opening_asks managed specs begin) world)
+  pub opening_acts : (world : World) → Acts managed None (opening_step managed (ran_loading world).result specs begin).client world.host (run (opening_asks managed specs begin) world)
   opening_acts world =
       let same : (ran_loading world).world.host ≡ world.host =
-      loading_leaves (λ w. w.host) (λ told w. refl) managed (ran_clearing world).world ∙ clearing_leaves_host world in
-      let client : Client = (opening_step (ran_loading world).result specs begin).client in
-      let it = acts managed (outlook_from (ran_loading world).result) (opening_step (ran_loading world).result specs begin) (moment_of begin.at) None (world_read world) in
+      files_leave (λ w. w.host) (λ told w. refl) managed (ran_clearing world).world ∙ clearing_leaves_host world in
+      let client : Client = (opening_step managed (ran_loading world).result specs begin).client in
+      let it = acts managed (outlook_from managed (ran_loading world).result) (opening_step managed (ran_loading world).result specs begin) (moment_of begin.at) None (world_read world) in
       record {
         client_is = ap (λ (ran : Ran Life). ran.result.client) (opening_ran world) ∙ it.client_is;
         known_is = ap (λ (ran : Ran Life). ran.result.known) (opening_ran world) ∙ it.known_is

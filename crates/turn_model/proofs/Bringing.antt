@@ -12,7 +12,7 @@ use Rattle.world.proofs.NameOrder.{name_itself, unlike_aside, put_found, put_kep
 use Rattle.device_calls.specs.Calls.{Call, WriteAside, SyncAside, RenameAside, RemoveFile, Settle, made, store_call}
 use Rattle.device_calls.specs.Programs.{Asks, Done, Then}
 use Rattle.device_calls.specs.Worlds.{World, Ran, run, asked_first, answer_to, world_with}
-use Rattle.turn_model.specs.LeaseFiles.{if_done, bringing}
+use Rattle.turn_model.specs.KeptFiles.{if_done, bringing}
 use Rattle.turn_model.specs.FilesInLife.{was_done, all_done}
 
 abbrev pub files_in : World → List StoreFile

@@ -1,9 +1,6 @@
 -- A life's opening and turns keep its files.
-use Rattle.std.proofs.Common.{◌≡◌, inl, inr, ℕ, true, List, [], ◌∷◌, ◌++◌, map, Option, Some, None, refl, sym, ap, subst, ◌∙◌, append-nil}
-use Rattle.std.specs.Prelude.{flat_map}
-use Rattle.std.specs.List.{AllByRecursion}
+use Rattle.std.proofs.Common.{◌≡◌, ℕ, true, List, [], ◌∷◌, ◌++◌, Option, None, sym, ap, subst, ◌∙◌, append-nil}
 use Rattle.net_types.specs.declared.interface.IfSpec.{IfSpec}
-use Rattle.lease_text.specs.Leases.{LeaseContent}
 use Rattle.machine.specs.Moment.{moment_of}
 use Rattle.world.specs.declared.wakes.Begin.{Begin}
 use Rattle.world.specs.declared.rows.HostRow.{HostRow}
@@ -11,12 +8,13 @@ use Rattle.world.specs.FileLists.{StoreFile, file_name}
 use Rattle.world.specs.LinkCalls.{Given}
 use Rattle.world.specs.NamedLists.{InNameOrder}
 use Rattle.settings.specs.declared.interfaces.Managed.{Managed}
-use Rattle.client_model.specs.Clients.{ClientStep, kept_lease}
+use Rattle.client_model.specs.Clients.{ClientStep}
 use Rattle.device_calls.specs.Calls.{Call, Read, made}
 use Rattle.device_calls.specs.Worlds.{World, Ran, run, answer_to, asked_first}
 use Rattle.device_calls.proofs.Programs.{ran_both}
-use Rattle.turn_model.specs.LeaseFiles.{LeaseFile, Loaded, content_for, lease_file_name, files_of}
-use Rattle.turn_model.specs.FilesInLife.{AreNamedApart, with_files, IsAsKept, all_done, KeepsFiles}
+use Rattle.turn_model.specs.KeptFiles.{KeptFile}
+use Rattle.turn_model.specs.Loading.{FilesLoaded, duid_with, files_of}
+use Rattle.turn_model.specs.FilesInLife.{AreNamedApart, filed_by, all_done, KeepsFiles}
 use Rattle.turn_model.specs.Foretold.{told_wake, told_bytes, woken, ran_turn, ran_opening}
 use Rattle.turn_model.specs.HostInLife.{Running, running_opened, running_turned, running_after, life_run}
 use Rattle.turn_model.specs.Opening.{resolver_file, outlook_from, opening_step}
@@ -24,14 +22,14 @@ use Rattle.turn_model.specs.Turns.{Life, Outlook, acting, outlook_of, step_of, u
 use Rattle.turn_model.proofs.Acting.{offered, hosted, kept, lives, ran_is, store_before, ran_clearing, ran_loading, world_read, ran_step, opening_ran}
 use Rattle.turn_model.proofs.Bringing.{files_in, done_parts}
 use Rattle.turn_model.proofs.FileNames.{are_apart, AreApart}
-use Rattle.turn_model.proofs.Keeping.{names_of, ifaces_of, AreKnown, IsKept, Kept, are_kept}
-use Rattle.turn_model.proofs.Reading.{number_of, IsRead, clearing_order, all_read}
+use Rattle.turn_model.proofs.Keeping.{all_filed, AreKnown, Kept, are_kept}
+use Rattle.turn_model.proofs.Reading.{IsRead, clearing_order, files_read}
 
 -- the files of a life, as they stand in a store
-record Stands (managed : List Managed) (files : List LeaseFile) (store : List StoreFile) : Type 0 where
+record Stands (managed : List Managed) (files : List KeptFile) (store : List StoreFile) : Type 0 where
   order : InNameOrder file_name store
-  names : names_of files ≡ map lease_file_name (with_files managed)
-  numbers : ifaces_of files ≡ map number_of (with_files managed)
+  duid : List ℕ
+  filed : all_filed files ≡ filed_by duid managed
   known : AreKnown store files
 
 abbrev running : Ran Life → Running
@@ -44,18 +42,6 @@ record Keeps (managed : List Managed) (ran : Ran Life) : Type 0 where
 
 -- ---- a step of the client
 
-none_kept : (lease : Option LeaseContent) → content_for lease ≡ None → lease ≡ None
-none_kept None e = refl
-none_kept (Some lease) e = absurd cc
-
-as_kept : (after : Running) (files : List LeaseFile) → AllByRecursion (IsKept after.life.client.ifaces (files_in after.world)) files → AllByRecursion (IsAsKept after) files
-as_kept after [] kept = tt
-as_kept after (file ∷ files) kept = (by kept.0, as_kept after files kept.1)
-  where
-    by : IsKept after.life.client.ifaces (files_in after.world) file → IsAsKept after file
-    by (inl reads) = inl reads
-    by (inr none) = inr (none.0, none_kept (kept_lease file.iface after.life.client.ifaces) none.1)
-
 module _ (managed : List Managed) (apart : AreNamedApart managed) where
   module _ (outlook : Outlook) (step : ClientStep) (moment : ℕ) (stop : Option ℕ) (world : World) (before : Stands managed outlook.files (files_in world)) where
     abbrev first : Ran ℕ
@@ -64,7 +50,7 @@ module _ (managed : List Managed) (apart : AreNamedApart managed) where
     abbrev second : Ran (Option (List HostRow))
     second = hosted managed outlook step moment stop world
 
-    abbrev third : Ran (List LeaseFile)
+    abbrev third : Ran (List KeptFile)
     third = kept managed outlook step moment stop world
 
     store_same : files_in world ≡ files_in second.world
@@ -73,7 +59,7 @@ module _ (managed : List Managed) (apart : AreNamedApart managed) where
     it : Kept step.client.ifaces outlook.files (files_in second.world) third
     it =
         are_kept step.client.ifaces outlook.files second.world
-        (subst AreApart (sym before.names) (are_apart managed apart))
+        (subst AreApart (sym before.filed) (are_apart before.duid managed apart))
         (subst (InNameOrder file_name) store_same before.order)
         (subst (λ (s : List StoreFile). AreKnown s outlook.files) store_same before.known)
 
@@ -90,12 +76,12 @@ module _ (managed : List Managed) (apart : AreNamedApart managed) where
 
     acting_keeps : Keeps managed (run (acting managed outlook step moment stop) world)
     acting_keeps = subst (Keeps managed) (sym (ran_is managed outlook step moment stop world)) (record {
-      stands = record { order = it.order; names = it.names ∙ before.names; numbers = it.numbers ∙ before.numbers; known = it.known };
+      stands = record { order = it.order; duid = before.duid; filed = it.filed ∙ before.filed; known = it.known };
       keeps = record {
-        names = it.names ∙ before.names;
-        ifaces = it.numbers ∙ before.numbers;
+        duid = before.duid;
+        filed = it.filed ∙ before.filed;
         known = it.known;
-        kept = λ e. as_kept (running whole) third.result (it.kept (files_done e));
+        kept = λ e. it.kept (files_done e);
       };
     })
 
@@ -120,8 +106,8 @@ module _ (managed : List Managed) (apart : AreNamedApart managed) where
   more_before ran calls k = record {
     stands = k.stands;
     keeps = record {
-      names = k.keeps.names;
-      ifaces = k.keeps.ifaces;
+      duid = k.keeps.duid;
+      filed = k.keeps.filed;
       known = k.keeps.known;
       kept = λ e. k.keeps.kept (done_parts calls ran.calls e).1;
     };
@@ -134,23 +120,26 @@ module _ (managed : List Managed) (apart : AreNamedApart managed) where
     abbrev cleared : Ran (Unit {0})
     cleared = ran_clearing managed specs begin world
 
-    abbrev loaded_all : Ran (List Loaded)
+    abbrev loaded_all : Ran FilesLoaded
     loaded_all = ran_loading managed specs begin world
 
-    read : IsRead (with_files managed) (files_in cleared.world) (flat_map files_of loaded_all.result) loaded_all.world
-    read = all_read managed cleared.world
+    abbrev duid : List ℕ
+    duid = duid_with managed loaded_all.result
 
-    read_stands : Stands managed (flat_map files_of loaded_all.result) (files_in loaded_all.world)
+    read : IsRead (filed_by duid managed) (files_in cleared.world) (files_of managed loaded_all.result) loaded_all.world
+    read = files_read managed cleared.world
+
+    read_stands : Stands managed (files_of managed loaded_all.result) (files_in loaded_all.world)
     read_stands = record {
       order = subst (InNameOrder file_name) (sym read.same) (clearing_order world order);
-      names = read.names;
-      numbers = read.numbers;
-      known = subst (λ (s : List StoreFile). AreKnown s (flat_map files_of loaded_all.result)) (sym read.same) read.known;
+      duid = duid;
+      filed = read.filed;
+      known = subst (λ (s : List StoreFile). AreKnown s (files_of managed loaded_all.result)) (sym read.same) read.known;
     }
 
     step_keeps : Keeps managed (ran_step managed specs begin world)
     step_keeps =
-        acting_keeps (outlook_from loaded_all.result) (opening_step loaded_all.result specs begin) (moment_of begin.at) None (world_read managed specs begin world) read_stands
+        acting_keeps (outlook_from managed loaded_all.result) (opening_step managed loaded_all.result specs begin) (moment_of begin.at) None (world_read managed specs begin world) read_stands
 
     opening_keeps : Keeps managed (ran_opening managed specs world)
     opening_keeps =

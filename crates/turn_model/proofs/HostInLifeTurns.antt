@@ -1,5 +1,5 @@
 -- A life's turns bring about the rows that the client wants.
-use Rattle.std.proofs.Common.{ℕ, ◌≡◌, List, [], ◌∷◌, map, None, refl, sym, ap, subst, ◌∙◌}
+use Rattle.std.proofs.Common.{ℕ, ◌≡◌, List, [], ◌∷◌, None, refl, sym, ap, subst, ◌∙◌}
 use Rattle.net_types.specs.declared.interface.IfSpec.{IfSpec}
 use Rattle.world.specs.LinkCalls.{Given}
 use Rattle.settings.specs.declared.interfaces.Managed.{Managed}
@@ -14,13 +14,13 @@ use Rattle.device_calls.specs.Calls.{Call}
 use Rattle.device_calls.specs.Programs.{Makes}
 use Rattle.device_calls.specs.Worlds.{World}
 use Rattle.device_calls.proofs.Running.{run_makes}
-use Rattle.turn_model.specs.LeaseFiles.{Loaded, loading, beginning_of}
+use Rattle.turn_model.specs.Loading.{FilesLoaded, loading_files, duid_with, beginnings_of}
 use Rattle.turn_model.specs.Turns.{until, input_of, step_of}
 use Rattle.turn_model.specs.Opening.{opening_step}
 use Rattle.turn_model.specs.Foretold.{told_wake, told_bytes, woken, ran_turn, ran_opening}
 use Rattle.turn_model.specs.HostInLife.{Running, running_opened, running_turned, running_after, life_run, table_of, HoldsUnlessFailed}
 use Rattle.turn_model.proofs.Acting.{Acts, turn_acts, ran_clearing, ran_loading, opening_acts}
-use Rattle.turn_model.proofs.Loading.{all_are_loaded, beginnings_managed}
+use Rattle.turn_model.proofs.Loading.{files_are_loaded, beginnings_managed}
 
 pub record Sound (managed : List Managed) (failing : List ℕ) (running : Running) : Type 0 where
   pub same : managed_in running.life.client.ifaces ≡ managed
@@ -58,18 +58,19 @@ turned_holds managed failing before after turned true_before none =
 -- ---- by an opening, and by a turn
 
 -- the interfaces of an opening are those that are managed
-pub opening_managed : (managed : List Managed) (specs : List IfSpec) (begin : Begin) (calls : List Call) (files : List Loaded) → Makes (loading managed) calls files
-    → managed_in (opening_step files specs begin).client.ifaces ≡ managed
+pub opening_managed : (managed : List Managed) (specs : List IfSpec) (begin : Begin) (calls : List Call) (files : FilesLoaded)
+    → Makes (loading_files managed) calls files → managed_in (opening_step managed files specs begin).client.ifaces ≡ managed
 opening_managed managed specs begin calls files makes =
-    all_opened begin.up (moment_of begin.at) begin.salt (map beginning_of files) ∙ beginnings_managed files ∙ all_are_loaded managed calls files makes
+    all_opened begin.up (moment_of begin.at) begin.salt (beginnings_of managed files) ∙ beginnings_managed (duid_with managed files) files.ifaces
+    ∙ files_are_loaded managed calls files makes
 
 opening_turned : (managed : List Managed) (specs : List IfSpec) (world : World) → Turned managed world.host.failing (unknown_table world.host.told) (running_opened managed specs world)
 opening_turned managed specs world =
     let begin : Begin = world.link.told.begin in
-    let step : ClientStep = opening_step (ran_loading managed specs begin world).result specs begin in
+    let step : ClientStep = opening_step managed (ran_loading managed specs begin world).result specs begin in
     let it : Acts managed None step.client world.host (ran_opening managed specs world) = opening_acts managed specs begin world in
     let same : managed_in step.client.ifaces ≡ managed =
-    opening_managed managed specs begin _ (ran_loading managed specs begin world).result (run_makes (loading managed) (ran_clearing managed specs begin world).world) in
+    opening_managed managed specs begin _ (ran_loading managed specs begin world).result (run_makes (loading_files managed) (ran_clearing managed specs begin world).world) in
     record {
       same = ap (λ (c : Client). managed_in c.ifaces) it.client_is ∙ same;
       table = (λ i. record { known = it.known_is i; told = it.told_is i })

@@ -3,18 +3,20 @@ use Rattle.std.proofs.Common.{ℕ, ◌≡◌, Bool, true, false, List, [], ◌�
 use Rattle.net_types.proofs.CaseLaws.{gated}
 use Rattle.world.specs.declared.rows.HostRow.{HostRow}
 use Rattle.world.specs.LinkCalls.{LinkTold}
-use Rattle.world.specs.StoreCalls.{StoreTold, Reading}
+use Rattle.world.specs.StoreCalls.{StoreTold}
 use Rattle.settings.specs.declared.interfaces.Managed.{Managed}
 use Rattle.client_model.specs.declared.interfaces.Iface.{Iface}
 use Rattle.client_model.specs.ClientSettings.{runs_dhcp4}
-use Rattle.client_model.specs.Clients.{Sending, kept_lease}
+use Rattle.client_model.specs.ClientSettings6.{runs_dhcp6, some_need_duid}
+use Rattle.client_model.specs.Clients.{Sending}
 use Rattle.host_model.specs.declared.changes.HostChange.{HostChange}
 use Rattle.host_model.specs.HostTurn.{changes}
-use Rattle.device_calls.specs.Calls.{ListAsides, ListRows, Change, Read, WriteAside, SyncAside, RenameAside, RemoveFile, Settle, Offer}
+use Rattle.device_calls.specs.Calls.{ListAsides, ListRows, Change, WriteAside, SyncAside, RenameAside, RemoveFile, Settle, Offer}
 use Rattle.device_calls.specs.Programs.{Asks, Done, Then, after}
 use Rattle.device_calls.specs.Worlds.{World, Ran, run, answer_to, world_with, with_link, with_store}
 use Rattle.device_calls.proofs.Programs.{run_after}
-use Rattle.turn_model.specs.LeaseFiles.{LeaseFile, loaded, loading_one, loading, lease_file_name, if_done, bringing, is_settled, keeping_one, keeping, content_for, known_after}
+use Rattle.turn_model.specs.KeptFiles.{KeptFile, wanted_in, if_done, bringing, is_settled, keeping_one, keeping, known_after}
+use Rattle.turn_model.specs.Loading.{loaded, reading_if, loading_one, loading, files_loaded, loading_files, duid_file, lease4_file, lease6_file}
 use Rattle.turn_model.specs.Turns.{marked, offering, known_with, changing, rows_on, hosting_listed, hosting}
 use Rattle.turn_model.specs.Opening.{removing, clearing_listed, clearing}
 
@@ -65,16 +67,29 @@ pub clearing_leaves_host : Leaves (λ w. w.host) clearing
 clearing_leaves_host world = listed_leaves_host (answer_to ListAsides world) (world_with ListAsides (answer_to ListAsides world) world)
 
 module _ {P : Type 0} (part : World → P) (but_store : (told : StoreTold) (world : World) → part (with_store told world) ≡ part world) where
+  reading_leaves : (is_kept : Bool) (name : List ℕ) → Leaves part (reading_if is_kept name)
+  reading_leaves true name world = but_store _ world
+  reading_leaves false name world = refl
+
   one_leaves : (managed : Managed) → Leaves part (loading_one managed)
   one_leaves managed =
-      gated (Leaves part) (runs_dhcp4 managed.conf) (Then (Read (lease_file_name managed)) (λ (reading : Reading). Done (loaded managed (Some reading)))) (Done (loaded managed None))
-      (λ world. but_store _ world) (λ world. refl)
+      both_leave part (reading_if (runs_dhcp4 managed.conf) (lease4_file managed))
+      (λ lease4. after (reading_if (runs_dhcp6 managed.conf) (lease6_file managed)) (λ lease6. Done (loaded managed lease4 lease6)))
+      (reading_leaves (runs_dhcp4 managed.conf) (lease4_file managed))
+      (λ lease4. both_leave part (reading_if (runs_dhcp6 managed.conf) (lease6_file managed)) (λ lease6. Done (loaded managed lease4 lease6))
+      (reading_leaves (runs_dhcp6 managed.conf) (lease6_file managed)) (λ lease6 w. refl))
 
-  pub loading_leaves : (managed : List Managed) → Leaves part (loading managed)
+  loading_leaves : (managed : List Managed) → Leaves part (loading managed)
   loading_leaves [] world = refl
   loading_leaves (m ∷ managed) world =
       both_leave part (loading_one m) (λ first. after (loading managed) (λ rest. Done (first ∷ rest))) (one_leaves m)
       (λ first. both_leave part (loading managed) (λ rest. Done (first ∷ rest)) (loading_leaves managed) (λ rest w. refl)) world
+
+  pub files_leave : (managed : List Managed) → Leaves part (loading_files managed)
+  files_leave managed =
+      both_leave part (reading_if (some_need_duid managed) duid_file) (λ duid. after (loading managed) (λ ifaces. Done (files_loaded duid ifaces)))
+      (reading_leaves (some_need_duid managed) duid_file)
+      (λ duid. both_leave part (loading managed) (λ ifaces. Done (files_loaded duid ifaces)) (loading_leaves managed) (λ ifaces w. refl))
 
 -- ---- the files' part leaves the host
 
@@ -96,15 +111,15 @@ bringing_leaves_host name (Some bytes) world =
 bringing_leaves_host name None world =
     if_done_leaves (answer_to (RemoveFile name) world) (Then Settle (λ settled. Done settled)) settle_leaves (world_with (RemoveFile name) (answer_to (RemoveFile name) world) world)
 
-one_leaves_host : (wanted : Option (List ℕ)) (file : LeaseFile) → Leaves (λ w. w.host) (keeping_one wanted file)
+one_leaves_host : (wanted : Option (List ℕ)) (file : KeptFile) → Leaves (λ w. w.host) (keeping_one wanted file)
 one_leaves_host wanted file =
-    gated (Leaves (λ w. w.host)) (is_settled file.known wanted) (Done file) (after (bringing file.name wanted) (λ done. Done (record file { known = known_after wanted done })))
+    gated (Leaves (λ w. w.host)) (is_settled file.keeps file.known wanted) (Done file) (after (bringing file.name wanted) (λ done. Done (record file { known = known_after wanted done })))
     (λ world. refl)
     (both_leave (λ w. w.host) (bringing file.name wanted) (λ done. Done (record file { known = known_after wanted done })) (bringing_leaves_host file.name wanted) (λ done world. refl))
 
-pub keeping_leaves_host : (ifaces : List Iface) (files : List LeaseFile) → Leaves (λ w. w.host) (keeping ifaces files)
+pub keeping_leaves_host : (ifaces : List Iface) (files : List KeptFile) → Leaves (λ w. w.host) (keeping ifaces files)
 keeping_leaves_host ifaces [] world = refl
 keeping_leaves_host ifaces (file ∷ files) world =
-    both_leave (λ w. w.host) (keeping_one (content_for (kept_lease file.iface ifaces)) file) (λ first. after (keeping ifaces files) (λ rest. Done (first ∷ rest)))
-    (one_leaves_host (content_for (kept_lease file.iface ifaces)) file)
+    both_leave (λ w. w.host) (keeping_one (wanted_in ifaces file.keeps) file) (λ first. after (keeping ifaces files) (λ rest. Done (first ∷ rest)))
+    (one_leaves_host (wanted_in ifaces file.keeps) file)
     (λ first. both_leave (λ w. w.host) (keeping ifaces files) (λ rest. Done (first ∷ rest)) (keeping_leaves_host ifaces files) (λ rest w. refl)) world

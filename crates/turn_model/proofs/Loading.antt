@@ -1,5 +1,5 @@
--- What reading the files of leases gives, whatever the answers: one result for each managed interface, in order, and leases
--- that are within the bounds.
+-- What reading the files gives, whatever the answers: one result for each managed interface, in order, and leases that are within
+-- the bounds.
 use Rattle.std.proofs.Common.{◌≡◌, ℕ, List, [], ◌∷◌, map, Option, Some, None, refl, ap, ap₂, ◌∙◌}
 use Rattle.std.specs.Prelude.{IfSome, bytes_eq, option_and_then}
 use Rattle.std.specs.List.{AllByRecursion}
@@ -8,43 +8,73 @@ use Rattle.net_types.specs.declared.interface.Name.{Name}
 use Rattle.net_types.specs.NameText.{name_text}
 use Rattle.lease_text.specs.Bounds.{FitsLease}
 use Rattle.lease_text.specs.Leases.{LeaseContent}
+use Rattle.lease6_text.specs.Bounds.{HasText6}
+use Rattle.lease6_text.specs.Leases.{Lease6Content}
 use Rattle.world.specs.StoreCalls.{Reading, Found, Missing, Unread}
 use Rattle.settings.specs.declared.interfaces.Managed.{Managed}
 use Rattle.client_model.specs.ClientSettings.{runs_dhcp4}
+use Rattle.client_model.specs.ClientSettings6.{runs_dhcp6, some_need_duid}
 use Rattle.client_model.specs.KeptLeases.{Beginning, lease_spelled, own_lease, kept_by}
+use Rattle.client_model.specs.KeptLeases6.{lease6_spelled, own_lease6, kept6_by}
 use Rattle.client_model.proofs.KeptTexts.{is_reading}
-use Rattle.device_calls.specs.Calls.{Call, Read}
-use Rattle.device_calls.specs.Programs.{Asks, Done, Then, after, Makes}
+use Rattle.client_model.proofs.KeptTexts6.{is_reading6}
+use Rattle.device_calls.specs.Calls.{Call}
+use Rattle.device_calls.specs.Programs.{Asks, Done, after, Makes}
 use Rattle.device_calls.proofs.Programs.{MakesBoth, makes_both}
-use Rattle.turn_model.specs.LeaseFiles.{Loaded, loaded, loading_one, loading, lease_file_name, beginning_of}
+use Rattle.turn_model.specs.Loading.{reading_if, Loaded, loaded, loading_one, loading, FilesLoaded, files_loaded, loading_files, duid_file, lease4_file, lease6_file, duid_with, beginning_of, beginnings_of}
 
-abbrev IsLoaded : Managed → Asks Loaded → Type 0
-IsLoaded m asks = (calls : List Call) (one : Loaded) → Makes asks calls one → one.managed ≡ m
+-- what was asked first, what then, and what both made
+record MadeOf {A B C : Type 0} (first : Asks A) (then_that : Asks B) (make : A → B → C) (result : C) : Type 0 where
+  a : A
+  b : B
+  calls : List Call
+  later : List Call
+  makes : Makes first calls a
+  makes_later : Makes then_that later b
+  is : result ≡ make a b
 
-one_is_loaded : (m : Managed) → IsLoaded m (loading_one m)
-one_is_loaded m =
-    gated (IsLoaded m) (runs_dhcp4 m.conf) (Then (Read (lease_file_name m)) (λ (reading : Reading). Done (loaded m (Some reading)))) (Done (loaded m None))
-    (λ calls one makes. ap (λ (l : Loaded). l.managed) makes.result_is)
-    (λ calls one makes. ap (λ (l : Loaded). l.managed) makes.result_is)
+made_of : {A B C : Type 0} (first : Asks A) (then_that : Asks B) (make : A → B → C) (calls : List Call) (result : C)
+    → Makes (after first (λ a. after then_that (λ b. Done (make a b)))) calls result → MadeOf first then_that make result
+made_of {A} {B} {C} first then_that make calls result makes =
+    let one : MakesBoth first (λ a. after then_that (λ b. Done (make a b))) calls result = makes_both first (λ a. after then_that (λ b. Done (make a b))) calls result makes in
+    let two : MakesBoth then_that (λ b. Done (make one.between b)) one.later result = makes_both then_that (λ b. Done (make one.between b)) one.later result one.makes_later in
+    record {
+      a = one.between;
+      b = two.between;
+      calls = one.first;
+      later = two.first;
+      makes = one.makes_first;
+      makes_later = two.makes_first;
+      is = two.makes_later.result_is;
+    }
 
-pub all_are_loaded : (managed : List Managed) (calls : List Call) (files : List Loaded) → Makes (loading managed) calls files
-    → map (λ (one : Loaded). one.managed) files ≡ managed
-all_are_loaded [] calls files makes = ap (λ (fs : List Loaded). map (λ (one : Loaded). one.managed) fs) makes.result_is
-all_are_loaded (m ∷ managed) calls files makes =
-    let one : MakesBoth (loading_one m) (λ first. after (loading managed) (λ rest. Done (first ∷ rest))) calls files = makes_both (loading_one m) (λ first. after (loading managed) (λ rest. Done (first ∷ rest))) calls files makes in
-    let two : MakesBoth (loading managed) (λ rest. Done (one.between ∷ rest)) one.later files = makes_both (loading managed) (λ rest. Done (one.between ∷ rest)) one.later files one.makes_later in
-    ap (λ (fs : List Loaded). map (λ (l : Loaded). l.managed) fs) two.makes_later.result_is
-    ∙ ap₂ (λ (n : Managed) (more : List Managed). n ∷ more) (one_is_loaded m one.first one.between one.makes_first) (all_are_loaded managed two.first two.between two.makes_first)
+abbrev managed_of : Loaded → Managed
+managed_of one = one.managed
+
+one_is_loaded : (m : Managed) (calls : List Call) (one : Loaded) → Makes (loading_one m) calls one → one.managed ≡ m
+one_is_loaded m calls one makes =
+    ap managed_of (made_of (reading_if (runs_dhcp4 m.conf) (lease4_file m)) (reading_if (runs_dhcp6 m.conf) (lease6_file m)) (loaded m) calls one makes).is
+
+all_are_loaded : (managed : List Managed) (calls : List Call) (all : List Loaded) → Makes (loading managed) calls all → map managed_of all ≡ managed
+all_are_loaded [] calls all makes = ap (map managed_of) makes.result_is
+all_are_loaded (m ∷ managed) calls all makes =
+    let made : MadeOf (loading_one m) (loading managed) (λ one more. one ∷ more) all = made_of (loading_one m) (loading managed) (λ one more. one ∷ more) calls all makes in
+    ap (map managed_of) made.is
+    ∙ ap₂ (λ (n : Managed) (more : List Managed). n ∷ more) (one_is_loaded m made.calls made.a made.makes) (all_are_loaded managed made.later made.b made.makes_later)
+
+pub files_are_loaded : (managed : List Managed) (calls : List Call) (files : FilesLoaded) → Makes (loading_files managed) calls files
+    → map managed_of files.ifaces ≡ managed
+files_are_loaded managed calls files makes =
+    let made : MadeOf (reading_if (some_need_duid managed) duid_file) (loading managed) files_loaded files =
+    made_of (reading_if (some_need_duid managed) duid_file) (loading managed) files_loaded calls files makes in
+    ap (λ (f : FilesLoaded). map managed_of f.ifaces) made.is ∙ all_are_loaded managed made.later made.b made.makes_later
 
 -- the interfaces begin in their order
-pub beginnings_managed : (files : List Loaded) → map (λ (b : Beginning). b.managed) (map beginning_of files) ≡ map (λ (one : Loaded). one.managed) files
-beginnings_managed [] = refl
-beginnings_managed (one ∷ files) = ap (λ (more : List Managed). one.managed ∷ more) (beginnings_managed files)
+pub beginnings_managed : (duid : List ℕ) (all : List Loaded) → map (λ (b : Beginning). b.managed) (map (beginning_of duid) all) ≡ map managed_of all
+beginnings_managed duid [] = refl
+beginnings_managed duid (one ∷ all) = ap (λ (more : List Managed). one.managed ∷ more) (beginnings_managed duid all)
 
 -- ---- the leases that were kept
-
-abbrev pub KeepsFitting : Beginning → Type 0
-KeepsFitting b = IfSome b.kept FitsLease
 
 own_fits : (name : Name) (lease : LeaseContent) → FitsLease lease → IfSome (own_lease name lease) FitsLease
 own_fits name lease fits = gated (λ (k : Option LeaseContent). IfSome k FitsLease) (bytes_eq (name_text lease.name) (name_text name)) (Some lease) None fits tt
@@ -58,10 +88,40 @@ kept_fits name (Found bytes) = spelled_fits name bytes (lease_spelled bytes) ref
 kept_fits name Missing = tt
 kept_fits name Unread = tt
 
-one_fits : (name : Name) (lease : Option Reading) → IfSome (option_and_then (kept_by name) lease) FitsLease
-one_fits name None = tt
-one_fits name (Some reading) = kept_fits name reading
+own_fits6 : (name : Name) (lease : Lease6Content) → HasText6 lease → IfSome (own_lease6 name lease) HasText6
+own_fits6 name lease fits = gated (λ (k : Option Lease6Content). IfSome k HasText6) (bytes_eq (name_text lease.name) (name_text name)) (Some lease) None fits tt
 
-pub beginnings_fit : (files : List Loaded) → AllByRecursion KeepsFitting (map beginning_of files)
-beginnings_fit [] = tt
-beginnings_fit (one ∷ files) = (one_fits one.managed.spec.name one.lease, beginnings_fit files)
+spelled_fits6 : (name : Name) (text : List ℕ) (found : Option Lease6Content) → lease6_spelled text ≡ found → IfSome (option_and_then (own_lease6 name) found) HasText6
+spelled_fits6 name text None e = tt
+spelled_fits6 name text (Some lease) e = own_fits6 name lease ((is_reading6 text lease).sound e).spells.1
+
+pub kept_fits6 : (name : Name) (reading : Reading) → IfSome (kept6_by name reading) HasText6
+kept_fits6 name (Found bytes) = spelled_fits6 name bytes (lease6_spelled bytes) refl
+kept_fits6 name Missing = tt
+kept_fits6 name Unread = tt
+
+-- the DUID of an interface's beginning is this one, and its leases are within the bounds
+pub record KeepsFitting (duid : List ℕ) (b : Beginning) : Type 0 where
+  pub duid_is : b.duid ≡ duid
+  pub kept4 : IfSome b.kept4 FitsLease
+  pub kept6 : IfSome b.kept6 HasText6
+
+-- where a reading gives what fits, so does one that need not have been
+if_read : {X : Type 0} (Fits : X → Type 0) (kept : Reading → Option X) → ((reading : Reading) → IfSome (kept reading) Fits) → (read : Option Reading)
+    → IfSome (option_and_then kept read) Fits
+if_read Fits kept fits None = tt
+if_read Fits kept fits (Some reading) = fits reading
+
+one_fits : (duid : List ℕ) (one : Loaded) → KeepsFitting duid (beginning_of duid one)
+one_fits duid one = record {
+  duid_is = refl;
+  kept4 = if_read FitsLease (kept_by one.managed.spec.name) (kept_fits one.managed.spec.name) one.lease4;
+  kept6 = if_read HasText6 (kept6_by one.managed.spec.name) (kept_fits6 one.managed.spec.name) one.lease6;
+}
+
+all_fit : (duid : List ℕ) (all : List Loaded) → AllByRecursion (KeepsFitting duid) (map (beginning_of duid) all)
+all_fit duid [] = tt
+all_fit duid (one ∷ all) = (one_fits duid one, all_fit duid all)
+
+pub beginnings_fit : (managed : List Managed) (files : FilesLoaded) → AllByRecursion (KeepsFitting (duid_with managed files)) (beginnings_of managed files)
+beginnings_fit managed files = all_fit (duid_with managed files) files.ifaces

@@ -1,5 +1,5 @@
 -- What the opening knows of the files that it read, and that clearing asides leaves the files in order.
-use Rattle.std.proofs.Common.{◌≡◌, ℕ, Bool, true, false, List, [], ◌∷◌, ◌++◌, map, Option, Some, None, refl, sym, ap, ap₂, subst, ◌∙◌}
+use Rattle.std.proofs.Common.{◌≡◌, ℕ, Bool, true, false, List, [], ◌∷◌, ◌++◌, Option, Some, None, refl, sym, ap, ap₂, subst, ◌∙◌}
 use Rattle.std.specs.Prelude.{flat_map, if◌then◌else◌}
 use Rattle.std.proofs.lemmas.List.{map-append}
 use Rattle.net_types.proofs.CaseLaws.{gated}
@@ -10,15 +10,17 @@ use Rattle.world.specs.StoreCalls.{Reading, reading_of}
 use Rattle.world.proofs.NameOrder.{drop_in_order}
 use Rattle.settings.specs.declared.interfaces.Managed.{Managed}
 use Rattle.client_model.specs.ClientSettings.{runs_dhcp4}
-use Rattle.device_calls.specs.Calls.{ListAsides, Read, RemoveFile}
-use Rattle.device_calls.specs.Programs.{Asks, Done, Then, after}
+use Rattle.client_model.specs.ClientSettings6.{runs_dhcp6, some_need_duid}
+use Rattle.device_calls.specs.Calls.{ListAsides, RemoveFile}
+use Rattle.device_calls.specs.Programs.{Asks, Done, after}
 use Rattle.device_calls.specs.Worlds.{World, Ran, run, fails_store, answer_to, world_with}
 use Rattle.device_calls.proofs.Programs.{run_after, ran_both}
-use Rattle.turn_model.specs.LeaseFiles.{LeaseFile, Loaded, loaded, lease_file_name, loading_one, loading, known_by, files_of}
-use Rattle.turn_model.specs.FilesInLife.{KnownTruly, with_files}
+use Rattle.turn_model.specs.KeptFiles.{Keeps, Duid, Lease4, Lease6, KeptFile}
+use Rattle.turn_model.specs.Loading.{duid_file, lease4_file, lease6_file, reading_if, Loaded, loaded, loading_one, loading, FilesLoaded, files_loaded, loading_files, known_by, file_with, files_by, duid_with, files_of}
+use Rattle.turn_model.specs.FilesInLife.{KnownTruly, Filed, filed_as, filed_if, filed_for, filed_by}
 use Rattle.turn_model.specs.Opening.{removing, clearing_listed, clearing}
 use Rattle.turn_model.proofs.Bringing.{files_in}
-use Rattle.turn_model.proofs.Keeping.{names_of, ifaces_of, AreKnown}
+use Rattle.turn_model.proofs.Keeping.{all_filed, AreKnown}
 
 -- ---- clearing
 
@@ -39,72 +41,83 @@ clearing_order world order = listed_order (answer_to ListAsides world) (world_wi
 
 -- ---- reading
 
-abbrev pub number_of : Managed → ℕ
-number_of m = m.spec.index.number
-
--- the files that reading gave are those of these interfaces, and what is known of them is so
-pub record IsRead (interfaces : List Managed) (before : List StoreFile) (files : List LeaseFile) (world : World) : Type 0 where
+-- the files that reading gave are these, and what is known of them is so
+pub record IsRead (wanted : List Filed) (before : List StoreFile) (files : List KeptFile) (world : World) : Type 0 where
   pub same : files_in world ≡ before
-  pub names : names_of files ≡ map lease_file_name interfaces
-  pub numbers : ifaces_of files ≡ map number_of interfaces
+  pub filed : all_filed files ≡ wanted
   pub known : AreKnown before files
-
-abbrev only : Bool → Managed → List Managed
-only runs m = if runs then m ∷ [] else []
 
 known_read : (fails : Bool) (content : Option (List ℕ)) → KnownTruly (known_by (if fails then store.Unread else reading_of content)) content
 known_read true content = tt
 known_read false None = refl
 known_read false (Some bytes) = refl
 
-one_read : (m : Managed) (world : World) → IsRead (only (runs_dhcp4 m.conf) m) (files_in world) (files_of (run (loading_one m) world).result) (run (loading_one m) world).world
-one_read m world = by (runs_dhcp4 m.conf)
-  where
-    asks_by : Bool → Asks Loaded
-    asks_by runs = if runs then Then (Read (lease_file_name m)) (λ (reading : Reading). Done (loaded m (Some reading))) else Done (loaded m None)
+abbrev ReadOne : Bool → Keeps → List ℕ → World → Ran (Option Reading) → Type 0
+ReadOne is_kept keeps name world ran = IsRead (filed_if is_kept keeps name) (files_in world) (file_with keeps name ran.result) ran.world
 
-    by : (runs : Bool) → IsRead (only runs m) (files_in world) (files_of (run (asks_by runs) world).result) (run (asks_by runs) world).world
-    by true = record {
-      same = refl;
-      names = refl;
-      numbers = refl;
-      known = (known_read (fails_store world.store) (file_at (lease_file_name m) (files_in world)), tt);
-    }
-    by false = record { same = refl; names = refl; numbers = refl; known = tt }
+one_read : (is_kept : Bool) (keeps : Keeps) (name : List ℕ) (world : World) → ReadOne is_kept keeps name world (run (reading_if is_kept name) world)
+one_read true keeps name world = record { same = refl; filed = refl; known = (known_read (fails_store world.store) (file_at name (files_in world)), tt) }
+one_read false keeps name world = record { same = refl; filed = refl; known = tt }
 
-first_of_all : (runs : Bool) (m : Managed) (others : List Managed) → (if runs then m ∷ others else others) ≡ only runs m ++ others
-first_of_all true m others = refl
-first_of_all false m others = refl
-
-all_known : (before : List StoreFile) (a b : List LeaseFile) → AreKnown before a → AreKnown before b → AreKnown before (a ++ b)
+all_known : (before : List StoreFile) (a b : List KeptFile) → AreKnown before a → AreKnown before b → AreKnown before (a ++ b)
 all_known before [] b known more = more
 all_known before (f ∷ a) b known more = (known.0, all_known before a b known.1 more)
 
-joined : (one others : List Managed) (before : List StoreFile) (a b : List LeaseFile) (between later : World) → IsRead one before a between → IsRead others (files_in between) b later
-    → IsRead (one ++ others) before (a ++ b) later
+joined : (one others : List Filed) (before : List StoreFile) (a b : List KeptFile) (between later : World) → IsRead one before a between
+    → IsRead others (files_in between) b later → IsRead (one ++ others) before (a ++ b) later
 joined one others before a b between later first rest = record {
   same = rest.same ∙ first.same;
-  names = map-append (λ (file : LeaseFile). file.name) a b
-      ∙ ap₂ (λ (x y : List (List ℕ)). x ++ y) first.names rest.names ∙ sym (map-append lease_file_name one others);
-  numbers = map-append (λ (file : LeaseFile). file.iface) a b
-      ∙ ap₂ (λ (x y : List ℕ). x ++ y) first.numbers rest.numbers ∙ sym (map-append number_of one others);
+  filed = map-append filed_as a b ∙ ap₂ (λ (x y : List Filed). x ++ y) first.filed rest.filed;
   known = all_known before a b first.known (subst (λ (s : List StoreFile). AreKnown s b) first.same rest.known);
 }
 
-abbrev ReadAll : List Managed → World → Ran (List Loaded) → Type 0
-ReadAll managed world ran = IsRead (with_files managed) (files_in world) (flat_map files_of ran.result) ran.world
+-- what was read first and what then make one
+both_ran : {A B C : Type 0} (first : Asks A) (then_that : Asks B) (make : A → B → C) (world : World)
+    → run (after first (λ a. after then_that (λ b. Done (make a b)))) world
+    ≡ ran_both (run first world) (ran_both (run then_that (run first world).world)
+    (run (Done (make (run first world).result (run then_that (run first world).world).result)) (run then_that (run first world).world).world))
+both_ran {A} {B} {C} first then_that make world =
+    run_after first (λ a. after then_that (λ b. Done (make a b))) world
+    ∙ ap (λ (ran : Ran C). ran_both (run first world) ran) (run_after then_that (λ b. Done (make (run first world).result b)) (run first world).world)
 
-pub all_read : (managed : List Managed) (world : World) → ReadAll managed world (run (loading managed) world)
-all_read [] world = record { same = refl; names = refl; numbers = refl; known = tt }
+abbrev ReadFor : Managed → World → Ran Loaded → Type 0
+ReadFor m world ran = IsRead (filed_for m) (files_in world) (files_by ran.result) ran.world
+
+iface_read : (m : Managed) (world : World) → ReadFor m world (run (loading_one m) world)
+iface_read m world =
+    let ask4 : Asks (Option Reading) = reading_if (runs_dhcp4 m.conf) (lease4_file m) in
+    let ask6 : Asks (Option Reading) = reading_if (runs_dhcp6 m.conf) (lease6_file m) in
+    let keeps4 : Keeps = Lease4 m.spec.index.number in
+    let keeps6 : Keeps = Lease6 m.spec.index.number in
+    let first : Ran (Option Reading) = run ask4 world in
+    let rest : Ran (Option Reading) = run ask6 first.world in
+    subst (ReadFor m world) (sym (both_ran ask4 ask6 (loaded m) world))
+    (joined (filed_if (runs_dhcp4 m.conf) keeps4 (lease4_file m)) (filed_if (runs_dhcp6 m.conf) keeps6 (lease6_file m)) (files_in world)
+    (file_with keeps4 (lease4_file m) first.result) (file_with keeps6 (lease6_file m) rest.result) first.world rest.world
+    (one_read (runs_dhcp4 m.conf) keeps4 (lease4_file m) world) (one_read (runs_dhcp6 m.conf) keeps6 (lease6_file m) first.world))
+
+abbrev ReadAll : List Managed → World → Ran (List Loaded) → Type 0
+ReadAll managed world ran = IsRead (flat_map filed_for managed) (files_in world) (flat_map files_by ran.result) ran.world
+
+all_read : (managed : List Managed) (world : World) → ReadAll managed world (run (loading managed) world)
+all_read [] world = record { same = refl; filed = refl; known = tt }
 all_read (m ∷ managed) world =
     let first : Ran Loaded = run (loading_one m) world in
-    let rest : Ran (List Loaded) = run (loading managed) (run (loading_one m) world).world in
-    let ran_is : run (loading (m ∷ managed)) world ≡ ran_both first (ran_both rest (run (Done (first.result ∷ rest.result)) rest.world)) =
-    run_after (loading_one m) (λ f. after (loading managed) (λ fs. Done (f ∷ fs))) world
-    ∙ ap (λ (ran : Ran (List Loaded)). ran_both (run (loading_one m) world) ran)
-    (run_after (loading managed) (λ fs. Done ((run (loading_one m) world).result ∷ fs)) (run (loading_one m) world).world) in
-    subst (ReadAll (m ∷ managed) world) (sym ran_is)
-    (subst (λ (interfaces : List Managed). IsRead interfaces (files_in world) (files_of first.result ++ flat_map files_of rest.result) rest.world)
-    (sym (first_of_all (runs_dhcp4 m.conf) m (with_files managed)))
-    (joined (only (runs_dhcp4 m.conf) m) (with_files managed) (files_in world) (files_of first.result) (flat_map files_of rest.result) first.world rest.world
-    (one_read m world) (all_read managed first.world)))
+    let rest : Ran (List Loaded) = run (loading managed) first.world in
+    subst (ReadAll (m ∷ managed) world) (sym (both_ran (loading_one m) (loading managed) (λ one more. one ∷ more) world))
+    (joined (filed_for m) (flat_map filed_for managed) (files_in world) (files_by first.result) (flat_map files_by rest.result) first.world rest.world
+    (iface_read m world) (all_read managed first.world))
+
+abbrev ReadFiles : List Managed → World → Ran FilesLoaded → Type 0
+ReadFiles managed world ran = IsRead (filed_by (duid_with managed ran.result) managed) (files_in world) (files_of managed ran.result) ran.world
+
+pub files_read : (managed : List Managed) (world : World) → ReadFiles managed world (run (loading_files managed) world)
+files_read managed world =
+    let ask : Asks (Option Reading) = reading_if (some_need_duid managed) duid_file in
+    let first : Ran (Option Reading) = run ask world in
+    let rest : Ran (List Loaded) = run (loading managed) first.world in
+    let keeps : Keeps = Duid (duid_with managed (files_loaded first.result rest.result)) in
+    subst (ReadFiles managed world) (sym (both_ran ask (loading managed) files_loaded world))
+    (joined (filed_if (some_need_duid managed) keeps duid_file) (flat_map filed_for managed) (files_in world)
+    (file_with keeps duid_file first.result) (flat_map files_by rest.result) first.world rest.world
+    (one_read (some_need_duid managed) keeps duid_file world) (all_read managed first.world))

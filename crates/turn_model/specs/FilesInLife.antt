@@ -1,9 +1,8 @@
--- The files of leases in a life over devices that tell what they hold and which of their calls fail.
-use Rattle.std.specs.Prelude.{◌≡◌, ◌⊎◌, ℕ, bytes_eq, Bool, true, List, map, filter, flat_map, Option, None}
+-- The files of a life over devices that tell what they hold and which of their calls fail.
+use Rattle.std.specs.Prelude.{◌≡◌, ◌⊎◌, ℕ, bytes_eq, Bool, true, false, List, [], ◌∷◌, ◌++◌, map, flat_map, Option}
 use Rattle.std.specs.List.{AllByRecursion, AllPairs, IsDistinct, list_all}
 use Rattle.net_types.specs.declared.interface.IfSpec.{IfSpec}
 use Rattle.net_types.specs.NameText.{name_text}
-use Rattle.lease_text.specs.Leases.{LeaseContent}
 use Rattle.world.specs.FileLists.{file_name, file_at}
 use Rattle.world.specs.LinkCalls.{Given}
 use Rattle.world.specs.NamedLists.{InNameOrder}
@@ -12,9 +11,10 @@ use Rattle.settings.specs.declared.interfaces.Managed.{Managed}
 use Rattle.settings.specs.Fitting.{AreManaged}
 use Rattle.script_model.specs.Scripts.{Unlike}
 use Rattle.client_model.specs.ClientSettings.{runs_dhcp4}
-use Rattle.client_model.specs.Clients.{kept_lease}
+use Rattle.client_model.specs.ClientSettings6.{runs_dhcp6, some_need_duid}
 use Rattle.device_calls.specs.Calls.{Call, store_call}
-use Rattle.turn_model.specs.LeaseFiles.{Known, Holds, Unknown, Unread, LeaseFile, lease_file_name, content_for}
+use Rattle.turn_model.specs.KeptFiles.{Known, Holds, Unknown, Unread, Keeps, Duid, Lease4, Lease6, KeptFile, wanted_in, is_left}
+use Rattle.turn_model.specs.Loading.{duid_file, lease4_file, lease6_file}
 use Rattle.device_calls.specs.Worlds.{World}
 use Rattle.turn_model.specs.Foretold.{ran_opening, ran_turn, foretold_life}
 use Rattle.turn_model.specs.HostInLife.{Running, running_opened, running_turned, life_run}
@@ -27,12 +27,29 @@ AreNamedApart managed = IsDistinct bytes_eq (map (λ m. name_text m.spec.name) m
 abbrev pub UnlikeAreNamedApart : Type 0
 UnlikeAreNamedApart = (managed : List Managed) → AreManaged managed → AllPairs Unlike (map (λ m. m.spec) managed) → AreNamedApart managed
 
--- the interfaces whose leases are kept in files
-abbrev pub with_files : List Managed → List Managed
-with_files managed = filter (λ m. runs_dhcp4 m.conf) managed
+-- what is filed, and under which name
+pub record Filed : Type 0 where
+  pub keeps : Keeps
+  pub name : List ℕ
+
+abbrev pub filed_if : (is_kept : Bool) → Keeps → (name : List ℕ) → List Filed
+filed_if true keeps name = record { keeps = keeps; name = name } ∷ []
+filed_if false keeps name = []
+
+-- the leases of an interface, each where its protocol runs
+abbrev pub filed_for : Managed → List Filed
+filed_for m =
+    filed_if (runs_dhcp4 m.conf) (Lease4 m.spec.index.number) (lease4_file m) ++ filed_if (runs_dhcp6 m.conf) (Lease6 m.spec.index.number) (lease6_file m)
+
+-- the DUID, where some interface needs it, and the leases
+abbrev pub filed_by : (duid : List ℕ) → List Managed → List Filed
+filed_by duid managed = filed_if (some_need_duid managed) (Duid duid) duid_file ++ flat_map filed_for managed
+
+abbrev pub filed_as : KeptFile → Filed
+filed_as file = record { keeps = file.keeps; name = file.name }
 
 -- what the store reads the file as
-abbrev pub reads : Running → LeaseFile → Option (List ℕ)
+abbrev pub reads : Running → KeptFile → Option (List ℕ)
 reads running file = file_at file.name running.world.store.told.files
 
 -- Where the content of a file is known, this is it.
@@ -41,14 +58,14 @@ KnownTruly (Holds content) reads = reads ≡ content
 KnownTruly Unknown reads = Unit {0}
 KnownTruly Unread reads = Unit {0}
 
--- the lease that the interface of a file keeps
-abbrev pub lease_of : Running → LeaseFile → Option LeaseContent
-lease_of running file = kept_lease file.iface running.life.client.ifaces
+-- what the file is to hold
+abbrev pub wanted_of : Running → KeptFile → Option (List ℕ)
+wanted_of running file = wanted_in running.life.client.ifaces file.keeps
 
--- The file is the text of the kept lease, and there is none without one; or it couldn't be read, and no lease is kept.
-abbrev pub IsAsKept : Running → LeaseFile → Type 0
+-- The file is the text of what it keeps, and there is none where no lease is kept; or it couldn't be read, and is left alone.
+abbrev pub IsAsKept : Running → KeptFile → Type 0
 IsAsKept running file =
-    (reads running file ≡ content_for (lease_of running file)) ⊎ ((file.known ≡ Unread) × (lease_of running file ≡ None))
+    (reads running file ≡ wanted_of running file) ⊎ ((file.known ≡ Unread) × (is_left file.keeps (wanted_of running file) ≡ true))
 
 -- whether a call that is to change files was done
 abbrev pub was_done : StoreCall → Bool
@@ -63,11 +80,11 @@ was_done (SettledFiles done) = done
 abbrev pub all_done : List Call → Bool
 all_done calls = list_all was_done (flat_map store_call calls)
 
--- After these calls there is one file for each such interface, and what is known of it is so; where all changes of files
--- were done, each file is as it is to be.
+-- After these calls the files are those that are to be kept, with one DUID, and what is known of each is so; where all changes
+-- of files were done, each file is as it is to be.
 pub record KeepsFiles (managed : List Managed) (calls : List Call) (after : Running) : Type 0 where
-  pub names : map (λ file. file.name) after.life.files ≡ map lease_file_name (with_files managed)
-  pub ifaces : map (λ file. file.iface) after.life.files ≡ map (λ m. m.spec.index.number) (with_files managed)
+  pub duid : List ℕ
+  pub filed : map filed_as after.life.files ≡ filed_by duid managed
   pub known : AllByRecursion (λ file. KnownTruly file.known (reads after file)) after.life.files
   pub kept : all_done calls ≡ true → AllByRecursion (IsAsKept after) after.life.files
 

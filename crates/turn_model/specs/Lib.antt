@@ -1,4 +1,5 @@
-pub mod LeaseFiles
+pub mod KeptFiles
+pub mod Loading
 pub mod Turns
 pub mod Opening
 pub mod Lives

@@ -1,5 +1,5 @@
 -- The opening of a life: asides are cleared, the files read, and then what the client's opening asks, by the parts of a turn.
-use Rattle.std.specs.Prelude.{ℕ, List, [], ◌∷◌, codes, map, flat_map, Option, Some, None}
+use Rattle.std.specs.Prelude.{ℕ, List, [], ◌∷◌, codes, Option, Some, None}
 use Rattle.net_types.specs.declared.interface.IfSpec.{IfSpec}
 use Rattle.world.specs.declared.wakes.Begin.{Begin}
 use Rattle.settings.specs.declared.interfaces.Managed.{Managed}
@@ -7,7 +7,7 @@ use Rattle.client_model.specs.Clients.{ClientStep, opening}
 use Rattle.machine.specs.Moment.{moment_of}
 use Rattle.device_calls.specs.Calls.{ListAsides, Read, RemoveFile, Settle}
 use Rattle.device_calls.specs.Programs.{Asks, Done, Then, after}
-use Rattle.turn_model.specs.LeaseFiles.{Loaded, loading, files_of, beginning_of}
+use Rattle.turn_model.specs.Loading.{FilesLoaded, loading_files, files_of, beginnings_of}
 use Rattle.turn_model.specs.Turns.{Life, Outlook, acting}
 
 -- each aside is removed, a failed removal stops none; then the removals are settled
@@ -29,16 +29,16 @@ abbrev pub resolver_file : List ℕ
 resolver_file = codes "resolv.conf"
 
 -- nothing is known of the host's rows yet
-abbrev pub outlook_from : List Loaded → Outlook
-outlook_from files = record { known = None; files = flat_map files_of files }
+abbrev pub outlook_from : List Managed → FilesLoaded → Outlook
+outlook_from managed files = record { known = None; files = files_of managed files }
 
 -- the client's opening: `specs` are all interfaces of the host
-abbrev pub opening_step : List Loaded → List IfSpec → Begin → ClientStep
-opening_step files specs begin = opening (map beginning_of files) specs begin
+abbrev pub opening_step : List Managed → FilesLoaded → List IfSpec → Begin → ClientStep
+opening_step managed files specs begin = opening (beginnings_of managed files) specs begin
 
 unfoldable pub opening_asks : List Managed → List IfSpec → Begin → Asks Life
 opening_asks managed specs begin =
     after clearing (λ _.
-    after (loading managed) (λ files.
+    after (loading_files managed) (λ files.
     Then (Read resolver_file) (λ _.
-    acting managed (outlook_from files) (opening_step files specs begin) (moment_of begin.at) None)))
+    acting managed (outlook_from managed files) (opening_step managed files specs begin) (moment_of begin.at) None)))

@@ -14,15 +14,15 @@ use Rattle.host_model.specs.declared.changes.HostChange.{HostChange}
 use Rattle.host_model.specs.HostTurn.{changes, applied}
 use Rattle.device_calls.specs.Calls.{Offer, ListRows, Change}
 use Rattle.device_calls.specs.Programs.{Asks, Done, Then, after}
-use Rattle.turn_model.specs.LeaseFiles.{LeaseFile, keeping, file_retry_at}
+use Rattle.turn_model.specs.KeptFiles.{KeptFile, keeping, file_retry_at}
 
 -- a life between two turns
 pub record Life : Type 0 where
   pub client : Client
   -- the host's rows on managed interfaces, where they are known
   pub known : Option (List HostRow)
-  -- the files of leases
-  pub files : List LeaseFile
+  -- the files that it keeps
+  pub files : List KeptFile
   -- the moment of the last turn, in milliseconds since 1970
   pub now : ℕ
   -- the moment of the stop, once it came
@@ -115,7 +115,7 @@ hosting managed wanted (Some known) = changing (changes known wanted) (Some know
 -- what is known of the outside: of the host's rows, and of the files
 pub record Outlook : Type 0 where
   pub known : Option (List HostRow)
-  pub files : List LeaseFile
+  pub files : List KeptFile
 
 -- what a step of the client asks, by what is known of the outside, and the life then
 abbrev pub acting : List Managed → Outlook → ClientStep → (moment : ℕ) → (stop : Option ℕ) → Asks Life

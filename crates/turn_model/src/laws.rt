@@ -10,10 +10,10 @@ pub fn a_life_holds_the_wanted_rows()
     ensures others_stay { OthersStay }
 {}
 
-/// Law of the files of leases in such a life, over any store whose files stand in order, where no two interfaces have one name:
+/// Law of the files that such a life keeps, over any store whose files stand in order, where no two interfaces have one name:
 /// after the opening and after every turn, whatever fails, what is known of a file is so; and where no call that was to change
-/// files failed in it, whatever failed before, each file is the text of the lease that its interface keeps. There is none
-/// where no lease is kept, unless the opening couldn't read it.
+/// files failed in it, whatever failed before, each file is the text of the DUID, or of the lease that its interface keeps. There is none
+/// where no lease is kept. A file that the opening could not read is left alone until a lease is kept in it.
 pub fn a_life_keeps_its_files()
     ensures opening { OpeningKeepsFiles }
     ensures turns { TurnsKeepFiles }

@@ -108,7 +108,7 @@ abbrev HoldsNone : Step6 → Type 0
 HoldsNone step = holds step.state ≡ false
 
 -- a tick makes no client hold items that doesn't
-start_row : (turn : Turn6) (dates : Dates6) (parting : Parting6) (state : State6) → holds state ≡ false
+pub start_row : (turn : Turn6) (dates : Dates6) (parting : Parting6) (state : State6) → holds state ≡ false
     → HoldsNone (tick_row turn dates parting state)
 start_row turn dates parting Off e = refl
 start_row turn dates parting (Waiting due) e = refl
@@ -153,7 +153,7 @@ asks_of : (b : Bool) (c d : ClientContent) → d.settings ≡ c.settings → (co
 asks_of true c d e = e
 asks_of false c d e = refl
 
-ticked : (c new : ClientContent) (at salt : ℕ) (out : OutContent) → IsTicked at salt c new out → holds new.state ≡ true
+pub ticked : (c new : ClientContent) (at salt : ℕ) (out : OutContent) → IsTicked at salt c new out → holds new.state ≡ true
     → is_over_at at new ≡ false
 ticked c new at salt out goes held =
     let p : Parting6 = parting_at (Lapse at) c in
@@ -234,7 +234,7 @@ kept_rest : (at : ℕ) (kept : Option Lease6Content) (asks : List IaAsk) → is_
 kept_rest at None asks e = none_over at asks
 kept_rest at (Some lease) asks e = (asks_rest at lease.ias asks None e).1
 
-rested : (c : ClientContent) (at : ℕ) → holds c.state ≡ true → is_due (due_of c) at ≡ false → is_over_at at c ≡ false
+pub rested : (c : ClientContent) (at : ℕ) → holds c.state ≡ true → is_due (due_of c) at ≡ false → is_over_at at c ≡ false
 rested c at h e =
     let whole : scope_of c.state ≡ scope.All = all_scope (scope_of c.state) h in
     kept_rest at c.kept c.settings.asks

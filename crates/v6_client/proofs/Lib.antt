@@ -7,3 +7,8 @@ pub mod SaidFits
 pub mod LeaseFits
 pub mod Granting
 pub mod Lapsing
+pub mod CallRuns
+pub mod QuietSteps
+pub mod OwnGrants
+pub mod StayingRuns
+pub mod TimedReplies

@@ -63,7 +63,7 @@ read_all kind (said ∷ saids) lens =
     split (is_read kind said)
     (λ e. rw e (read_net kind said lens.0 e, read_all kind saids lens.1)) (λ e. rw e (read_all kind saids lens.1))
 
-take_all : {X : Type 0} (P : X → Type 0) (n : ℕ) (xs : List X) → AllByRecursion P xs → AllByRecursion P (take n xs)
+pub take_all : {X : Type 0} (P : X → Type 0) (n : ℕ) (xs : List X) → AllByRecursion P xs → AllByRecursion P (take n xs)
 take_all P zero xs all = tt
 take_all P (suc n) [] all = tt
 take_all P (suc n) (x ∷ xs) all = (all.0, take_all P n xs all.1)
@@ -76,7 +76,7 @@ ia_read ia lens =
 
 -- ---- the IAs of a message
 
-cons_all : {X : Type 0} (P : X → Type 0) (o : Option X) (xs : List X) → IfSome o P → AllByRecursion P xs → AllByRecursion P (cons_option o xs)
+pub cons_all : {X : Type 0} (P : X → Type 0) (o : Option X) (xs : List X) → IfSome o P → AllByRecursion P xs → AllByRecursion P (cons_option o xs)
 cons_all P None xs here all = all
 cons_all P (Some x) xs here all = (here, all)
 

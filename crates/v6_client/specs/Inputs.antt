@@ -36,7 +36,8 @@ off_row turn = rests turn Off
 
 -- Another host uses a held address: DECLINE, in a new exchange.
 abbrev pub contested : Turn6 → Parting6 → State6 → Step6
-contested turn parting state = if parting.goes then record (declines turn) { keep = keep_by parting } else rests turn state
+contested turn parting state =
+    if parting.goes then record (declines turn) { keep = keep_by parting; news = news.Changed } else rests turn state
 
 abbrev pub duplicate_row : Turn6 → Parting6 → State6 → Step6
 duplicate_row turn parting Off = rests turn Off

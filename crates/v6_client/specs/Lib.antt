@@ -21,3 +21,8 @@ pub mod Rests
 pub mod Bounds
 pub mod Sound
 pub mod Laws
+pub mod Runs
+pub mod RunLaws
+pub mod QuietLaws
+pub mod OwnLeases
+pub mod RunsStay

@@ -48,6 +48,7 @@ is_of_held news.Bound = false
 is_of_held news.Reboot = false
 is_of_held news.Renew = true
 is_of_held news.Rebind = true
+is_of_held news.Changed = false
 is_of_held news.Expire = true
 is_of_held news.Stop = true
 

@@ -88,9 +88,18 @@ is_last parting = parting.goes && not parting.stays
 abbrev pub keep_by : Parting6 → Keep6
 keep_by parting = if is_last parting then Clears else Stays
 
+-- a change of the kept lease is news where there is no other
+abbrev pub news_or_changed : News6 → News6
+news_or_changed news.Nothing = news.Changed
+news_or_changed told = told
+
+-- where items go, a step tells it
+abbrev pub tells_parting : Parting6 → Step6 → Step6
+tells_parting parting step = if parting.goes then record step { news = news_or_changed step.news } else step
+
 -- no item is left: servers are looked for anew, and none is kept
 abbrev pub loses : Turn6 → Step6
-loses turn = record (to_waiting turn) { keep = Clears }
+loses turn = record (to_waiting turn) { keep = Clears; news = news.Changed }
 
 -- no item is held any more
 abbrev pub expires : Turn6 → Step6

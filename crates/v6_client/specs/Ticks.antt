@@ -11,7 +11,7 @@ use Rattle.v6_client.specs.declared.states.State6.TheVariants.{Off, Waiting, Sol
 use Rattle.v6_client.specs.declared.states.Step6.{Step6}
 use Rattle.v6_client.specs.declared.turn.Turn6.{Turn6}
 use Rattle.v6_client.specs.Exchanges.{again, is_again_due, is_used_up, solicit_parameters}
-use Rattle.v6_client.specs.Steps.{rests, to_waiting, soliciting, solicits, requesting, requests, renewing, renews, rebinding, rebinds, restarting, declining, is_last, keep_by, loses, expires}
+use Rattle.v6_client.specs.Steps.{rests, to_waiting, soliciting, solicits, requesting, requests, renewing, renews, rebinding, rebinds, restarting, declining, is_last, keep_by, tells_parting, loses, expires}
 
 -- an Advertise is kept: REQUEST; else SOLICIT again
 abbrev pub soliciting_tick : Turn6 → Exchange6 → Option ℕ → Step6
@@ -75,11 +75,11 @@ tick_row turn dates parting (Waiting due) = solicits turn
 tick_row turn dates parting (Soliciting exchange offer) = soliciting_tick turn exchange offer
 -- REQUEST again; SOLICIT anew after the last one.
 tick_row turn dates parting (Requesting exchange) = requesting_tick turn exchange
--- Items are held: T2, then T1, then the message again.
-tick_row turn dates parting Bound = bound_tick turn dates parting
-tick_row turn dates parting (Renewing exchange) = renewing_tick turn dates parting exchange
-tick_row turn dates parting (Rebinding exchange) = rebinding_tick turn parting exchange
+-- Items are held: T2, then T1, then the message again. Items that are over go, which is told in each such state.
+tick_row turn dates parting Bound = tells_parting parting (bound_tick turn dates parting)
+tick_row turn dates parting (Renewing exchange) = tells_parting parting (renewing_tick turn dates parting exchange)
+tick_row turn dates parting (Rebinding exchange) = tells_parting parting (rebinding_tick turn parting exchange)
 -- The kept items are asked for again until the end.
 tick_row turn dates parting (Restarting exchange end since) = restarting_tick turn parting exchange end since
 -- DECLINE again; after the last one what is left is held.
-tick_row turn dates parting (Declining exchange) = declining_tick turn parting exchange
+tick_row turn dates parting (Declining exchange) = tells_parting parting (declining_tick turn parting exchange)

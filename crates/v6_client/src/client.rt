@@ -413,6 +413,13 @@ pub fn rebind6(c: &mut Client6, at: u64, salt: u64) -> Result<Out6, NoMemory>
     c.go(step, None)
 }
 
+/// The DUID that the client says, and that messages to it name.
+pub fn duid6(c: &Client6) -> &Duid
+    ensures { result.now.bytes.items ≡ c.now.settings.duid }
+{
+    &c.set.duid
+}
+
 /// The lease that is held.
 pub fn held6(c: &Client6) -> Option<&Lease6>
     ensures value { option_map (λ lease. lease6_content lease.now) result ≡ held_of c.now }

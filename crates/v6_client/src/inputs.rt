@@ -54,6 +54,7 @@ fn contested(turn: Turn6, parting: Parting6, state: State6) -> Step6
     if parting.goes {
         return Step6 {
             keep: keep_by(parting),
+            news: News6::Changed,
             ..declines(turn)
         };
     }

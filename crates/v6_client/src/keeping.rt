@@ -19,7 +19,7 @@ fn is_of_held(news: News6) -> bool
     ensures { result ≡ is_of_held news }
 {
     match news {
-        News6::Nothing | News6::Bound | News6::Reboot => false,
+        News6::Nothing | News6::Bound | News6::Reboot | News6::Changed => false,
         News6::Renew | News6::Rebind | News6::Expire | News6::Stop => true,
     }
 }

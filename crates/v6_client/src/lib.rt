@@ -27,10 +27,14 @@ mod turn;
 mod xid;
 
 pub use client::{
-    Client6, Out6, carrier6, client6_new, duplicate6, heard6, held6, kept6, rebind6, release6,
+    Client6, Out6, carrier6, client6_new, duid6, duplicate6, heard6, held6, kept6, rebind6,
+    release6,
 };
 pub use exchange::Exchange6;
-pub use laws::{holds_nothing_over6, ignores_foreign6, keeps_granted6};
+pub use laws::{
+    calls_run6, holds_nothing_over6, holds_own_ias6, ignores_foreign6, keeps_granted6,
+    quiet_steps_keep6, stays_sound6,
+};
 pub use leases::Plea6;
 pub use renewing::Spans6;
 pub use settings::{IaAsk, Set6, Site6};

@@ -56,6 +56,8 @@ pub enum News6 {
     Renew,
     /// They were extended by some server.
     Rebind,
+    /// The kept lease changed, and no other news tells it: some of its items went, or it isn't kept any more.
+    Changed,
     /// None is held any more.
     Expire,
     /// None is held any more, since the client stops.

@@ -206,6 +206,35 @@ pub(crate) fn keep_by(parting: Parting6) -> Keep6
     }
 }
 
+/// A change of the kept lease is news where there is no other.
+fn news_or_changed(news: News6) -> News6
+    ensures { result ≡ steps.news_or_changed news }
+{
+    match news {
+        News6::Nothing => News6::Changed,
+        News6::Bound
+        | News6::Reboot
+        | News6::Renew
+        | News6::Rebind
+        | News6::Changed
+        | News6::Expire
+        | News6::Stop => news,
+    }
+}
+
+/// Where items go, the step tells it.
+pub(crate) fn tells_parting(parting: Parting6, step: Step6) -> Step6
+    ensures { result ≡ steps.tells_parting parting step }
+{
+    if parting.goes {
+        return Step6 {
+            news: news_or_changed(step.news),
+            ..step
+        };
+    }
+    step
+}
+
 /// No item is left: servers are looked for anew, and none is kept.
 pub(crate) fn loses(turn: Turn6) -> Step6
     requires { FitsTurn turn }
@@ -213,6 +242,7 @@ pub(crate) fn loses(turn: Turn6) -> Step6
 {
     Step6 {
         keep: Keep6::Clears,
+        news: News6::Changed,
         ..to_waiting(turn)
     }
 }

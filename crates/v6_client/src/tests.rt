@@ -1,5 +1,6 @@
 use crate::{
     Carrier6, Client6, IaAsk, News6, Out6, Set6, carrier6, client6_new, duplicate6, heard6, held6,
+    kept6,
 };
 use machine::Machine;
 use net_types::{IfIndex, IfSpec, Ip6, Mac, NoMemory, read_name};
@@ -25,6 +26,18 @@ const OPTIONS: [u8; 44] = [
     0, 5, 0, 24, // the code and the length
     0x20, 1, 0xd, 0xb8, 0, 0, 0, 0, 0, 0, 0, 0, 0, 0, 0, 0x50, // the address
     0, 0, 0x0b, 0xb8, 0, 0, 0x17, 0x70, // 3,000 and 6,000 seconds
+];
+
+/// An IA_NA with that address and the next one, whose lifetimes are shorter. It isn't renewed or rebound.
+const TWO_ADDRESSES: [u8; 72] = [
+    0, 3, 0, 68, 0, 0, 0, 1, // the code, the length and the IAID
+    0xff, 0xff, 0xff, 0xff, 0xff, 0xff, 0xff, 0xff, // T1 and T2
+    0, 5, 0, 24, // the code and the length
+    0x20, 1, 0xd, 0xb8, 0, 0, 0, 0, 0, 0, 0, 0, 0, 0, 0, 0x50, // the address
+    0, 0, 0x0b, 0xb8, 0, 0, 0x17, 0x70, // 3,000 and 6,000 seconds
+    0, 5, 0, 24, // the code and the length
+    0x20, 1, 0xd, 0xb8, 0, 0, 0, 0, 0, 0, 0, 0, 0, 0, 0, 0x51, // the address
+    0, 0, 0x03, 0xe8, 0, 0, 0x07, 0xd0, // 1,000 and 2,000 seconds
 ];
 
 /// A client of interface 1 that asks for an address without the first delay.
@@ -54,7 +67,7 @@ fn client(alloc: Global) -> Result<Client6, Fail> {
 }
 
 /// A message of the server.
-fn message<'a>(kind: ServerKind6, xid: u32, preference: u8) -> Msg6<'a> {
+fn message<'a>(kind: ServerKind6, xid: u32, preference: u8, options: &'a [u8]) -> Msg6<'a> {
     Msg6 {
         kind,
         xid,
@@ -66,7 +79,7 @@ fn message<'a>(kind: ServerKind6, xid: u32, preference: u8) -> Msg6<'a> {
         sol_max: None,
         dns: &[],
         search: &[],
-        options: &OPTIONS,
+        options,
     }
 }
 
@@ -109,22 +122,24 @@ fn says(at: u64, input: Input, kind: Kind6, xid: u32, items: usize, due: u64) ->
     }
 }
 
-fn does(c: &mut Client6, at: u64, input: Input) -> Result<Out6, NoMemory> {
+/// `options` are those of the server's messages.
+fn does(c: &mut Client6, at: u64, input: Input, options: &[u8]) -> Result<Out6, NoMemory> {
     match input {
         Input::Up => carrier6(c, Carrier6::Up, at, 0),
         Input::Tick => c.tick(at, 0),
         Input::Advertise(preference) => {
-            heard6(c, &message(ServerKind6::Advertise, 1, preference), at, 0)
+            let advertise = message(ServerKind6::Advertise, 1, preference, options);
+            heard6(c, &advertise, at, 0)
         }
-        Input::Reply => heard6(c, &message(ServerKind6::Reply, 2, 0), at, 0),
+        Input::Reply => heard6(c, &message(ServerKind6::Reply, 2, 0, options), at, 0),
         Input::Duplicate => duplicate6(c, ADDRESS, at, 0),
     }
 }
 
 /// The client does what the rows say, one after another.
-fn follows(rt: &impl Abort, c: &mut Client6, rows: &[Row]) -> Result<(), Fail> {
+fn follows(rt: &impl Abort, c: &mut Client6, options: &[u8], rows: &[Row]) -> Result<(), Fail> {
     for row in rows {
-        let out = does(c, row.at, row.input)?;
+        let out = does(c, row.at, row.input, options)?;
         let said = out.say.map(|said| {
             let items = said.ias.first().map(|ia| ia.items.len());
             (said.kind, said.xid, items)
@@ -149,7 +164,7 @@ fn an_address_is_acquired_and_renewed(rt: HostRuntime) -> Result<(), Fail> {
         says(1_500_600, Input::Tick, Kind6::Renew, 1, 1, 1_509_610),
         says(1_509_610, Input::Tick, Kind6::Renew, 1, 1, 1_526_738),
     ];
-    follows(&rt, &mut c, &rows)?;
+    follows(&rt, &mut c, &OPTIONS, &rows)?;
     assert!(rt; held6(&c).is_some());
     Ok(())
 }
@@ -164,9 +179,39 @@ fn an_address_in_use_is_declined(rt: HostRuntime) -> Result<(), Fail> {
         // after a second SOLICIT any Advertise is taken
         says(1100, Input::Advertise(0), Kind6::Request, 2, 1, 2001),
         quiet(1200, Input::Reply, News6::Bound, 1_501_200),
-        says(1300, Input::Duplicate, Kind6::Decline, 1, 1, 2201),
+        Row {
+            news: News6::Changed,
+            ..says(1300, Input::Duplicate, Kind6::Decline, 1, 1, 2201)
+        },
     ];
-    follows(&rt, &mut c, &rows)?;
+    follows(&rt, &mut c, &OPTIONS, &rows)?;
+    assert!(rt; held6(&c).is_none());
+    Ok(())
+}
+
+/// How many items the first IA of the kept lease has.
+fn kept_items(c: &Client6) -> Option<usize> {
+    let lease = kept6(c)?;
+    let ia = lease.ias.first()?;
+    Some(ia.items.len())
+}
+
+#[test]
+fn an_address_that_is_over_goes(rt: HostRuntime) -> Result<(), Fail> {
+    let mut c = client(rt.alloc())?;
+    let rows = [
+        quiet(0, Input::Up, News6::Nothing, 1),
+        says(1, Input::Tick, Kind6::Solicit, 1, 0, 1003),
+        says(500, Input::Advertise(255), Kind6::Request, 2, 2, 1401),
+        quiet(600, Input::Reply, News6::Bound, 2_000_600),
+    ];
+    follows(&rt, &mut c, &TWO_ADDRESSES, &rows)?;
+    assert_eq!(rt; kept_items(&c), Some(2));
+    let rows = [quiet(2_000_600, Input::Tick, News6::Changed, 6_000_600)];
+    follows(&rt, &mut c, &TWO_ADDRESSES, &rows)?;
+    assert_eq!(rt; kept_items(&c), Some(1));
+    let rows = [quiet(6_000_600, Input::Tick, News6::Expire, 6_000_601)];
+    follows(&rt, &mut c, &TWO_ADDRESSES, &rows)?;
     assert!(rt; held6(&c).is_none());
     Ok(())
 }

@@ -9,7 +9,7 @@ use crate::exchange::{Exchange6, solicit_parameters};
 use crate::states::{Dates6, Parting6, State6, Step6};
 use crate::steps::{
     declining, expires, is_last, keep_by, loses, rebinding, rebinds, renewing, renews, requesting,
-    requests, restarting, rests, soliciting, solicits, to_waiting,
+    requests, restarting, rests, soliciting, solicits, tells_parting, to_waiting,
 };
 use crate::times::earlier;
 use crate::turn::Turn6;
@@ -189,10 +189,14 @@ pub(crate) fn tick_row(turn: Turn6, dates: Dates6, parting: Parting6, state: Sta
         State6::Soliciting { exchange, offer } => soliciting_tick(turn, exchange, offer),
         // REQUEST again; SOLICIT anew after the last one
         State6::Requesting { exchange } => requesting_tick(turn, exchange),
-        // items are held: T2, then T1, then the message again
-        State6::Bound => bound_tick(turn, dates, parting),
-        State6::Renewing { exchange } => renewing_tick(turn, dates, parting, exchange),
-        State6::Rebinding { exchange } => rebinding_tick(turn, parting, exchange),
+        // items are held: T2, then T1, then the message again; items that are over go
+        State6::Bound => tells_parting(parting, bound_tick(turn, dates, parting)),
+        State6::Renewing { exchange } => {
+            tells_parting(parting, renewing_tick(turn, dates, parting, exchange))
+        }
+        State6::Rebinding { exchange } => {
+            tells_parting(parting, rebinding_tick(turn, parting, exchange))
+        }
         // the kept items are asked for again until the end
         State6::Restarting {
             exchange,
@@ -200,6 +204,8 @@ pub(crate) fn tick_row(turn: Turn6, dates: Dates6, parting: Parting6, state: Sta
             since,
         } => restarting_tick(turn, parting, exchange, end, since),
         // DECLINE again; after the last one what is left is held
-        State6::Declining { exchange } => declining_tick(turn, parting, exchange),
+        State6::Declining { exchange } => {
+            tells_parting(parting, declining_tick(turn, parting, exchange))
+        }
     }
 }

@@ -10,14 +10,14 @@ use Rattle.conf_text.proofs.managing.settings_for.Goals as goal
 
 pub returns-in-Some : goal.returns-in-Some
 returns-in-Some c = ok_then c.in_force.result
-    (λ settings is. is ∙ ap (λ (o : Option BlockContent). in_force (scope_content c.args.conf.now.global) (unwrap_or (option_map (λ (b : BlockContent). b.scope) o) (scope_of []))) c.in-Some.ensures
-    ∙ ap (λ (blocks : List Block). in_force (scope_content c.args.conf.now.global) (scope_for (map block_content blocks) c.args.name.now)) c.deref.ensures.value)
+    (λ settings is. is ∙ ap (λ (o : Option BlockContent). in_force c.args.spec.now.index.number (scope_content c.args.conf.now.global) (unwrap_or (option_map (λ (b : BlockContent). b.scope) o) (scope_of []))) c.in-Some.ensures
+    ∙ ap (λ (blocks : List Block). in_force c.args.spec.now.index.number (scope_content c.args.conf.now.global) (scope_for (map block_content blocks) c.args.spec.now.name)) c.deref.ensures.value)
     c.in_force.ensures
 
 pub returns-in-None : goal.returns-in-None
 returns-in-None c = ok_then c.in_force-in-None.result
     (λ settings is. is
-    ∙ ap (in_force (scope_content c.args.conf.now.global)) c.empty.ensures
-    ∙ ap (λ (o : Option BlockContent). in_force (scope_content c.args.conf.now.global) (unwrap_or (option_map (λ (b : BlockContent). b.scope) o) (scope_of []))) c.in-None.ensures
-    ∙ ap (λ (blocks : List Block). in_force (scope_content c.args.conf.now.global) (scope_for (map block_content blocks) c.args.name.now)) c.deref.ensures.value)
+    ∙ ap (in_force c.args.spec.now.index.number (scope_content c.args.conf.now.global)) c.empty.ensures
+    ∙ ap (λ (o : Option BlockContent). in_force c.args.spec.now.index.number (scope_content c.args.conf.now.global) (unwrap_or (option_map (λ (b : BlockContent). b.scope) o) (scope_of []))) c.in-None.ensures
+    ∙ ap (λ (blocks : List Block). in_force c.args.spec.now.index.number (scope_content c.args.conf.now.global) (scope_for (map block_content blocks) c.args.spec.now.name)) c.deref.ensures.value)
     c.in_force-in-None.ensures

@@ -1,24 +1,23 @@
-use Rattle.std.proofs.Common.{None, Some, refl, ap, ◌∙◌}
-use Rattle.std.specs.Prelude.{option_to_list}
+use Rattle.std.proofs.Common.{ℕ, List, ap, ap₂, ◌++◌, ◌∙◌}
+use Rattle.std.specs.Prelude.{option_map}
 use Rattle.lease_file.specs.FileReads.{got_reading}
-use Rattle.settings.specs.declared.interfaces.Managed.{Managed}
-use Rattle.turn_model.specs.LeaseFiles.{loaded, beginning_of}
-use Rattle.daemon.proofs.LoadedFiles.{loads_none, loads_some}
+use Rattle.turn_model.specs.KeptFiles.{KeptFile, Lease4, Lease6}
+use Rattle.turn_model.specs.Loading.{loaded, file_with}
+use Rattle.daemon.proofs.LoadedFiles.{loads_one}
 use Rattle.daemon.proofs.files.load_one.Goals as goal
 
-pub returns-then-not-runs_dhcp4-clause-loads : goal.returns-then-not-runs_dhcp4-clause-loads
-returns-then-not-runs_dhcp4-clause-loads g c = record {
-  loaded = loaded c.args.managed.now None;
-  does = loads_none c.args.managed.now c.runs_dhcp4.result _ _ c.runs_dhcp4.ensures c.if-not-runs_dhcp4.true;
-  beginning_is = ap (λ (m : Managed). beginning_of (loaded m None)) c.in_ok-to_owned.ensures;
-  file_is = refl;
-}
-
 pub returns-clause-loads : goal.returns-clause-loads
-returns-clause-loads g c = record {
-  loaded = loaded c.args.managed.now (Some (got_reading c.in_ok-got.got));
-  does = loads_some c.args.managed.now c.runs_dhcp4.result c.deref.result.now (got_reading c.in_ok-got.got) _ _ _ _ c.runs_dhcp4.ensures c.if-not-runs_dhcp4.false
-      (c.deref.ensures ∙ c.in_ok-name.ensures.name) c.in_ok-got.ensures.does;
-  beginning_is = c.in_ok-one.ensures.beginning;
-  file_is = ap option_to_list c.in_ok-one.ensures.file;
-}
+returns-clause-loads g c =
+    let managed = c.args.managed.now in
+    let lease4 = option_map got_reading c.in_ok-lease4.lease4 in
+    let lease6 = option_map got_reading c.in_ok-lease6.lease6 in
+    record {
+      loaded = loaded managed lease4 lease6;
+      does = loads_one managed c.runs_dhcp4-runs4.result c.runs_dhcp6-runs6.result c.deref.result.now c.deref-2.result.now lease4 lease6 _ _ _ _ _ _
+          c.runs_dhcp4-runs4.ensures c.runs_dhcp6-runs6.ensures (c.deref.ensures ∙ c.in_ok-name4.ensures.name) (c.deref-2.ensures ∙ c.in_ok-name6.ensures.name)
+          c.in_ok-lease4.ensures.does c.in_ok-lease6.ensures.does;
+      beginning_is = c.in_ok-beginning.ensures.is;
+      files_are = ap₂ (λ (a b : List KeptFile). a ++ b)
+          (c.file_with.ensures ∙ ap (λ (name : List ℕ). file_with (Lease4 managed.spec.index.number) name lease4) c.in_ok-name4.ensures.name)
+          (c.file_with-2.ensures ∙ ap (λ (name : List ℕ). file_with (Lease6 managed.spec.index.number) name lease6) c.in_ok-name6.ensures.name);
+    }

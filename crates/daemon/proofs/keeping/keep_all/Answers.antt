@@ -1,7 +1,6 @@
 use Rattle.std.proofs.Common.{List, sym, ap, subst, ◌∙◌, length}
-use Rattle.std.specs.Global.{Vec}
 use Rattle.device_calls.specs.Does.{Does}
-use Rattle.turn_model.specs.LeaseFiles.{LeaseFile, keeping}
+use Rattle.turn_model.specs.KeptFiles.{KeptFile, keeping}
 use Rattle.daemon.specs.Keeping.{AreKept, AreKeptBut}
 use Rattle.daemon.proofs.KeptFiles.{stays_in_place}
 use Rattle.daemon.proofs.keeping.keep_all.Goals as goal
@@ -11,9 +10,9 @@ keep_each-requires g c = subst (AreKeptBut c.args.touched c.args.core.now.ifaces
 
 pub returns-clause-does : goal.returns-clause-does
 returns-clause-does g c =
-    subst (λ (files : List LeaseFile). Does (keeping c.args.core.now.ifaces c.args.files.items) files (g.W.Outside.seen c.args.outside.now) (g.W.Outside.seen c.keep_each.new.outside) c.args.text.now.items c.keep_each.new.text.items)
+    subst (λ (files : List KeptFile). Does (keeping c.args.core.now.ifaces c.args.files.items) files (g.W.Outside.seen c.args.outside.now) (g.W.Outside.seen c.keep_each.new.outside) c.args.text.now.items c.keep_each.new.text.items)
     (sym (stays_in_place c.args.files c.keep_each.new.files (c.in_ok-keep_each.ensures.count ∙ ap length c.deref_mut.ensures.value)))
-    (subst (λ (files : List LeaseFile). Does (keeping c.args.core.now.ifaces files) c.keep_each.new.files (g.W.Outside.seen c.args.outside.now) (g.W.Outside.seen c.keep_each.new.outside) c.args.text.now.items c.keep_each.new.text.items)
+    (subst (λ (files : List KeptFile). Does (keeping c.args.core.now.ifaces files) c.keep_each.new.files (g.W.Outside.seen c.args.outside.now) (g.W.Outside.seen c.keep_each.new.outside) c.args.text.now.items c.keep_each.new.text.items)
     c.deref_mut.ensures.value c.in_ok-keep_each.ensures.does)
 
 pub returns-clause-kept : goal.returns-clause-kept

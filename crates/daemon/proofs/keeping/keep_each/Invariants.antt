@@ -1,15 +1,14 @@
 use Rattle.std.proofs.Common.{ℕ, ◌≡◌, List, ◌++◌, take, drop, length}
-use Rattle.std.specs.List.{AllByRecursion}
 use Rattle.device_calls.specs.Worlds.{Seen}
 use Rattle.device_calls.specs.Does.{Does}
-use Rattle.turn_model.specs.LeaseFiles.{LeaseFile, keeping}
+use Rattle.turn_model.specs.KeptFiles.{KeptFile, keeping}
 use Rattle.daemon.specs.Keeping.{AreKept, AreKeptBut}
 use Rattle.daemon.proofs.keeping.keep_each.Given as goal
 
 abbrev pub invariant-loop-file : goal.invariant-loop-file
 invariant-loop-file g l = record {
   -- what the rest does, and this before it, all do
-  so_far : (rest : List LeaseFile) (new : Seen) (text : List ℕ)
+  so_far : (rest : List KeptFile) (new : Seen) (text : List ℕ)
       → Does (keeping l.core.ifaces (drop l.file-index l.files)) rest (g.W.Outside.seen l.outside) new l.text.items text
       → Does (keeping l.core.ifaces l.initial.files) (take l.file-index l.files ++ rest) (g.W.Outside.seen l.initial.outside) new l.initial.text.items text;
   count : length l.files ≡ length l.initial.files;

@@ -1,4 +1,4 @@
-use Rattle.std.proofs.Common.{ℕ, ◌≡◌, ◌∷◌, List, sym, ap, subst, ◌∙◌, take, drop, length, ◌-◌}
+use Rattle.std.proofs.Common.{ℕ, ◌≡◌, ◌∷◌, sym, ap, subst, ◌∙◌, take, drop, length, ◌-◌}
 use Rattle.std.specs.Prelude.{map}
 use Rattle.iface_core.specs.declared.outs.Sending.{Sending}
 use Rattle.iface_core.specs.Outcomes.{sending_of}

@@ -1,5 +1,4 @@
-use Rattle.std.proofs.Common.{ℕ, ◌≤◌, sym, ap, subst, ◌∙◌, take, arith}
-use Rattle.device_calls.specs.Worlds.{Waiting}
+use Rattle.std.proofs.Common.{sym, ap, ◌∙◌, take}
 use Rattle.turn_model.specs.Lives.{met_with}
 use Rattle.daemon.specs.declared.serving.ServeEnd.TheVariants as ends
 use Rattle.daemon.specs.Lives.{life_of}

@@ -1,6 +1,5 @@
-use Rattle.std.proofs.Common.{◌≡◌, ℕ, ◌<◌, ◌^◌, subst, arith}
+use Rattle.std.proofs.Common.{ℕ, subst}
 use Rattle.std.proofs.lemmas.Result.{on_ok_weaker}
-use Rattle.machine.specs.Moment.{moment_of}
 use Rattle.v4_frames.specs.Heard.{heard_shown}
 use Rattle.v4_client.specs.Calls.{brought, heard_step}
 use Rattle.v4_client.specs.Clients.{ClientContent, OutContent, out_content}
@@ -8,12 +7,8 @@ use Rattle.v4_client.specs.Messages.{Arrival}
 use Rattle.v4_client.specs.Moves.{IsStep4}
 use Rattle.client_model.specs.Dhcp4Steps.{arrival_at}
 use Rattle.iface_core.specs.Outcomes.{asked_in}
-use Rattle.iface_core.proofs.Following.{goes_dhcp4}
+use Rattle.iface_core.proofs.Following.{as_told, goes_dhcp4}
 use Rattle.iface_core.proofs.dhcp4.hear_message.Goals as goal
-
--- a moment within the range is told as it is
-as_told : (at : ℕ) → at < 10 ^ 15 → moment_of at ≡ at
-as_told at h = grind (arith, h)
 
 pub returns : goal.returns
 returns c =

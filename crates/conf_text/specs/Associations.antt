@@ -1,0 +1,27 @@
+-- Which identity associations are asked for on an interface (RFC 8415, section 12).
+use Rattle.std.specs.Prelude.{ℕ, Bool, not, ◌&&◌, ◌||◌, ◌==◌, List, [], ◌∷◌, map, unwrap_or}
+use Rattle.std.specs.List.{filter, list_any}
+use Rattle.std.specs.Option.{is_some}
+use Rattle.settings.specs.declared.dhcp6_conf.IaConf.{IaConf}
+use Rattle.conf_directives.specs.Contents.{IaContent}
+use Rattle.conf_text.specs.Limits.{is_ia, is_same_kind}
+
+-- one whose IAID isn't written has the interface's index
+abbrev pub ia_with : (index : ℕ) → IaContent → IaConf
+ia_with index ia = record { kind = ia.kind; iaid = unwrap_or ia.iaid index; hint = ia.hint }
+
+-- one whose IAID isn't written goes where the index is written as the IAID of another of its kind, before or after it
+abbrev pub is_kept : (index : ℕ) → (lines : List IaContent) → IaContent → Bool
+is_kept index lines ia = is_some ia.iaid || not (list_any (is_ia ia.kind index) lines)
+
+abbrev pub is_same_ia : IaConf → IaConf → Bool
+is_same_ia one other = is_same_kind one.kind other.kind && one.iaid == other.iaid
+
+-- of those that are the same the first
+abbrev pub each_once : List IaConf → List IaConf
+each_once [] = []
+each_once (ia ∷ ias) = ia ∷ filter (λ other. not (is_same_ia ia other)) (each_once ias)
+
+-- lines of `ia_na` and `ia_pd` come to these, in their order
+abbrev pub ias_of : (index : ℕ) → (lines : List IaContent) → List IaConf
+ias_of index lines = each_once (map (ia_with index) (filter (is_kept index lines) lines))

@@ -1,0 +1,79 @@
+//! The DHCPv4 leases that files keep.
+ghost use Rattle.std.specs.Prelude.{◌≡◌, IfOk, IfSome, option_and_then, option_map};
+ghost use Rattle.lease_file.specs.FileReads.{got_reading};
+ghost use Rattle.lease_text.specs.Bounds.{FitsLease};
+ghost use Rattle.lease_text.specs.Leases.{lease_content};
+ghost use Rattle.client_model.specs.KeptLeases.{lease_spelled, own_lease, kept_by};
+
+use crate::names::is_same;
+use client_model::kept_texts_are_leases;
+use lease_file::Got;
+use lease_text::{Lease4, read_lease4};
+use net_types::{Name, NoMemory, TextFault};
+use std::alloc::Global;
+
+/// The lease that a text spells.
+#[tactic(auto, using(crate::proofs::SpelledLeases::spelled_some, crate::proofs::SpelledLeases::spelled_none, crate::proofs::SpelledLeases::spelled_fits))]
+fn lease_of(alloc: Global, text: &[u8]) -> Result<Option<Lease4>, NoMemory>
+    ensures lease { IfOk result (λ lease. option_map lease_content lease ≡ lease_spelled text.now) }
+    ensures fits { IfOk result (λ lease. IfSome (option_map lease_content lease) FitsLease) }
+{
+    kept_texts_are_leases();
+    match read_lease4(alloc, text) {
+        Ok(lease) => Ok(Some(lease)),
+        Err(TextFault::Bad { .. }) => Ok(None),
+        Err(TextFault::NoMemory) => Err(NoMemory),
+    }
+}
+
+/// A lease of this interface. That of another counts as none.
+fn own_lease(name: &Name, lease: Lease4) -> Option<Lease4>
+    requires { FitsLease (lease_content lease) }
+    ensures own { option_map lease_content result ≡ own_lease name.now (lease_content lease) }
+    ensures fits { IfSome (option_map lease_content result) FitsLease }
+{
+    if is_same(&lease.name, name) {
+        Some(lease)
+    } else {
+        None
+    }
+}
+
+/// The lease that the text of a file keeps for an interface.
+#[tactic(auto, using(crate::proofs::SpelledLeases::none_kept, crate::proofs::SpelledLeases::one_kept))]
+fn kept_in(alloc: Global, name: &Name, text: &[u8]) -> Result<Option<Lease4>, NoMemory>
+    ensures kept { IfOk result (λ kept. option_map lease_content kept ≡ option_and_then (own_lease name.now) (lease_spelled text.now)) }
+    ensures fits { IfOk result (λ kept. IfSome (option_map lease_content kept) FitsLease) }
+{
+    match lease_of(alloc, text)? {
+        None => Ok(None),
+        Some(lease) => Ok(own_lease(name, lease)),
+    }
+}
+
+/// The lease that a file keeps for an interface. One that isn't there, couldn't be read, or has another text keeps none.
+fn kept_by(alloc: Global, name: &Name, got: &Got) -> Result<Option<Lease4>, NoMemory>
+    ensures kept { IfOk result (λ kept. option_map lease_content kept ≡ kept_by name.now (got_reading got.now)) }
+    ensures fits { IfOk result (λ kept. IfSome (option_map lease_content kept) FitsLease) }
+{
+    match got {
+        Got::Text(text) => kept_in(alloc, name, text),
+        Got::Missing => Ok(None),
+        Got::Unread => Ok(None),
+    }
+}
+
+/// The lease with which an interface begins, by what reading its file gave. Nothing is read where DHCPv4 doesn't run.
+pub fn first_lease(
+    alloc: Global,
+    name: &Name,
+    read: &Option<Got>,
+) -> Result<Option<Lease4>, NoMemory>
+    ensures kept { IfOk result (λ kept. option_map lease_content kept ≡ option_and_then (kept_by name.now) (option_map got_reading read.now)) }
+    ensures fits { IfOk result (λ kept. IfSome (option_map lease_content kept) FitsLease) }
+{
+    match read {
+        Some(got) => kept_by(alloc, name, got),
+        None => Ok(None),
+    }
+}

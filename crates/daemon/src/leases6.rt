@@ -1,0 +1,79 @@
+//! The DHCPv6 leases that files keep.
+ghost use Rattle.std.specs.Prelude.{◌≡◌, IfOk, IfSome, option_and_then, option_map};
+ghost use Rattle.lease_file.specs.FileReads.{got_reading};
+ghost use Rattle.lease6_text.specs.Bounds.{HasText6};
+ghost use Rattle.lease6_text.specs.Leases.{lease6_content};
+ghost use Rattle.client_model.specs.KeptLeases6.{lease6_spelled, own_lease6, kept6_by};
+
+use crate::names::is_same;
+use client_model::kept_texts_are_leases6;
+use lease_file::Got;
+use lease6_text::{Lease6, read_lease6};
+use net_types::{Name, NoMemory, TextFault};
+use std::alloc::Global;
+
+/// The lease that a text spells.
+#[tactic(auto, using(crate::proofs::SpelledLeases6::spelled_some6, crate::proofs::SpelledLeases6::spelled_none6, crate::proofs::SpelledLeases6::spelled_fits6))]
+fn lease_of(alloc: Global, text: &[u8]) -> Result<Option<Lease6>, NoMemory>
+    ensures lease { IfOk result (λ lease. option_map lease6_content lease ≡ lease6_spelled text.now) }
+    ensures fits { IfOk result (λ lease. IfSome (option_map lease6_content lease) HasText6) }
+{
+    kept_texts_are_leases6();
+    match read_lease6(alloc, text) {
+        Ok(lease) => Ok(Some(lease)),
+        Err(TextFault::Bad { .. }) => Ok(None),
+        Err(TextFault::NoMemory) => Err(NoMemory),
+    }
+}
+
+/// A lease of this interface. That of another counts as none.
+fn own_lease(name: &Name, lease: Lease6) -> Option<Lease6>
+    requires { HasText6 (lease6_content lease) }
+    ensures own { option_map lease6_content result ≡ own_lease6 name.now (lease6_content lease) }
+    ensures fits { IfSome (option_map lease6_content result) HasText6 }
+{
+    if is_same(&lease.name, name) {
+        Some(lease)
+    } else {
+        None
+    }
+}
+
+/// The lease that the text of a file keeps for an interface.
+#[tactic(auto, using(crate::proofs::SpelledLeases6::none_kept6, crate::proofs::SpelledLeases6::one_kept6))]
+fn kept_in(alloc: Global, name: &Name, text: &[u8]) -> Result<Option<Lease6>, NoMemory>
+    ensures kept { IfOk result (λ kept. option_map lease6_content kept ≡ option_and_then (own_lease6 name.now) (lease6_spelled text.now)) }
+    ensures fits { IfOk result (λ kept. IfSome (option_map lease6_content kept) HasText6) }
+{
+    match lease_of(alloc, text)? {
+        None => Ok(None),
+        Some(lease) => Ok(own_lease(name, lease)),
+    }
+}
+
+/// The lease that a file keeps for an interface. One that isn't there, couldn't be read, or has another text keeps none.
+fn kept_by(alloc: Global, name: &Name, got: &Got) -> Result<Option<Lease6>, NoMemory>
+    ensures kept { IfOk result (λ kept. option_map lease6_content kept ≡ kept6_by name.now (got_reading got.now)) }
+    ensures fits { IfOk result (λ kept. IfSome (option_map lease6_content kept) HasText6) }
+{
+    match got {
+        Got::Text(text) => kept_in(alloc, name, text),
+        Got::Missing => Ok(None),
+        Got::Unread => Ok(None),
+    }
+}
+
+/// The lease with which an interface begins, by what reading its file gave. Nothing is read where DHCPv6 doesn't run.
+pub fn first_lease6(
+    alloc: Global,
+    name: &Name,
+    read: &Option<Got>,
+) -> Result<Option<Lease6>, NoMemory>
+    ensures kept { IfOk result (λ kept. option_map lease6_content kept ≡ option_and_then (kept6_by name.now) (option_map got_reading read.now)) }
+    ensures fits { IfOk result (λ kept. IfSome (option_map lease6_content kept) HasText6) }
+{
+    match read {
+        Some(got) => kept_by(alloc, name, got),
+        None => Ok(None),
+    }
+}

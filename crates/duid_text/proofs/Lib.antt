@@ -1,0 +1,3 @@
+pub mod DuidLaws
+pub mod Printing
+pub mod ReadingLaws

@@ -1,0 +1,3 @@
+pub mod DuidTexts
+pub mod DuidReading
+pub mod Laws

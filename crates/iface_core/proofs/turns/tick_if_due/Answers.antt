@@ -1,0 +1,12 @@
+use Rattle.std.proofs.Common.{ℕ, Option, sym, ap, ◌∙◌}
+use Rattle.machine.specs.Moment.{is_due}
+use Rattle.client_model.specs.Interfaces.{machine_ticked}
+use Rattle.iface_core.specs.Outcomes.{asked_in}
+use Rattle.iface_core.proofs.Following.{goes_quiet, not_due}
+use Rattle.iface_core.proofs.turns.tick_if_due.Goals as goal
+
+pub returns-else-has_come : goal.returns-else-has_come
+returns-else-has_come c =
+    goes_quiet (machine_ticked c.args.machine c.args.turn.now.at c.args.turn.now.salt c.args.iface.now) c.args.iface.now (asked_in c.args.outs.now)
+    (not_due c.args.machine c.args.turn.now.at c.args.turn.now.salt c.args.iface.now
+    (sym (c.has_come.ensures ∙ ap (λ (due : Option ℕ). is_due due c.args.turn.now.at) c.machine_due.ensures) ∙ c.if-has_come.false))

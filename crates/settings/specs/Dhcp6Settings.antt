@@ -1,0 +1,25 @@
+-- What the DHCPv6 client of an interface is told to ask for (RFC 8415, section 12).
+use Rattle.std.specs.Prelude.{◌≢◌, ℕ, ◌<◌, ◌≤◌, ◌^◌, Bool, List, length, AllPairs}
+use Rattle.std.specs.List.{AllByRecursion}
+use Rattle.v6_options.specs.declared.ia.IaKind.{IaKind}
+use Rattle.settings.specs.declared.dhcp6_conf.IaConf.{IaConf}
+
+pub record Dhcp6Settings : Type 0 where
+  -- whether a server may answer a SOLICIT by a Reply
+  pub rapid : Bool
+  pub ias : List IaConf
+
+-- an IA is told apart by its kind and its IAID
+abbrev pub conf_key : IaConf → IaKind × ℕ
+conf_key ia = (ia.kind, ia.iaid)
+
+-- its numbers are within the types that hold them, and the length that is wished for within that of an address
+pub record FitsIaConf (ia : IaConf) : Type 0 where
+  pub iaid : ia.iaid < 2 ^ 32
+  pub hint : ia.hint ≤ 128
+
+-- six IAs at most, each once
+pub record FitsDhcp6 (settings : Dhcp6Settings) : Type 0 where
+  pub few : length settings.ias ≤ 6
+  pub each : AllByRecursion FitsIaConf settings.ias
+  pub unlike : AllPairs (λ one other. conf_key one ≢ conf_key other) settings.ias

@@ -1,0 +1,272 @@
+-- The items that are held are of IAs that are asked for.
+use Rattle.std.proofs.Common.{◌≡◌, ℕ, Bool, true, false, cond, ◌&&◌, ◌||◌, List, [], ◌∷◌, Option, Some, None, option_map, refl, sym, subst}
+use Rattle.std.specs.Option.{option_and_then}
+use Rattle.net_types.proofs.AllLaws.{all_join, all_map}
+use Rattle.net_types.proofs.CaseLaws.{gated, split}
+use Rattle.std.proofs.lemmas.Bool.{and_from, eq-eqb}
+use Rattle.v6_options.specs.declared.ia.IaKind.{IaKind}
+use Rattle.v6_options.specs.declared.ia.IaKind.TheVariants.{Na, Pd}
+use Rattle.v6_message.specs.declared.kind.ServerKind6.{ServerKind6}
+use Rattle.v6_message.specs.declared.kind.ServerKind6.TheVariants.{Advertise, Reply}
+use Rattle.v6_message.specs.Replies.{Content6}
+use Rattle.lease6_text.specs.declared.lease.Item6.{Item6}
+use Rattle.lease6_text.specs.Leases.{IaLeaseContent, Lease6Content}
+use Rattle.lease6_text.specs.LineParts.{is_ia, is_same_kind}
+use Rattle.v6_client.specs.declared.settings.IaAsk.{IaAsk}
+use Rattle.v6_client.specs.declared.states.Answer6.{Answer6}
+use Rattle.v6_client.specs.declared.states.Answer6.TheVariants as answer
+use Rattle.v6_client.specs.declared.states.Carrier6.TheVariants.{Up, Down}
+use Rattle.v6_client.specs.declared.states.Cause6.{Cause6}
+use Rattle.v6_client.specs.declared.states.Cause6.TheVariants.{Lapse, Duplicate}
+use Rattle.v6_client.specs.declared.states.Dates6.{Dates6}
+use Rattle.v6_client.specs.declared.states.Keep6.{Keep6}
+use Rattle.v6_client.specs.declared.states.Keep6.TheVariants.{Stays, Clears, Takes}
+use Rattle.v6_client.specs.declared.states.Parting6.{Parting6}
+use Rattle.v6_client.specs.declared.states.State6.{State6}
+use Rattle.v6_client.specs.declared.states.State6.TheVariants.{Off, Waiting, Soliciting, Requesting, Bound, Renewing, Rebinding, Restarting, Declining}
+use Rattle.v6_client.specs.declared.states.Step6.{Step6}
+use Rattle.v6_client.specs.declared.states.Tell6.{Tell6}
+use Rattle.v6_client.specs.declared.turn.Turn6.{Turn6}
+use Rattle.v6_client.specs.Answers.{advertise_answer, counts, granted, is_taken, learnt, meeting_of, server_of}
+use Rattle.v6_client.specs.Bounds.{ask_key}
+use Rattle.v6_client.specs.Calls.{IsAnswered, answer_in, dates_in, fresh_in, parting_begun}
+use Rattle.v6_client.specs.Clients.{ClientContent, holds, turn_of}
+use Rattle.v6_client.specs.Hearing.{heard_row, is_better, is_kept_offer, is_taken_at_once}
+use Rattle.v6_client.specs.Inputs.{begin_row, duplicate_row, off_row, rebind_row, release_row}
+use Rattle.v6_client.specs.Items.{ia_with, ias_of, is_nonempty, staying, thinned, without}
+use Rattle.v6_client.specs.Moves.{IsStep6, OutContent, given_up, kept_after, kept_live, lapsed, moved, parting_at, thinned_lease}
+use Rattle.v6_client.specs.OwnLeases.{AreAsked, CarriersOwn, DuplicatesOwn, GrantsOwn, HeldOwn, MadeOwn, MessagesOwn, OwnIas, RebindsOwn, ReleasesOwn, TicksOwn, is_asked}
+use Rattle.v6_client.specs.Taking.{Meeting, ia_granted, ias_granted, taken_by}
+use Rattle.v6_client.specs.Ticks.{tick_row}
+use Rattle.v6_client.proofs.Lapsing.{start_row}
+
+-- ---- IAs
+
+with_asked : (asks : List IaAsk) (ia : IaLeaseContent) (items : List Item6) → is_asked asks ia ≡ true
+    → AreAsked asks (ia_with ia.kind ia.iaid items)
+with_asked asks ia [] e = tt
+with_asked asks ia (item ∷ items) e = (e, tt)
+
+without_asked : (asks : List IaAsk) (cause : Cause6) (ias : List IaLeaseContent) → AreAsked asks ias → AreAsked asks (without cause ias)
+without_asked asks cause [] all = tt
+without_asked asks cause (ia ∷ ias) all =
+    all_join (λ ia. is_asked asks ia ≡ true) (thinned cause ia) (without cause ias)
+    (with_asked asks ia (staying cause ia.kind ia.items) all.0) (without_asked asks cause ias all.1)
+
+thinned_asked : (asks : List IaAsk) (cause : Cause6) (kept : Option Lease6Content) → AreAsked asks (ias_of kept)
+    → AreAsked asks (ias_of (option_map (thinned_lease cause) kept))
+thinned_asked asks cause None all = tt
+thinned_asked asks cause (Some lease) all = without_asked asks cause lease.ias all
+
+live_asked : (asks : List IaAsk) (at : ℕ) (parting : Parting6) (kept : Option Lease6Content) → AreAsked asks (ias_of kept)
+    → AreAsked asks (ias_of (kept_live at parting kept))
+live_asked asks at parting kept all =
+    gated (λ lease. AreAsked asks (ias_of lease)) parting.stays _ _ (thinned_asked asks (Lapse at) kept all) all
+
+-- ---- the lease that a Reply grants
+
+same_kind : (kind : IaKind) → is_same_kind kind kind ≡ true
+same_kind Na = refl
+same_kind Pd = refl
+
+first_true : (one other : Bool) → one ≡ true → (one || other) ≡ true
+first_true true other e = refl
+first_true false other e = absurd cc
+
+other_true : (one other : Bool) → other ≡ true → (one || other) ≡ true
+other_true true other e = refl
+other_true false other e = e
+
+its_own : (ask : IaAsk) (asks : List IaAsk) (items : List Item6)
+    → AreAsked (ask ∷ asks) (ia_with ask.kind ask.iaid items)
+its_own ask asks [] = tt
+its_own ask asks (item ∷ items) =
+    (first_true _ _ (and_from _ _ (same_kind ask.kind) (eq-eqb ask.iaid ask.iaid refl)), tt)
+
+granted_asked : (m : Meeting) (asks : List IaAsk) → AreAsked asks (ias_granted m asks)
+granted_asked m [] = tt
+granted_asked m (ask ∷ asks) =
+    all_join (λ ia. is_asked (ask ∷ asks) ia ≡ true) (ia_granted m ask) (ias_granted m asks)
+    (its_own ask asks (taken_by m ask).items)
+    (all_map (λ ia. is_asked asks ia ≡ true) (λ ia. is_asked (ask ∷ asks) ia ≡ true)
+    (λ ia e. other_true (is_ia (ask_key ask) ia) (is_asked asks ia) e) (ias_granted m asks) (granted_asked m asks))
+
+from_server : (at : ℕ) (c : ClientContent) (message : Content6) (server : Option (List ℕ))
+    → AreAsked c.settings.asks (ias_of (option_and_then (granted at c message) server))
+from_server at c message None = tt
+from_server at c message (Some server) =
+    gated (λ lease. AreAsked c.settings.asks (ias_of lease)) (is_nonempty (ias_granted (meeting_of at c message) c.settings.asks)) _ _
+    (granted_asked (meeting_of at c message) c.settings.asks) tt
+
+fresh_asked : (at : ℕ) (c : ClientContent) (message : Content6) → AreAsked c.settings.asks (ias_of (fresh_in at c message))
+fresh_asked at c message =
+    gated (λ lease. AreAsked c.settings.asks (ias_of lease)) (is_taken c message) _ _ (from_server at c message (server_of message)) tt
+
+pub grants_own : GrantsOwn
+grants_own c message at lease e = subst (λ lease. AreAsked c.settings.asks (ias_of lease)) e (fresh_asked at c message)
+
+pub made_own : MadeOwn
+made_own settings kept h = absurd cc
+
+pub held_own : HeldOwn
+held_own c lease own e = by_state (holds c.state) refl e
+  where
+    by_state : (b : Bool) → holds c.state ≡ b → cond b c.kept None ≡ Some lease → AreAsked c.settings.asks lease.ias
+    by_state true h e = subst (λ lease. AreAsked c.settings.asks (ias_of lease)) e (own h)
+    by_state false h e = absurd cc
+
+-- ---- rows
+
+-- after a step that takes no lease items are held only where they were
+abbrev Starts : State6 → Step6 → Type 0
+Starts state step = holds step.state ≡ true → step.keep ≡ Stays → holds state ≡ true
+
+never : (b : Bool) → b ≡ true → b ≡ false → ⊥
+never true e f = cc
+never false e f = cc
+
+tick_starts : (turn : Turn6) (dates : Dates6) (parting : Parting6) (state : State6) → Starts state (tick_row turn dates parting state)
+tick_starts turn dates parting state h k =
+    split (holds state) (λ e. e) (λ e. absurd (never _ h (start_row turn dates parting state e)))
+
+heard_starts : (turn : Turn6) (a : Answer6) (state : State6) → Starts state (heard_row turn a state)
+heard_starts turn a Off = λ h k. absurd cc
+heard_starts turn a (Waiting due) = λ h k. absurd cc
+heard_starts turn (answer.Offer preference) (Soliciting exchange offer) =
+    gated (Starts (Soliciting exchange offer)) (is_taken_at_once exchange preference) _ _ (λ h k. absurd cc)
+    (gated (Starts (Soliciting exchange offer)) (is_better offer preference) _ _ (λ h k. absurd cc) (λ h k. absurd cc))
+heard_starts turn answer.Grants (Soliciting exchange offer) = λ h k. absurd cc
+heard_starts turn answer.Empties (Soliciting exchange offer) = λ h k. absurd cc
+heard_starts turn answer.Keeps (Soliciting exchange offer) = λ h k. absurd cc
+heard_starts turn answer.Nothing (Soliciting exchange offer) = λ h k. absurd cc
+heard_starts turn (answer.Offer preference) (Requesting exchange) = λ h k. absurd cc
+heard_starts turn answer.Grants (Requesting exchange) = λ h k. absurd cc
+heard_starts turn answer.Empties (Requesting exchange) = λ h k. absurd cc
+heard_starts turn answer.Keeps (Requesting exchange) = λ h k. absurd cc
+heard_starts turn answer.Nothing (Requesting exchange) = λ h k. absurd cc
+heard_starts turn a Bound = λ h k. refl
+heard_starts turn a (Renewing exchange) = λ h k. refl
+heard_starts turn a (Rebinding exchange) = λ h k. refl
+heard_starts turn (answer.Offer preference) (Restarting exchange end since) = λ h k. absurd cc
+heard_starts turn answer.Grants (Restarting exchange end since) = λ h k. absurd cc
+heard_starts turn answer.Empties (Restarting exchange end since) = λ h k. absurd cc
+heard_starts turn answer.Keeps (Restarting exchange end since) = λ h k. absurd cc
+heard_starts turn answer.Nothing (Restarting exchange end since) = λ h k. absurd cc
+heard_starts turn a (Declining exchange) = λ h k. refl
+
+duplicate_starts : (turn : Turn6) (parting : Parting6) (state : State6) → Starts state (duplicate_row turn parting state)
+duplicate_starts turn parting Off h k = absurd cc
+duplicate_starts turn parting (Waiting due) h k = absurd cc
+duplicate_starts turn parting (Soliciting exchange offer) h k = absurd cc
+duplicate_starts turn parting (Requesting exchange) h k = absurd cc
+duplicate_starts turn parting Bound h k = refl
+duplicate_starts turn parting (Renewing exchange) h k = refl
+duplicate_starts turn parting (Rebinding exchange) h k = refl
+duplicate_starts turn parting (Restarting exchange end since) h k = absurd cc
+duplicate_starts turn parting (Declining exchange) h k = refl
+
+begin_starts : (turn : Turn6) (parting : Parting6) (state : State6) → Starts state (begin_row turn parting state)
+begin_starts turn parting Off = gated (Starts Off) parting.stays _ _ (λ h k. absurd cc) (λ h k. absurd cc)
+begin_starts turn parting (Waiting due) = λ h k. absurd cc
+begin_starts turn parting (Soliciting exchange offer) = λ h k. absurd cc
+begin_starts turn parting (Requesting exchange) = λ h k. absurd cc
+begin_starts turn parting Bound = λ h k. refl
+begin_starts turn parting (Renewing exchange) = λ h k. refl
+begin_starts turn parting (Rebinding exchange) = λ h k. refl
+begin_starts turn parting (Restarting exchange end since) = λ h k. absurd cc
+begin_starts turn parting (Declining exchange) = λ h k. refl
+
+rebind_starts : (turn : Turn6) (parting : Parting6) (state : State6) → Starts state (rebind_row turn parting state)
+rebind_starts turn parting Off = gated (Starts Off) parting.stays _ _ (λ h k. absurd cc) (λ h k. absurd cc)
+rebind_starts turn parting (Waiting due) = λ h k. absurd cc
+rebind_starts turn parting (Soliciting exchange offer) = λ h k. absurd cc
+rebind_starts turn parting (Requesting exchange) = λ h k. absurd cc
+rebind_starts turn parting Bound = λ h k. refl
+rebind_starts turn parting (Renewing exchange) = λ h k. refl
+rebind_starts turn parting (Rebinding exchange) = λ h k. refl
+rebind_starts turn parting (Restarting exchange end since) = λ h k. absurd cc
+rebind_starts turn parting (Declining exchange) = λ h k. refl
+
+release_starts : (turn : Turn6) (tell : Tell6) (kept : Bool) (state : State6) → Starts state (release_row turn tell kept state)
+release_starts turn tell kept Off h k = absurd cc
+release_starts turn tell kept (Waiting due) h k = absurd cc
+release_starts turn tell kept (Soliciting exchange offer) h k = absurd cc
+release_starts turn tell kept (Requesting exchange) h k = absurd cc
+release_starts turn tell kept Bound h k = refl
+release_starts turn tell kept (Renewing exchange) h k = refl
+release_starts turn tell kept (Rebinding exchange) h k = refl
+release_starts turn tell kept (Restarting exchange end since) h k = absurd cc
+release_starts turn tell kept (Declining exchange) h k = refl
+
+-- ---- calls
+
+kept_own : (asks : List IaAsk) (keep : Keep6) (fresh kept : Option Lease6Content) → AreAsked asks (ias_of fresh)
+    → (keep ≡ Stays → AreAsked asks (ias_of kept)) → AreAsked asks (ias_of (kept_after keep fresh kept))
+kept_own asks Stays fresh kept granted own = own refl
+kept_own asks Clears fresh kept granted own = tt
+kept_own asks Takes fresh kept granted own = granted
+
+step_own : (step : Step6) (fresh : Option Lease6Content) (c new : ClientContent) (out : OutContent) → AreAsked c.settings.asks (ias_of fresh)
+    → Starts c.state step → OwnIas c → IsStep6 step fresh c new out → OwnIas new
+step_own step fresh c new out granted starts own goes =
+    let after : OwnIas (moved step fresh c) =
+    λ h. kept_own c.settings.asks step.keep fresh c.kept granted (λ k. own (starts h k)) in
+    subst (λ (n : ClientContent). OwnIas n) (sym goes.goes_on) after
+
+-- what a step starts from
+record IsStart (step : Step6) (c : ClientContent) : Type 0 where
+  starts : Starts c.state step
+  own : OwnIas c
+
+go_own : (step : Step6) (c new : ClientContent) (out : OutContent) → IsStart step c → IsStep6 step None c new out → OwnIas new
+go_own step c new out start goes = step_own step None c new out tt start.starts start.own goes
+
+pub ticks_own : TicksOwn
+ticks_own c new at salt out own goes =
+    let p : Parting6 = parting_at (Lapse at) c in
+    let step : Step6 = tick_row (turn_of at salt c) (dates_in c) p c.state in
+    let row : Starts c.state step = tick_starts (turn_of at salt c) (dates_in c) p c.state in
+    go_own step (lapsed at p c) new out
+    (gated (IsStart step) (holds c.state && p.goes) _ _
+    (record { starts = row; own = λ h. live_asked c.settings.asks at p c.kept (own h) }) (record { starts = row; own = own })) goes
+
+pub duplicates_own : DuplicatesOwn
+duplicates_own c new address at salt out own goes =
+    let p : Parting6 = parting_at (Duplicate address) c in
+    let step : Step6 = duplicate_row (turn_of at salt c) p c.state in
+    let row : Starts c.state step = duplicate_starts (turn_of at salt c) p c.state in
+    go_own step (given_up address p c) new out
+    (gated (IsStart step) (holds c.state && p.goes) _ _
+    (record { starts = row; own = λ h. thinned_asked c.settings.asks (Duplicate address) c.kept (own h) })
+    (record { starts = row; own = own })) goes
+
+pub answers_own : (kind : ServerKind6) (c new : ClientContent) (message : Content6) (at salt : ℕ) (out : OutContent) → OwnIas c
+    → IsAnswered at salt message kind c new out → OwnIas new
+answers_own Advertise c new message at salt out own goes =
+    let step : Step6 = heard_row (turn_of at salt c) (advertise_answer c message) c.state in
+    let row : Starts c.state step = heard_starts (turn_of at salt c) (advertise_answer c message) c.state in
+    go_own step _ new out
+    (gated (IsStart step) (is_kept_offer (advertise_answer c message) c.state) _ _ (record { starts = row; own = own })
+    (record { starts = row; own = own })) goes
+answers_own Reply c new message at salt out own goes =
+    step_own _ (fresh_in at c message) c new out (fresh_asked at c message)
+    (heard_starts (turn_of at salt c) (answer_in at c message) c.state) own goes
+
+pub messages_own : MessagesOwn
+messages_own c new message at salt out own hears =
+    split (counts c message)
+    (λ counted. answers_own message.kind (learnt message.sol_max c) new message at salt out own (hears.goes counted))
+    (λ ignored. subst (λ (n : ClientContent). OwnIas n) (sym (hears.ignores ignored).0) own)
+
+pub carriers_own : CarriersOwn
+carriers_own c new Up at salt out own goes =
+    step_own _ None c new out tt (begin_starts (turn_of at salt c) (parting_begun at c) c.state) own goes
+carriers_own c new Down at salt out own goes = step_own (off_row (turn_of at salt c)) None c new out tt (λ h k. absurd cc) own goes
+
+pub releases_own : ReleasesOwn
+releases_own c new tell at salt out own goes =
+    step_own _ None c new out tt (release_starts (turn_of at salt c) tell _ c.state) own goes
+
+pub rebinds_own : RebindsOwn
+rebinds_own c new at salt out own goes =
+    step_own _ None c new out tt (rebind_starts (turn_of at salt c) (parting_begun at c) c.state) own goes
