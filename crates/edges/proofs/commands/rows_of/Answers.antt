@@ -1,0 +1,15 @@
+use Rattle.std.proofs.Common.{sym}
+use Rattle.std.proofs.lemmas.Map.Views.{All-insert_key}
+use Rattle.net_types.proofs.ListLaws.{split_smaller}
+use Rattle.world.specs.RowOrder.{row_cmp}
+use Rattle.world.specs.Rows.{IsRow}
+use Rattle.edges.proofs.commands.rows_of.Goals as goal
+
+pub lines-smaller : goal.lines-smaller
+lines-smaller c = split_smaller 10 c.lines.rest.now c.in-Some.line.now c.in-Some.others.now (sym c.in-Some.ensures)
+
+pub lines-preserved : goal.lines-preserved
+lines-preserved c = record {
+  rows = rw c.in-Ok-true.ensures.keys (All-insert_key row_cmp _ IsRow _ c.lines.invariant.rows c.in-Some-row_on.ensures);
+  ordered = c.insert.ensures.ordered;
+}

@@ -1,0 +1,4 @@
+pub mod Counts
+pub mod Paths
+pub mod Datagrams
+pub mod Waiting

@@ -1,0 +1,67 @@
+ghost use Rattle.std.specs.Prelude.{◌≡◌, IfOk};
+ghost use Rattle.world.specs.Causes.{HasCause, HasDeviceCause};
+ghost use Rattle.edges.specs.Counts.{Counted};
+
+use std::io;
+use std::io::ErrorKind;
+use world::{DeviceAnswer, Failed};
+
+/// How many calls of a device failed, up to 2^64 - 1. A failure past that is answered as want of memory; it doesn't come.
+#[derive(Clone, Copy)]
+pub(crate) struct Faults {
+    pub(crate) count: u64,
+}
+
+#[tactic(auto, using(crate::proofs::Causing::counted_cause))]
+impl Faults {
+    pub(crate) fn none() -> Faults
+        ensures { result.count ≡ 0 }
+    {
+        Faults { count: 0 }
+    }
+
+    /// Counts a call that gave nothing, unless it wanted memory, and says why it gave nothing.
+    pub(crate) fn counted(&mut self, answer: DeviceAnswer) -> DeviceAnswer
+        ensures { Counted self.old.count self.new.count result }
+    {
+        if let DeviceAnswer::Failed = answer
+            && let Some(count) = self.count.checked_add(1)
+        {
+            self.count = count;
+            return DeviceAnswer::Failed;
+        }
+        DeviceAnswer::NoMemory
+    }
+
+    /// Counts a call that failed and takes no memory. Where there is no room to count it, it answers `otherwise`.
+    pub(crate) fn failed<T: Drop>(&mut self, otherwise: T) -> Result<T, Failed>
+        ensures cause { HasCause self.old.count self.new.count result }
+        ensures otherwise { IfOk result (λ answer. answer ≡ otherwise) }
+    {
+        match self.count.checked_add(1) {
+            Some(count) => {
+                self.count = count;
+                Err(Failed)
+            }
+            None => Ok(otherwise),
+        }
+    }
+
+    /// The answer of a call of the system that may have changed something: without success it failed, whatever the reason.
+    pub(crate) fn answered(&mut self, answer: io::Result<()>) -> Result<(), DeviceAnswer>
+        ensures { HasDeviceCause self.old.count self.new.count result }
+    {
+        match answer {
+            Ok(()) => Ok(()),
+            Err(_) => Err(self.counted(DeviceAnswer::Failed)),
+        }
+    }
+}
+
+/// Why a call of the system that changes nothing gave nothing.
+pub(crate) fn reason(error: &io::Error) -> DeviceAnswer {
+    match error.kind() {
+        ErrorKind::OutOfMemory => DeviceAnswer::NoMemory,
+        _ => DeviceAnswer::Failed,
+    }
+}

@@ -1,0 +1,21 @@
+//! The outside of the daemon on a real machine: files in a folder, scripts that keep the host's rows, children that
+//! run hooks, and datagrams on the loopback address in the place of interfaces.
+//!
+//! What the machine holds and does is told by none of these devices, and is trusted: the kernel's files, processes,
+//! sockets and clock, and the scripts. What is proved of each is the same as of any other device of its kind: a call answers
+//! that the device failed only where its count rose in that call, and what it lends back is as the call says.
+#![tactic(auto)]
+
+mod children;
+mod commands;
+mod datagrams;
+mod faults;
+mod folder;
+mod links;
+#[cfg(test)]
+mod tests;
+
+pub use children::ChildHooks;
+pub use commands::CommandHost;
+pub use folder::FolderStore;
+pub use links::LoopLink;
