@@ -14,7 +14,7 @@ frame only the first N bytes. Where `chaddr` or `target_mac` isn't given it is t
 
 An Advertise and a Reply of DHCPv6 have the words of DEFAULTS6, where no `client` is given with the DUID of the interface's
 hardware address. `na=IAID:T1:T2:ITEM+ITEM..` is an IA_NA, an ITEM is ADDRESS/PREFERRED/VALID, and `na=IAID=STATUS` one with a status
-alone; `dns` has addresses, parted by commas.
+alone; `pd` is an IA_PD likewise, whose ITEM is PREFIX/LENGTH/PREFERRED/VALID; `dns` has addresses, parted by commas, and `search` names.
 
 A line `lease4 INTERFACE WORD..` becomes `file INTERFACE.lease4 HEX`: the lease that KEPT gives, but for the lines that
 the words name. `lease6 INTERFACE WORD..` likewise, by KEPT6; `duid DUID` becomes the file of a DUID.
@@ -48,7 +48,9 @@ DEFAULTS6 = {
     "status": "",
     "solmax": "",
     "na": "1:0:0:2001:db8::5/3000/6000",
+    "pd": "",
     "dns": "",
+    "search": "",
 }
 KINDS6 = {"advertise": 2, "reply": 7}
 # The lines of a kept DHCPv6 lease, but for the server.
@@ -156,14 +158,32 @@ def item6(text):
     return option6(5, ipaddress.IPv6Address(address).packed + struct.pack(">II", int(preferred), int(valid)))
 
 
-def association6(text):
-    """An IA_NA (RFC 8415, section 21.4)."""
+def prefix6(text):
+    """A prefix of an IA_PD (RFC 8415, section 21.22)."""
+    prefix, length, preferred, valid = text.split("/")
+    times = struct.pack(">IIB", int(preferred), int(valid), int(length))
+    return option6(26, times + ipaddress.IPv6Address(prefix).packed)
+
+
+# By the word of an association its option, and what spells an item of it.
+ASSOCIATIONS6 = {"na": (3, item6), "pd": (25, prefix6)}
+
+
+def association6(word, text):
+    """An IA_NA (RFC 8415, section 21.4) or an IA_PD (section 21.21)."""
+    code, item = ASSOCIATIONS6[word]
     if "=" in text:
         iaid, status = text.split("=")
-        return option6(3, struct.pack(">III", int(iaid), 0, 0) + status6(status))
+        return option6(code, struct.pack(">III", int(iaid), 0, 0) + status6(status))
     iaid, t1, t2, items = text.split(":", 3)
     head = struct.pack(">III", int(iaid), int(t1), int(t2))
-    return option6(3, head + b"".join(item6(item) for item in items.split("+")))
+    return option6(code, head + b"".join(item(one) for one in items.split("+")))
+
+
+def names(text):
+    """Names of DNS, parted by commas (RFC 1035, section 3.1)."""
+    labels = [name.split(".") + [""] for name in text.split(",")]
+    return b"".join(bytes([len(label)]) + label.encode() for name in labels for label in name)
 
 
 def link_local(text):
@@ -193,8 +213,11 @@ def dhcp6(kind, own, words):
         options += option6(82, seconds(fields["solmax"]))
     if fields["dns"]:
         options += option6(23, b"".join(ipaddress.IPv6Address(a).packed for a in fields["dns"].split(",")))
-    for text in fields["na"].split(";") if fields["na"] else []:
-        options += association6(text)
+    if fields["search"]:
+        options += option6(24, names(fields["search"]))
+    for word in ASSOCIATIONS6:
+        for text in fields[word].split(";") if fields[word] else []:
+            options += association6(word, text)
     said = bytes([KINDS6[kind]]) + struct.pack(">I", int(fields["xid"]))[1:] + options
     packet = udp6(link_local(fields["from"]), link_local(own), 547, 546, said)
     return ethernet(own, fields["from"], 0x86DD, packet)

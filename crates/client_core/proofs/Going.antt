@@ -1,5 +1,5 @@
 -- Interfaces in a run go on, each with its rows.
-use Rattle.std.proofs.Common.{ℕ, zero, suc, ◌≡◌, ◌+◌, ◌<◌, List, [], ◌∷◌, ◌++◌, get_or, length, map, set, take, refl, sym, ap, subst, ◌∙◌, arith}
+use Rattle.std.proofs.Common.{ℕ, zero, suc, ◌≡◌, ◌+◌, ◌<◌, List, [], ◌∷◌, ◌++◌, get_or, length, map, set, take, drop, refl, sym, ap, subst, ◌∙◌, arith}
 use Rattle.std.proofs.lemmas.List.{length-map, map-append, take_more}
 use Rattle.std.proofs.lemmas.List.Folds.{flat_map-map}
 use Rattle.net_types.specs.declared.address.Mac.{Mac}
@@ -21,6 +21,13 @@ turned own turn iface = (iface_turned own turn iface).iface
 pub turned_fit : (own : List Mac) (turn : Turn) (ifaces : List Iface) → AreIfaces ifaces → AreIfaces (map (turned own turn) ifaces)
 turned_fit own turn [] fit = tt
 turned_fit own turn (iface ∷ ifaces) fit = (stays_fit iface (turned own turn iface) (turn_stays own turn iface) fit.0, turned_fit own turn ifaces fit.1)
+
+-- some after their turn, and the others before it
+pub part_fits : (own : List Mac) (turn : Turn) (ifaces : List Iface) (i : ℕ) → AreIfaces ifaces → AreIfaces (map (turned own turn) (take i ifaces) ++ drop i ifaces)
+part_fits own turn [] zero fit = tt
+part_fits own turn [] (suc i) fit = tt
+part_fits own turn (iface ∷ ifaces) zero fit = fit
+part_fits own turn (iface ∷ ifaces) (suc i) fit = (stays_fit iface (turned own turn iface) (turn_stays own turn iface) fit.0, part_fits own turn ifaces i fit.1)
 
 pub managed_fits : (own : List Mac) (turn : Turn) (old new : Iface) → FitsIface old → new ≡ turned own turn old → FitsManaged new.managed
 managed_fits own turn old new fit goes = subst FitsManaged (sym (ap (λ (iface : Iface). iface.managed) goes ∙ turned_same own turn old)) fit.managed

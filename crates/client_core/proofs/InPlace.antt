@@ -2,7 +2,7 @@
 use Rattle.std.proofs.Common.{ℕ, ◌≡◌, ◌+◌, ◌<◌, ◌≤◌, List, [], ◌∷◌, ◌++◌, zero, suc, length, get_or, set, take, drop, refl, sym, ap, ◌∙◌, arith}
 use Rattle.std.specs.Prelude.{map, flat_map}
 use Rattle.std.specs.List.{AllByRecursion}
-use Rattle.std.proofs.lemmas.List.{append-nil, take_all, drop_all, take_more, get_or_default, flat_map_more}
+use Rattle.std.proofs.lemmas.List.{append-nil, get_or-set_same, take_all, drop_all, take_more, get_or_default, flat_map_more}
 use Rattle.std.proofs.lemmas.List.Edits.{map_over_more}
 
 -- what stands from a place on is still as at first
@@ -31,6 +31,13 @@ as_long go xs ys i so_far = ap length so_far ∙ long xs i
 
 pub next_of : {X : Type 0} (go : X → X) (xs ys : List X) (i : ℕ) (d : X) → Gone go xs ys i → get_or ys i d ≡ get_or xs i d
 next_of go xs ys i d gone = ap (λ zs. get_or zs i d) gone.so_far ∙ place go xs i d gone.at
+
+-- what was put in its place is there
+pub set_at : {X : Type 0} (go : X → X) (xs ys : List X) (i : ℕ) (d new : X) → Gone go xs ys i → get_or (set ys i new) i d ≡ new
+set_at go xs ys i d new gone =
+    let long : length ys ≡ length xs = as_long go xs ys i gone.so_far in
+    let lt : i < length xs = gone.at in
+    get_or-set_same ys i new d (omega arith)
 
 pub each_of : {X : Type 0} (P : X → Type 0) (xs : List X) (i : ℕ) (d : X) → i < length xs → AllByRecursion P xs → P (get_or xs i d)
 each_of P [] i d lt all = absurd (omega arith)

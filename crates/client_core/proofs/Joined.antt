@@ -11,6 +11,8 @@ use Rattle.net_types.specs.declared.address.Mac.{Mac}
 use Rattle.client_model.specs.declared.interfaces.Iface.{Iface}
 use Rattle.client_model.specs.IfaceSteps.{Report, IfaceStep, news_of}
 use Rattle.client_model.specs.IfaceTurns.{Turn, iface_turned}
+use Rattle.client_model.specs.Jobs.{jobs_along}
+use Rattle.world.specs.HookCalls.{Job}
 use Rattle.client_model.specs.Clients.{Client, Sending, sends_of, joined, client_turned}
 use Rattle.client_model.specs.Fitting.{AreIfaces}
 use Rattle.iface_core.specs.Outcomes.{Asked}
@@ -20,16 +22,16 @@ use Rattle.client_core.specs.Touched.{KeepsUntouched}
 use Rattle.client_core.proofs.Fit.{steps_on}
 
 abbrev nothing : Asked
-nothing = record { sends = []; news = [] }
+nothing = record { sends = []; news = []; told = [] }
 
 news_apart : (steps : List IfaceStep) → map (λ (report : Report). report.news) (flat_map (λ (step : IfaceStep). step.reports) steps) ≡ flat_map news_of steps
 news_apart [] = refl
 news_apart (step ∷ steps) =
     map-append (λ (report : Report). report.news) step.reports (flat_map (λ (s : IfaceStep). s.reports) steps) ∙ ap (λ more. news_of step ++ more) (news_apart steps)
 
-pub joined_steps : {X : Type 0} (step : X → IfaceStep) (xs : List X) (own : List Mac) (ifaces : List Iface) (before after : Asked)
-    → before ≡ nothing → GoAll step xs ifaces before after → Steps (joined own (map step xs)) (record { own = own; ifaces = ifaces }) after
-joined_steps step xs own ifaces before after none all = record {
+pub joined_steps : {X : Type 0} (step : X → IfaceStep) (xs : List X) (own : List Mac) (old ifaces : List Iface) (before after : Asked)
+    → before ≡ nothing → GoAll step xs ifaces before after → Steps (joined own old (map step xs)) (record { own = own; ifaces = ifaces }) after
+joined_steps step xs own old ifaces before after none all = record {
   goes_on = ap (λ (is : List Iface). record { own = own; ifaces = is }) (all.go_on ∙ sym (map-map (λ (s : IfaceStep). s.iface) step xs));
   offers = all.offer ∙ ap (λ (a : Asked). a.sends ++ flat_map (λ x. sends_of (step x)) xs) none ∙ sym (flat_map-map sends_of step xs);
   tells = all.tell ∙ ap (λ (a : Asked). a.news ++ flat_map (λ x. news_of (step x)) xs) none ∙ sym (flat_map-map news_of step xs) ∙ sym (news_apart (map step xs));
@@ -63,8 +65,15 @@ untouched_in_place core own turn touched before old new asked asking view all sa
     subst (λ (ys : List Iface). KeepsUntouched touched core.ifaces ys) (sym (placed own turn before old new asked asking all same))
     (subst (λ (xs : List Iface). KeepsUntouched touched xs new) (same ∙ view) kept)
 
+-- the jobs of a turn are those of its interfaces
+pub turned_jobs : (core : Client) (own : List Mac) (turn : Turn) (ifaces : List Iface) (jobs before : List Job) → record { own = own; ifaces = ifaces } ≡ core
+    → before ≡ [] → jobs ≡ before ++ jobs_along [] ifaces (map (iface_turned own turn) ifaces) → jobs ≡ (client_turned turn core).jobs
+turned_jobs core own turn ifaces jobs before view none made =
+    made ∙ ap (λ (first : List Job). first ++ jobs_along [] ifaces (map (iface_turned own turn) ifaces)) none
+    ∙ ap (λ (client : Client). (client_turned turn client).jobs) view
+
 pub turned_steps : (core : Client) (own : List Mac) (turn : Turn) (old new : List Iface) (before after : Asked) → record { own = own; ifaces = old } ≡ core
     → before ≡ nothing → GoAll (iface_turned own turn) old new before after → Steps (client_turned turn core) (record { own = own; ifaces = new }) after
 turned_steps core own turn old new before after view none all =
     subst (λ (client : Client). Steps (client_turned turn client) (record { own = own; ifaces = new }) after) view
-    (joined_steps (iface_turned own turn) old own new before after none all)
+    (joined_steps (iface_turned own turn) old own old new before after none all)

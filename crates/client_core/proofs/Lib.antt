@@ -3,7 +3,9 @@ pub mod Fit
 pub mod Going
 pub mod InPlace
 pub mod ItemRows
+pub mod JobsAlong
 pub mod Joined
 pub mod LeaseValues
+pub mod SaidFirst
 pub mod SameRows
 pub mod Untouched

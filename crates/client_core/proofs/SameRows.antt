@@ -1,4 +1,4 @@
--- Where nothing is new of an interface, its rows are as before, and where it says nothing either, the leases that it keeps.
+-- Where nothing is new of an interface, its rows are as before, and where it says nothing either, what goes into files.
 use Rattle.std.proofs.Common.{◌≡◌, ◌+◌, ◌≤◌, ℕ, Bool, true, false, ◌||◌, nat_lt, List, [], ◌∷◌, ◌++◌, map, length, refl, ap, ◌∙◌, arith, length-append}
 use Rattle.std.proofs.lemmas.Bool.Decides.{nat_tests}
 use Rattle.net_types.specs.declared.address.Mac.{Mac}
@@ -7,9 +7,10 @@ use Rattle.client_model.specs.IfaceSteps.{IfaceStep, news_of}
 use Rattle.client_model.specs.Clients.{sends_of}
 use Rattle.client_model.specs.IfaceTurns.{Turn, iface_turned}
 use Rattle.client_model.specs.WantedRows.{iface_rows}
+use Rattle.client_model.specs.ResolverParts.{iface_parts}
 use Rattle.client_model.proofs.QuietKept.{keeps_in_quiet}
 use Rattle.iface_core.specs.Outcomes.{Asked, Goes}
-use Rattle.client_core.specs.Touched.{KeepsLeases}
+use Rattle.client_core.specs.Touched.{KeepsFiled}
 
 none_more : {X : Type 0} (before more : List X) → length (before ++ more) ≤ length before → more ≡ []
 none_more before [] few = refl
@@ -42,8 +43,9 @@ module _ (own : List Mac) (turn : Turn) (iface new : Iface) (before after : Aske
   unchanged few =
       ap iface_rows goes.goes_on ∙ (keeps_in_quiet own turn iface).rows (no_news few)
 
-  pub keeps_leases : length after.news ≤ length before.news → length after.sends ≤ length before.sends → KeepsLeases iface new
-  keeps_leases few quiet = record {
+  pub keeps_filed : length after.news ≤ length before.news → length after.sends ≤ length before.sends → KeepsFiled iface new
+  keeps_filed few quiet = record {
     kept4 = ap (λ (i : Iface). i.dhcp4.kept) goes.goes_on ∙ (keeps_in_quiet own turn iface).kept4 (no_news few) (none_said quiet);
     kept6 = ap (λ (i : Iface). i.dhcp6.kept) goes.goes_on ∙ (keeps_in_quiet own turn iface).kept6 (no_news few);
+    parts = ap iface_parts goes.goes_on ∙ (keeps_in_quiet own turn iface).parts (no_news few);
   }

@@ -8,7 +8,7 @@ use Rattle.net_types.specs.declared.address.Ip4.{Ip4}
 use Rattle.world.specs.declared.rows.HostRow.{HostRow}
 use Rattle.world.specs.Rows.{IsNetwork}
 use Rattle.lease_text.specs.Leases.{LeaseContent}
-use Rattle.client_model.specs.declared.outlet.Outlet.{Outlet}
+use Rattle.settings.specs.declared.outlet.Outlet.{Outlet}
 use Rattle.client_model.specs.WantedRows.{classless_in, lease_routes, router_for}
 
 -- a network: no bit is set past its prefix

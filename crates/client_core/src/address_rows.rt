@@ -1,28 +1,28 @@
 //! The rows of an address: its network, and the default route by a router.
 
-ghost use Rattle.std.specs.Prelude.{◌≡◌, ◌≤◌, [], ◌∷◌, ◌++◌, OnOk};
+ghost use Rattle.std.specs.Prelude.{◌≡◌, ◌≤◌, ◌<◌, [], ◌∷◌, ◌++◌, OnOk};
 ghost use Rattle.world.specs.Rows.{IsInterface, IsRow};
-ghost use Rattle.client_model.specs.WantedRows.{outlet_of, network_routes, gateway_routes, router_routes, address_rows};
+ghost use Rattle.client_model.specs.WantedRows.{outlet_of, network_routes, gateway_routes, router_routes, address_rows, network6_of, network6_routes};
 
-use client_model::Outlet;
 use host_tables::HostRows;
-use net_types::{Ip4, Net, Net4};
-use settings::Managed;
+use iface_core::metric_of;
+use net_types::{Ip4, Ip6, Net, Net4, Net6};
+use prefix_share::network_number;
+use settings::{Managed, Outlet};
 use std::alloc::AllocError;
 use world::{HostRow, Via};
 
-/// The metric of an interface's routes is this and its index, where none is configured.
-const METRIC_BASE: u32 = 1000;
+/// The length of an IPv6 address in bits, which is the longest prefix.
+const WIDTH6: u8 = 128;
 
 /// By where the rows of an interface lead.
 pub fn outlet_of(managed: &Managed) -> Outlet
     requires { IsInterface managed.now.spec.index.number }
     ensures { result ≡ outlet_of managed.now }
 {
-    let iface = managed.spec.index;
     Outlet {
-        iface,
-        metric: managed.conf.metric.unwrap_or(METRIC_BASE + iface.number),
+        iface: managed.spec.index,
+        metric: metric_of(managed),
     }
 }
 
@@ -30,15 +30,15 @@ pub fn outlet_of(managed: &Managed) -> Outlet
 pub fn push_route(
     rows: &mut HostRows,
     outlet: Outlet,
-    dest: Net4,
+    dest: Net,
     via: Via,
 ) -> Result<(), AllocError>
-    requires { IsRow (HostRow.Route outlet.iface (Net.V4 dest) via outlet.metric) }
-    ensures { OnOk result (rows.new ≡ rows.old ++ HostRow.Route outlet.iface (Net.V4 dest) via outlet.metric ∷ []) }
+    requires { IsRow (HostRow.Route outlet.iface dest via outlet.metric) }
+    ensures { OnOk result (rows.new ≡ rows.old ++ HostRow.Route outlet.iface dest via outlet.metric ∷ []) }
 {
     rows.push(HostRow::Route {
         iface: outlet.iface,
-        dest: Net::V4(dest),
+        dest,
         via,
         metric: outlet.metric,
     })
@@ -50,7 +50,7 @@ fn push_network(rows: &mut HostRows, outlet: Outlet, net: Net4) -> Result<(), Al
     ensures { OnOk result (rows.new ≡ rows.old ++ network_routes outlet net) }
 {
     if net.len < Net4::WIDTH {
-        push_route(rows, outlet, net.network(), Via::OnLink)?;
+        push_route(rows, outlet, Net::V4(net.network()), Via::OnLink)?;
     }
     Ok(())
 }
@@ -70,7 +70,7 @@ pub fn push_gateway(
             ip: router,
             len: Net4::WIDTH,
         };
-        push_route(rows, outlet, host, Via::OnLink)?;
+        push_route(rows, outlet, Net::V4(host), Via::OnLink)?;
     }
     Ok(())
 }
@@ -92,7 +92,7 @@ pub fn push_router(
                 ip: Ip4::UNSPECIFIED,
                 len: 0,
             };
-            push_route(rows, outlet, anywhere, Via::Gate4(router))?;
+            push_route(rows, outlet, Net::V4(anywhere), Via::Gate4(router))?;
             push_gateway(rows, outlet, net, router)
         }
     }
@@ -109,4 +109,41 @@ pub fn push_address(rows: &mut HostRows, outlet: Outlet, net: Net4) -> Result<()
         net: Net::V4(net),
     })?;
     push_network(rows, outlet, net)
+}
+
+/// An IPv6 address without the bits past its prefix.
+fn network6_of(net: Net6) -> Net6
+    requires { net.len < 128 }
+    ensures { result ≡ network6_of net }
+{
+    Net6 {
+        ip: Ip6 {
+            number: network_number(net),
+        },
+        len: net.len,
+    }
+}
+
+/// An IPv6 address shorter than the whole width gives its network.
+fn push_network6(rows: &mut HostRows, outlet: Outlet, net: Net6) -> Result<(), AllocError>
+    requires { IsInterface outlet.iface.number }
+    ensures { OnOk result (rows.new ≡ rows.old ++ network6_routes outlet net) }
+{
+    if net.len < WIDTH6 {
+        push_route(rows, outlet, Net::V6(network6_of(net)), Via::OnLink)?;
+    }
+    Ok(())
+}
+
+/// An IPv6 address with its network.
+pub fn push_address6(rows: &mut HostRows, outlet: Outlet, net: Net6) -> Result<(), AllocError>
+    requires index { IsInterface outlet.iface.number }
+    requires prefix { net.len ≤ 128 }
+    ensures { OnOk result (rows.new ≡ rows.old ++ HostRow.Addr outlet.iface (Net.V6 net) ∷ network6_routes outlet net) }
+{
+    rows.push(HostRow::Addr {
+        iface: outlet.iface,
+        net: Net::V6(net),
+    })?;
+    push_network6(rows, outlet, net)
 }

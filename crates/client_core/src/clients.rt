@@ -1,16 +1,18 @@
-ghost use Rattle.std.specs.Prelude.{◌≡◌, ◌==◌, ◌<◌, ◌^◌, IfOk, IfSome, find, map, option_map};
-ghost use Rattle.std.specs.Option.{option_copied};
+ghost use Rattle.std.specs.Prelude.{◌≡◌, ◌<◌, ◌^◌, ◌++◌, [], IfOk, IfSome, map, option_map};
 ghost use Rattle.std.specs.List.{AllByRecursion};
+ghost use Rattle.std.specs.String.{string_bytes};
 ghost use Rattle.machine.specs.Moment.{moment_of};
+ghost use Rattle.world.specs.HookCalls.{job_of};
 ghost use Rattle.world.specs.Rows.{IsRow};
 ghost use Rattle.lease_text.specs.Bounds.{FitsLease};
 ghost use Rattle.lease_text.specs.Leases.{lease_content};
 ghost use Rattle.lease6_text.specs.Bounds.{FitsLease6};
 ghost use Rattle.lease6_text.specs.Leases.{lease6_content};
-ghost use Rattle.client_model.specs.IfaceSteps.{index_of};
 ghost use Rattle.client_model.specs.Interfaces.{opened};
 ghost use Rattle.client_model.specs.Fitting.{AreBeginnings, AreIfaces};
 ghost use Rattle.client_model.specs.Clients.{Client, opening, client_turned, client_due, kept_lease, kept_lease6, rows_of};
+ghost use Rattle.client_model.specs.Jobs.{jobs_along};
+ghost use Rattle.client_model.specs.ResolverParts.{resolver_wanted};
 ghost use Rattle.iface_core.specs.Beginnings.{beginning_of};
 ghost use Rattle.iface_core.specs.Inputs.{turn_of};
 ghost use Rattle.iface_core.specs.Outcomes.{asked_in, sends_in};
@@ -18,7 +20,9 @@ ghost use Rattle.client_core.specs.Running.{IsRunning};
 ghost use Rattle.client_core.specs.Stepping.{Steps, GoAll, IsOnInterface};
 ghost use Rattle.client_core.specs.Touched.{KeepsUntouched};
 
+use crate::hook_jobs::{iface_of, make_jobs};
 use crate::iface_tables::tables_of;
+use crate::resolver_parts::wanted_text;
 use crate::turning::turn_all;
 use client_model::Iface;
 use host_tables::Tables;
@@ -32,7 +36,7 @@ use net_types::{IfIndex, IfSpec, Mac, NoMemory};
 use std::alloc::{AllocError, Global};
 use std::collections::BTreeSet;
 use std::marker::Model;
-use world::{Begin, HostRow};
+use world::{Begin, HookJob, HostRow};
 
 /// The client over all managed interfaces, between two turns.
 #[derive(Drop)]
@@ -51,16 +55,19 @@ impl Model for Core {
     ghost invariant = { λ core. IsRunning core.ifaces.items core.tables };
 }
 
-/// The interfaces as they are opened, one after another.
+/// The interfaces as they are opened, one after another, and the jobs of hooks.
 fn opened_ifaces(
     alloc: Global,
     beginnings: Vec<Beginning>,
     begin: Begin,
     outs: &mut Outs,
+    jobs: &mut Vec<HookJob>,
 ) -> Result<Vec<Iface>, NoMemory>
-    requires { AreBeginnings (map beginning_of beginnings.items) }
+    requires fit { AreBeginnings (map beginning_of beginnings.items) }
+    requires told { (asked_in outs.old).told ≡ [] }
     ensures goes { IfOk result (λ all. GoAll (opened begin.up (moment_of begin.at) begin.salt) (map beginning_of beginnings.items) all.items (asked_in outs.old) (asked_in outs.new)) }
     ensures fit { IfOk result (λ all. AreIfaces all.items) }
+    ensures jobs { IfOk result (λ _. map job_of jobs.new.items ≡ map job_of jobs.old.items ++ jobs_along [] [] (map (opened begin.up (moment_of begin.at) begin.salt) (map beginning_of beginnings.items))) }
 {
     let opening = Begin {
         at: clamp_moment(begin.at),
@@ -70,6 +77,7 @@ fn opened_ifaces(
     for beginning in beginnings {
         let iface = iface_open(alloc, beginning, opening, outs)?;
         ifaces.push(iface)?;
+        make_jobs(jobs, &ifaces, outs)?;
     }
     Ok(ifaces)
 }
@@ -81,6 +89,16 @@ fn own_addresses(alloc: Global, specs: &[IfSpec]) -> Result<Vec<Mac>, AllocError
     specs.iter().map(|spec| spec.mac).collect(alloc)
 }
 
+/// What the opening makes of the client, and what it asks.
+#[derive(Drop)]
+pub struct Opened {
+    pub core: Core,
+    /// What the outside is asked.
+    pub outs: Outs,
+    /// The jobs of hooks, in order.
+    pub jobs: Vec<HookJob>,
+}
+
 /// Opens the client over its managed interfaces, as a life begins. `specs` are all interfaces, managed or not, whose packets
 /// are known as the client's own.
 pub fn core_open(
@@ -88,14 +106,16 @@ pub fn core_open(
     beginnings: Vec<Beginning>,
     specs: &[IfSpec],
     begin: Begin,
-) -> Result<(Core, Outs), NoMemory>
+) -> Result<Opened, NoMemory>
     requires { AreBeginnings (map beginning_of beginnings.items) }
-    ensures steps { IfOk result (λ done. Steps (opening (map beginning_of beginnings.items) specs.now begin) done.0 (asked_in done.1)) }
-    ensures on_interfaces { IfOk result (λ done. AllByRecursion IsOnInterface (sends_in done.1)) }
+    ensures steps { IfOk result (λ done. Steps (opening (map beginning_of beginnings.items) specs.now begin) done.core (asked_in done.outs)) }
+    ensures jobs { IfOk result (λ done. map job_of done.jobs.items ≡ (opening (map beginning_of beginnings.items) specs.now begin).jobs) }
+    ensures on_interfaces { IfOk result (λ done. AllByRecursion IsOnInterface (sends_in done.outs)) }
 {
     let own = own_addresses(alloc, specs)?;
     let mut outs = Outs::new(alloc);
-    let ifaces = opened_ifaces(alloc, beginnings, begin, &mut outs)?;
+    let mut jobs = Vec::new(alloc);
+    let ifaces = opened_ifaces(alloc, beginnings, begin, &mut outs, &mut jobs)?;
     let tables = tables_of(alloc, &ifaces)?;
     let core = Core {
         alloc,
@@ -103,7 +123,7 @@ pub fn core_open(
         ifaces,
         tables,
     };
-    Ok((core, outs))
+    Ok(Opened { core, outs, jobs })
 }
 
 /// What a turn makes of the client, and what it asks.
@@ -112,7 +132,9 @@ pub struct Stepped {
     pub core: Core,
     /// What the outside is asked.
     pub outs: Outs,
-    /// The interfaces that may keep another lease than before; all others keep those that they kept.
+    /// The jobs of hooks, in order.
+    pub jobs: Vec<HookJob>,
+    /// The interfaces that may keep another lease than before, or tell the resolver something else; all others keep what they kept.
     pub touched: Vec<IfIndex>,
 }
 
@@ -120,6 +142,7 @@ pub struct Stepped {
 pub fn step(core: Core, turn: Turn<'_>) -> Result<Stepped, NoMemory>
     requires { turn.at < 10 ^ 15 }
     ensures steps { IfOk result (λ done. Steps (client_turned (turn_of turn.entry) core) done.core (asked_in done.outs)) }
+    ensures jobs { IfOk result (λ done. map job_of done.jobs.items ≡ (client_turned (turn_of turn.entry) core).jobs) }
     ensures on_interfaces { IfOk result (λ done. AllByRecursion IsOnInterface (sends_in done.outs)) }
     ensures untouched { IfOk result (λ done. KeepsUntouched done.touched.items core.ifaces done.core.ifaces) }
 {
@@ -130,7 +153,8 @@ pub fn step(core: Core, turn: Turn<'_>) -> Result<Stepped, NoMemory>
         mut tables,
     } = core;
     let mut outs = Outs::new(alloc);
-    let touched = turn_all(alloc, &mut ifaces, &mut tables, &turn, &own, &mut outs)?;
+    let mut jobs = Vec::new(alloc);
+    let touched = turn_all(&mut ifaces, &mut tables, &turn, &own, &mut outs, &mut jobs)?;
     let core = Core {
         alloc,
         own,
@@ -140,6 +164,7 @@ pub fn step(core: Core, turn: Turn<'_>) -> Result<Stepped, NoMemory>
     Ok(Stepped {
         core,
         outs,
+        jobs,
         touched,
     })
 }
@@ -184,13 +209,11 @@ fn kept6_among(ifaces: &[Iface], index: IfIndex) -> Option<&Lease6>
     iface_kept6(iface)
 }
 
-/// The interface of this number.
-fn iface_of(ifaces: &[Iface], index: IfIndex) -> Option<&Iface>
-    ensures { option_copied result ≡ find (λ iface. index_of iface == index.number) ifaces.now }
+/// The text of the resolver's file (resolv.conf(5)); none where the interfaces tell the resolver nothing.
+pub fn resolver_wanted(alloc: Global, core: &Core) -> Result<Option<String>, NoMemory>
+    ensures { IfOk result (λ text. option_map string_bytes text ≡ resolver_wanted core.now.ifaces) }
 {
-    ifaces
-        .iter()
-        .find(|iface| iface.managed.spec.index == index)
+    wanted_text(alloc, &core.ifaces)
 }
 
 /// The next moment at which a machine is due.

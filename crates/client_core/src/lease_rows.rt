@@ -1,20 +1,20 @@
 //! The rows of a lease: its address, and its classless routes or its preferred router.
 
-ghost use Rattle.std.specs.Prelude.{◌≡◌, ◌==◌, ◌++◌, IfOk, IfSome, OnOk, find, flat_map, option_and_then, option_map};
-ghost use Rattle.std.specs.Option.{option_copied};
+ghost use Rattle.std.specs.Prelude.{◌≡◌, ◌++◌, IfOk, IfSome, OnOk, flat_map, option_and_then, option_map};
 ghost use Rattle.std.specs.List.{AllByRecursion};
 ghost use Rattle.world.specs.Rows.{IsInterface};
 ghost use Rattle.v4_options.specs.Numbers.{addrs_in};
 ghost use Rattle.lease_text.specs.Bounds.{FitsLease};
 ghost use Rattle.lease_text.specs.Leases.{lease_content, values_content};
-ghost use Rattle.client_model.specs.WantedRows.{value_in, classless_in, routers_in, classless_rows, preferred, router_for, lease_rows};
+ghost use Rattle.client_model.specs.WantedRows.{classless_in, routers_in, classless_rows, preferred, router_for, lease_rows};
 ghost use Rattle.client_core.specs.Routing.{HasDestination, routes_by};
 
 use crate::address_rows::{push_address, push_gateway, push_route, push_router};
-use client_model::Outlet;
+use crate::kept_values::value_in;
 use host_tables::HostRows;
 use lease_text::{Lease4, Value};
-use net_types::{Ip4, Net4, NoMemory};
+use net_types::{Ip4, Net, Net4, NoMemory};
+use settings::Outlet;
 use std::alloc::{AllocError, Global};
 use v4_options::code::{CLASSLESS_ROUTES, ROUTERS};
 use v4_options::{ClasslessRoute, addr_of, routes_of};
@@ -22,22 +22,6 @@ use world::Via;
 
 /// The bytes of an address.
 const ADDRESS_LEN: usize = 4;
-
-/// The value of a code as it is kept.
-fn kept_value(values: &[Value], code: u8) -> Option<&Value>
-    ensures { option_copied result ≡ find (λ value. value.code == code) values.now }
-{
-    values.iter().find(|value| value.code == u16::from(code))
-}
-
-/// The bytes of the value of a code.
-#[tactic(auto, using(crate::proofs::LeaseValues::value_found))]
-fn value_in(values: &[Value], code: u8) -> Option<&[u8]>
-    ensures { option_map (λ bytes. bytes.now) result ≡ value_in code (values_content values.now) }
-{
-    let value = kept_value(values, code)?;
-    Some(&value.bytes)
-}
 
 /// The first of the addresses that are the value, which is the preferred one (RFC 2132, section 3.5). None unless the value
 /// is one address or more.
@@ -55,7 +39,7 @@ fn first_address(value: &[u8]) -> Option<Ip4>
 fn router_of(values: &[Value]) -> Option<Ip4>
     ensures { result ≡ option_and_then preferred (routers_in (values_content values.now)) }
 {
-    first_address(value_in(values, ROUTERS)?)
+    first_address(value_in(values, ROUTERS.into())?)
 }
 
 /// The classless routes.
@@ -63,7 +47,7 @@ fn classless_of(alloc: Global, values: &[Value]) -> Result<Option<Vec<ClasslessR
     ensures routes { IfOk result (λ routes. option_map (λ v. v.items) routes ≡ classless_in (values_content values.now)) }
     ensures fit { IfOk result (λ routes. IfSome routes (λ v. AllByRecursion HasDestination v.items)) }
 {
-    match value_in(values, CLASSLESS_ROUTES) {
+    match value_in(values, CLASSLESS_ROUTES.into()) {
         None => Ok(None),
         Some(value) => routes_of(alloc, value),
     }
@@ -81,9 +65,9 @@ fn push_classless(
     ensures { OnOk result (rows.new ≡ rows.old ++ classless_rows outlet net route) }
 {
     if route.via.number == 0 {
-        return push_route(rows, outlet, route.dest, Via::OnLink);
+        return push_route(rows, outlet, Net::V4(route.dest), Via::OnLink);
     }
-    push_route(rows, outlet, route.dest, Via::Gate4(route.via))?;
+    push_route(rows, outlet, Net::V4(route.dest), Via::Gate4(route.via))?;
     push_gateway(rows, outlet, net, route.via)
 }
 

@@ -3,11 +3,17 @@
 
 mod address_rows;
 mod clients;
+mod hook_jobs;
 mod iface_rows;
 mod iface_tables;
+mod kept_values;
 mod lease6_rows;
 mod lease_rows;
+mod resolver_parts;
+mod share_rows;
 mod turning;
 
-pub use clients::{Core, Stepped, core_due, core_open, kept4, kept6, rows, step};
+pub use clients::{
+    Core, Opened, Stepped, core_due, core_open, kept4, kept6, resolver_wanted, rows, step,
+};
 pub use iface_core::{Beginning, Outs, Sending, Turn, TurnInput, earlier_of};

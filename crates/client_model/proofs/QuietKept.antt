@@ -56,7 +56,7 @@ use Rattle.client_model.specs.Interfaces.{machines_drop, machines_rebind, machin
 use Rattle.client_model.specs.Interfaces as run
 use Rattle.client_model.specs.IfaceTurns.{arp_heard, hears, hears_either, hears_message, hears_message6, hears_packet, taken, input_step, Turn, iface_turned}
 use Rattle.client_model.specs.Runs.{KeepsInQuiet}
-use Rattle.client_model.proofs.QuietTurns.{none_first, none_next, no_lease_news, quiet_kept6, quiet_rows}
+use Rattle.client_model.proofs.QuietTurns.{none_first, none_next, no_lease_news, quiet_kept6, quiet_parts, quiet_rows}
 
 -- ---- a step of the table
 
@@ -213,6 +213,10 @@ silent_still iface n s = refl
 told : (old before : Iface) (news : News) (step : IfaceStep) → KeepsStill old (with_news news before step)
 told old before news step n s = cc
 
+told_last : (old : Iface) (news : News) (first : IfaceStep) → KeepsStill old (then_step first (run.tells news))
+told_last old news first n s =
+    told old first.iface news (silent first.iface) (none_next first.reports (run.tells news first.iface).reports n) refl
+
 none_said : (say : Option Say4) (more : List Said) → map Dhcp4 (option_to_list say) ++ more ≡ [] → say ≡ None
 none_said None more e = refl
 none_said (Some say) more e = cc
@@ -300,7 +304,7 @@ module _ (own : List Mac) (at salt : ℕ) (bytes : List ℕ) where
   taken_still (Duplicate index addr) iface = named_still index iface (contested6 at salt addr iface) (λ n s. refl)
   taken_still (Release index) iface = named_still index iface (released at salt iface) (told iface iface Released (machines_stop Server at salt iface))
   taken_still (Rebind index) iface = named_still index iface (rebound at salt iface) (rebound_iface_still at salt iface)
-  taken_still Stop iface = told iface iface Stopped (machines_stop (told_at_stop iface.managed.conf) at salt (record iface { stopped = true }))
+  taken_still Stop iface = told_last iface Stopped (machines_stop (told_at_stop iface.managed.conf) at salt (record iface { stopped = true }))
   taken_still Quiet iface = λ n s. refl
   taken_still End iface = λ n s. refl
 
@@ -332,6 +336,7 @@ quiet_kept own turn iface n s =
 pub keeps_in_quiet : (own : List Mac) (turn : Turn) (iface : Iface) → KeepsInQuiet own turn iface
 keeps_in_quiet own turn iface = record {
   rows = λ n. quiet_rows own turn iface (no_news_told (iface_turned own turn iface).reports n);
+  parts = λ n. quiet_parts own turn iface (no_news_told (iface_turned own turn iface).reports n);
   kept6 = λ n. quiet_kept6 own turn iface (no_news_told (iface_turned own turn iface).reports n);
   kept4 = quiet_kept own turn iface;
 }

@@ -1,5 +1,5 @@
--- A turn of which nothing is new leaves an interface's rows as they are, and the DHCPv6 lease that it keeps.
-use Rattle.std.proofs.Common.{ℕ, ◌≡◌, ◌+◌, ◌-◌, ◌*◌, Bool, true, false, not, ◌&&◌, List, [], ◌∷◌, ◌++◌, map, Option, Some, None, nat_le, nat_lt, nat_eq, refl, ap, ◌∙◌, if◌then◌else◌}
+-- A turn of which nothing is new leaves an interface's rows as they are, what it tells the resolver, and the DHCPv6 lease that it keeps.
+use Rattle.std.proofs.Common.{ℕ, ◌≡◌, ◌+◌, ◌-◌, ◌*◌, Bool, true, false, not, ◌&&◌, ◌||◌, List, [], ◌∷◌, ◌++◌, map, Option, Some, None, nat_le, nat_lt, nat_eq, refl, ap, ◌∙◌, if◌then◌else◌}
 use Rattle.std.specs.Prelude.{is_some}
 use Rattle.net_types.proofs.CaseLaws.{split, gated}
 use Rattle.net_types.specs.declared.address.Ip4.{Ip4}
@@ -52,9 +52,10 @@ use Rattle.client_model.specs.ClientSettings6.{runs_dhcp6}
 use Rattle.client_model.specs.LocalSteps.{chooses_local, fallback_of, armed, armed_for_lease, local_news, local_step, tick_local, local_hears}
 use Rattle.client_model.specs.Dhcp4Steps.{arms, arrival_at, dhcp4_packet, dhcp4_step, followed, holds_lease, lease_news, rebind_dhcp4, tick_dhcp4}
 use Rattle.client_model.specs.Dhcp6Steps.{contested, dhcp6_step, lease6_news, rebind_dhcp6, tick_dhcp6}
-use Rattle.client_model.specs.Interfaces.{begins, machines_drop, machines_rebind, machines_stop, restarted, unsent_in, ticked, carrier_comes, carrier_goes, carried, released, rebound, told_at_stop}
+use Rattle.client_model.specs.Interfaces.{begins, machines_drop, machines_rebind, machines_stop, restarted, unsent_in, ticked, carrier_comes, carrier_goes, carried, released, rebound, tells as only_tells, told_at_stop}
 use Rattle.client_model.specs.IfaceTurns.{Turn, arp_heard, hears, hears_either, hears_message, hears_message6, hears_packet, taken, input_step, iface_turned}
-use Rattle.client_model.specs.WantedRows.{outlet_of, static_rows, lease_rows, local_rows, lease6_rows, iface_rows}
+use Rattle.client_model.specs.ResolverParts.{iface_parts, part4_with, parts4, parts6}
+use Rattle.client_model.specs.WantedRows.{outlet_of, static_rows, static6_rows, lease_rows, local_rows, lease6_rows, iface_rows}
 use Rattle.client_model.proofs.QuietLeases.{Quietly, arp_quiet, heard_quiet, rebind_quiet, tick_quiet, unsent_quiet}
 
 -- ---- the link-local machine
@@ -145,7 +146,7 @@ armed_stays conf at iface state =
 
 -- ---- the interface
 
--- what its rows come from is the same, and so is the DHCPv6 lease that it keeps
+-- what its rows and its parts of the resolver come from is the same, and so is the DHCPv6 lease that it keeps
 record SameSources (old new : Iface) : Type 0 where
   managed : new.managed ≡ old.managed
   up : new.up ≡ old.up
@@ -191,6 +192,10 @@ silent_quiet iface e = itself iface
 
 news_loud : (old before : Iface) (news : News) (step : IfaceStep) → IsQuiet old (with_news news before step)
 news_loud old before news step e = cc
+
+-- what is told last
+told_last : (old : Iface) (news : News) (first : IfaceStep) → IsQuiet old (then_step first (only_tells news))
+told_last old news first e = news_loud old first.iface news (silent first.iface) (none_next first.reports (only_tells news first.iface).reports e)
 
 -- ---- DHCPv4
 
@@ -363,7 +368,7 @@ module _ (own : List Mac) (at salt : ℕ) (bytes : List ℕ) where
   taken_quiet (Release index) iface = named_quiet index iface (released at salt iface) (news_loud iface iface Released (machines_stop Server at salt iface))
   taken_quiet (Rebind index) iface = named_quiet index iface (rebound at salt iface) (rebound_quiet at salt iface)
   taken_quiet Stop iface =
-      news_loud iface iface Stopped (machines_stop (told_at_stop iface.managed.conf) at salt (record iface { stopped = true }))
+      told_last iface Stopped (machines_stop (told_at_stop iface.managed.conf) at salt (record iface { stopped = true }))
   taken_quiet Quiet iface = silent_quiet iface
   taken_quiet End iface = silent_quiet iface
 
@@ -390,12 +395,26 @@ turn_quiet own turn iface e =
 same_rows : (old new : Iface) → SameSources old new → iface_rows new ≡ iface_rows old
 same_rows old new same =
     λ i. static_rows (outlet_of (same.managed i)) (same.up i && not (same.stopped i)) (same.managed i).conf.address (same.managed i).conf.router
+    ++ static6_rows (outlet_of (same.managed i)) (same.up i && not (same.stopped i)) (same.managed i).conf.address6
     ++ lease_rows (outlet_of (same.managed i)) (same.managed i).conf.router (same.lease i) ++ local_rows (outlet_of (same.managed i)) (same.held i)
-    ++ lease6_rows (outlet_of (same.managed i)) (same.lease6 i)
+    ++ lease6_rows (outlet_of (same.managed i)) (same.managed i).conf.dhcp6.shares (same.lease6 i)
+
+same_parts4 : (old new : Iface) → SameSources old new → parts4 new ≡ parts4 old
+same_parts4 old new same =
+    λ i. if is_some (same.lease i) || ((same.up i && not (same.stopped i)) && is_some (same.managed i).conf.address)
+    then part4_with (same.managed i) (same.lease i) ∷ []
+    else []
+
+same_parts : (old new : Iface) → SameSources old new → iface_parts new ≡ iface_parts old
+same_parts old new same = λ i. same_parts4 old new same i ++ parts6 (same.managed i) (same.lease6 i)
 
 pub quiet_rows : (own : List Mac) (turn : Turn) (iface : Iface) → (iface_turned own turn iface).reports ≡ []
     → iface_rows (iface_turned own turn iface).iface ≡ iface_rows iface
 quiet_rows own turn iface none = same_rows iface (iface_turned own turn iface).iface (turn_quiet own turn iface none)
+
+pub quiet_parts : (own : List Mac) (turn : Turn) (iface : Iface) → (iface_turned own turn iface).reports ≡ []
+    → iface_parts (iface_turned own turn iface).iface ≡ iface_parts iface
+quiet_parts own turn iface none = same_parts iface (iface_turned own turn iface).iface (turn_quiet own turn iface none)
 
 pub quiet_kept6 : (own : List Mac) (turn : Turn) (iface : Iface) → (iface_turned own turn iface).reports ≡ []
     → (iface_turned own turn iface).iface.dhcp6.kept ≡ iface.dhcp6.kept

@@ -25,7 +25,7 @@ use Rattle.client_model.specs.Dhcp6Steps.{begin_dhcp6, contested, dhcp6_step, re
 use Rattle.client_model.specs.IfaceSteps.{IfaceStep, index_of, silent, then_step}
 use Rattle.client_model.specs.LocalSteps.{armed}
 use Rattle.client_model.specs.KeptLeases.{Beginning}
-use Rattle.client_model.specs.Interfaces.{begins, machines_drop, machines_rebind, machines_stop, resting, carrier_comes, carrier_goes, opened, restarted, unsent_in, ticked, carried, halted, released, rebound, told_at_stop}
+use Rattle.client_model.specs.Interfaces.{begins, machines_drop, machines_rebind, machines_stop, resting, carrier_at_opening, carrier_comes, carrier_goes, opened, restarted, unsent_in, ticked, carried, halted, released, rebound, told_at_stop}
 use Rattle.client_model.specs.IfaceTurns.{Turn, arp_heard, hears, hears_either, hears_message, hears_message6, hears_packet, taken, input_step, iface_turned}
 use Rattle.client_model.specs.Runs.{iface_run}
 
@@ -180,10 +180,12 @@ turned_is_same own turn iface =
     in_turn iface anew _ (unsent_same turn.unsent turn.at turn.salt iface)
     (in_turn anew first.iface _ (ticked_same turn.at turn.salt anew) (input_same own turn.at turn.salt turn.event turn.bytes first.iface))
 
+at_opening_same : (up : Bool) (at salt : ℕ) (iface : Iface) → StepSame iface (carrier_at_opening up at salt iface)
+at_opening_same true at salt iface = comes_same at salt iface
+at_opening_same false at salt iface = itself iface
+
 pub opened_is_same : (up at salt : ℕ) (beginning : Beginning) → StepSame (resting beginning) (opened up at salt beginning)
-opened_is_same up at salt beginning =
-    gated (StepSame (resting beginning)) (is_up up beginning.managed.spec.index.number) (carrier_comes at salt (resting beginning)) (silent (resting beginning))
-    (comes_same at salt (resting beginning)) (itself (resting beginning))
+opened_is_same up at salt beginning = at_opening_same (is_up up beginning.managed.spec.index.number) at salt (resting beginning)
 
 pub turned_same : (own : List Mac) (turn : Turn) (iface : Iface) → (iface_turned own turn iface).iface.managed ≡ iface.managed
 turned_same own turn iface = (turned_is_same own turn iface).managed

@@ -13,6 +13,7 @@ use Rattle.v6_frames.specs.Spelled.{frame6_of}
 pub use Rattle.v4_client.specs.Moments.{earlier}
 use Rattle.v4_client.specs.Saying.{sent_of}
 use Rattle.arp_acd.specs.declared.detection.ArpSay.TheVariants.{Probe, Announce}
+use Rattle.world.specs.HookCalls.{Job}
 use Rattle.world.specs.declared.rows.HostRow.{HostRow}
 use Rattle.world.specs.declared.wakes.Begin.{Begin}
 use Rattle.client_model.specs.declared.interfaces.Iface.{Iface}
@@ -21,6 +22,7 @@ use Rattle.client_model.specs.IfaceSteps.{Report, IfaceStep, index_of}
 use Rattle.client_model.specs.Interfaces.{opened, iface_due}
 use Rattle.client_model.specs.KeptLeases.{Beginning}
 use Rattle.client_model.specs.IfaceTurns.{Turn, iface_turned}
+use Rattle.client_model.specs.Jobs.{jobs_along}
 use Rattle.client_model.specs.WantedRows.{wanted_rows}
 
 -- the client between two turns
@@ -48,29 +50,31 @@ spelled spec ask message = record { iface = spec.index; bytes = frame_of spec as
 abbrev pub sends_of : IfaceStep → List Sending
 sends_of step = map (spelled step.iface.managed.spec step.iface.dhcp4.settings.ask) step.said
 
--- how the client goes on, the frames that it offers, and what is new, in order
+-- how the client goes on, the frames that it offers, what is new, and the jobs of hooks, in order
 pub record ClientStep : Type 0 where
   pub client : Client
   pub sends : List Sending
   pub reports : List Report
+  pub jobs : List Job
 
--- the step that the steps of its interfaces make
-abbrev pub joined : List Mac → List IfaceStep → ClientStep
-joined own steps = record {
+-- the step that the steps of its interfaces make, which were these before
+abbrev pub joined : List Mac → (before : List Iface) → List IfaceStep → ClientStep
+joined own before steps = record {
   client = record { own = own; ifaces = map (λ step. step.iface) steps };
   sends = flat_map sends_of steps;
   reports = flat_map (λ step. step.reports) steps;
+  jobs = jobs_along [] before steps;
 }
 
--- the opening: `specs` are all interfaces, `beginnings` those that the client manages
+-- the opening, of one interface after another: `specs` are all interfaces, `beginnings` those that the client manages
 abbrev pub opening : List Beginning → (specs : List IfSpec) → Begin → ClientStep
-opening beginnings specs begin = joined (map (λ spec. spec.mac) specs) (map (opened begin.up (moment_of begin.at) begin.salt) beginnings)
+opening beginnings specs begin = joined (map (λ spec. spec.mac) specs) [] (map (opened begin.up (moment_of begin.at) begin.salt) beginnings)
 
 abbrev pub steps_of : Turn → Client → List IfaceStep
 steps_of turn client = map (iface_turned client.own turn) client.ifaces
 
 abbrev pub client_turned : Turn → Client → ClientStep
-client_turned turn client = joined client.own (steps_of turn client)
+client_turned turn client = joined client.own client.ifaces (steps_of turn client)
 
 abbrev pub rows_of : Client → List HostRow
 rows_of client = wanted_rows client.ifaces

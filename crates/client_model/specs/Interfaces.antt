@@ -1,5 +1,5 @@
 -- One interface: its carrier, its machines, and the steps that it makes.
-use Rattle.std.specs.Prelude.{ℕ, Bool, true, false, if◌then◌else◌, Option}
+use Rattle.std.specs.Prelude.{ℕ, Bool, true, false, if◌then◌else◌, [], ◌∷◌, Option}
 use Rattle.ipv4ll.specs.Table as local
 use Rattle.ipv4ll.specs.Table.{ll_restarts, off}
 use Rattle.v4_client.specs.declared.states.Tell.{Tell}
@@ -13,7 +13,8 @@ use Rattle.v4_client.specs.Moments.{earlier}
 use Rattle.settings.specs.declared.interfaces.IfConf.{IfConf}
 use Rattle.script_model.specs.IfaceSets.{is_in, is_up}
 use Rattle.client_model.specs.declared.interfaces.Iface.{Iface}
-use Rattle.client_model.specs.declared.steps.News.TheVariants.{CarrierCame, CarrierWent, Released, Stopped}
+use Rattle.client_model.specs.declared.steps.News.TheVariants.{Opened, CarrierCame, CarrierWent, Released, Stopped}
+use Rattle.client_model.specs.declared.steps.News.{News}
 use Rattle.client_model.specs.declared.steps.TimedMachine.{TimedMachine}
 use Rattle.client_model.specs.declared.steps.TimedMachine.TheVariants.{Dhcp4, LinkLocal, Dhcp6}
 use Rattle.client_model.specs.ClientSettings.{settings_of}
@@ -52,10 +53,23 @@ resting beginning = record {
 abbrev pub carrier_comes : (at salt : ℕ) → Iface → IfaceStep
 carrier_comes at salt iface = with_news CarrierCame iface (begins at salt (record iface { up = true }))
 
+-- the opening is told with the carrier that there is
+abbrev pub opening_told : (up : Bool) → Iface → IfaceStep
+opening_told up iface = record {
+  iface = iface;
+  said = [];
+  reports = record { before = iface; news = Opened; after = record iface { up = up } } ∷ [];
+}
+
+abbrev pub carrier_at_opening : (up : Bool) → (at salt : ℕ) → Iface → IfaceStep
+carrier_at_opening true at salt iface = carrier_comes at salt iface
+carrier_at_opening false at salt iface = silent iface
+
 -- Where it has carrier at the opening, this is a carrier that comes. No machine ticks.
 abbrev pub opened : (up at salt : ℕ) → Beginning → IfaceStep
 opened up at salt beginning =
-    if is_up up beginning.managed.spec.index.number then carrier_comes at salt (resting beginning) else silent (resting beginning)
+    let has = is_up up beginning.managed.spec.index.number in
+    then_step (opening_told has (resting beginning)) (carrier_at_opening has at salt)
 
 -- ---- ticks
 
@@ -111,7 +125,11 @@ rebound at salt iface = if iface.up then machines_rebind at salt iface else sile
 abbrev pub told_at_stop : IfConf → Tell
 told_at_stop conf = if conf.release then Server else Nobody
 
--- nothing is in force after a stop
+-- something new that changes nothing more
+abbrev pub tells : News → Iface → IfaceStep
+tells news iface = with_news news iface (silent iface)
+
+-- nothing is in force after a stop, which is told last
 abbrev pub halted : (at salt : ℕ) → Iface → IfaceStep
 halted at salt iface =
-    with_news Stopped iface (machines_stop (told_at_stop iface.managed.conf) at salt (record iface { stopped = true }))
+    then_step (machines_stop (told_at_stop iface.managed.conf) at salt (record iface { stopped = true })) (tells Stopped)

@@ -12,6 +12,8 @@ pub mod HostDuid
 pub mod Interfaces
 pub mod IfaceTurns
 pub mod WantedRows
+pub mod ResolverParts
+pub mod Jobs
 pub mod Clients
 pub mod Runs
 pub mod OwnInputs

@@ -8,6 +8,7 @@ use Rattle.client_model.specs.IfaceSteps.{index_of, news_of}
 use Rattle.client_model.specs.IfaceTurns.{Turn, iface_turned}
 use Rattle.client_model.specs.Clients.{Client, Sending, sends_of, client_turned}
 use Rattle.client_model.specs.WantedRows.{iface_rows}
+use Rattle.client_model.specs.ResolverParts.{iface_parts}
 
 abbrev pub iface_run : List Mac → Iface → List Turn → Iface
 iface_run own iface [] = iface
@@ -45,10 +46,11 @@ abbrev pub IsQuietElsewhere : Type 0
 IsQuietElsewhere = (own : List Mac) (turn : Turn) (iface : Iface) → NamesOther (index_of iface) turn.event
     → iface_turned own turn iface ≡ iface_turned own (record turn { event = Quiet; bytes = [] }) iface
 
--- A turn of an interface of which nothing is new leaves its rows and the DHCPv6 lease that it keeps; where it says nothing either,
--- the DHCPv4 lease.
+-- A turn of an interface of which nothing is new leaves its rows, what it tells the resolver, and the DHCPv6 lease that it keeps;
+-- where it says nothing either, the DHCPv4 lease.
 pub record KeepsInQuiet (own : List Mac) (turn : Turn) (iface : Iface) : Type 0 where
   pub rows : news_of (iface_turned own turn iface) ≡ [] → iface_rows (iface_turned own turn iface).iface ≡ iface_rows iface
+  pub parts : news_of (iface_turned own turn iface) ≡ [] → iface_parts (iface_turned own turn iface).iface ≡ iface_parts iface
   pub kept6 : news_of (iface_turned own turn iface) ≡ [] → (iface_turned own turn iface).iface.dhcp6.kept ≡ iface.dhcp6.kept
   pub kept4 : news_of (iface_turned own turn iface) ≡ [] → (iface_turned own turn iface).said ≡ []
       → (iface_turned own turn iface).iface.dhcp4.kept ≡ iface.dhcp4.kept

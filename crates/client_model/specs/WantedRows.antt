@@ -1,20 +1,22 @@
 -- The rows that the interfaces' addresses give, computed from scratch.
-use Rattle.std.specs.Prelude.{ℕ, ◌+◌, Bool, true, false, not, ◌&&◌, ◌==◌, nat_lt, if◌then◌else◌, List, [], ◌∷◌, ◌++◌, find, flat_map, Option, Some, None, option_map, option_and_then, slice_get, unwrap_or}
+use Rattle.std.specs.Prelude.{ℕ, ◌+◌, Bool, true, false, not, ◌&&◌, ◌==◌, nat_lt, if◌then◌else◌, List, [], ◌∷◌, ◌++◌, filter, find, flat_map, Option, Some, None, option_map, option_and_then, slice_get, unwrap_or}
 use Rattle.std.specs.Option.{option_or}
 use Rattle.net_types.specs.declared.address.Ip4.{Ip4}
 use Rattle.net_types.specs.declared.address.Net4.{Net4}
+use Rattle.net_types.specs.declared.address.Net6.{Net6}
 use Rattle.net_types.specs.declared.address.Net.TheVariants as Family
 use Rattle.net_types.specs.Networks.{network_of, is_within}
 use Rattle.net_types.specs.declared.interface.IfIndex.{IfIndex}
 use Rattle.world.specs.declared.rows.HostRow.{HostRow}
 use Rattle.world.specs.declared.rows.HostRow.TheVariants.{Addr, Route}
-use Rattle.world.specs.declared.rows.Via.TheVariants.{OnLink, Gate4}
+use Rattle.world.specs.declared.rows.Via.TheVariants.{OnLink, Reject, Gate4}
 use Rattle.host_tables.specs.Precedence.{unique_rows}
 use Rattle.ipv4ll.specs.Table.{held_in}
 use Rattle.v4_options.specs.declared.code.TheConstants.{CLASSLESS_ROUTES, ROUTERS}
 use Rattle.v4_options.specs.declared.routes.ClasslessRoute.{ClasslessRoute}
 use Rattle.v4_options.specs.Numbers.{addrs_in}
 use Rattle.v4_options.specs.Routes.{routes_in}
+use Rattle.prefix_share.specs.Subnets.{network_number, subnet_in}
 use Rattle.lease_text.specs.Leases.{ValueContent, LeaseContent}
 use Rattle.v4_client.specs.Clients.{held_of}
 use Rattle.lease6_text.specs.declared.lease.Item6.{Item6}
@@ -22,8 +24,9 @@ use Rattle.lease6_text.specs.Leases.{IaLeaseContent, Lease6Content}
 use Rattle.v6_client.specs.Clients as dhcp6
 use Rattle.v6_options.specs.declared.ia.IaKind.{IaKind}
 use Rattle.v6_options.specs.declared.ia.IaKind.TheVariants.{Na, Pd}
+use Rattle.settings.specs.declared.dhcp6_conf.ShareConf.{ShareConf}
 use Rattle.settings.specs.declared.interfaces.Managed.{Managed}
-use Rattle.client_model.specs.declared.outlet.Outlet.{Outlet}
+use Rattle.settings.specs.declared.outlet.Outlet.{Outlet}
 use Rattle.client_model.specs.declared.interfaces.Iface.{Iface}
 
 -- the metric of an interface's routes, where none is configured
@@ -67,6 +70,23 @@ abbrev pub static_rows : Outlet → (in_force : Bool) → Option Net4 → (route
 static_rows outlet false address router = []
 static_rows outlet true None router = []
 static_rows outlet true (Some net) router = address_rows outlet net ++ router_routes outlet net router
+
+-- ---- a static IPv6 address
+
+abbrev pub network6_of : Net6 → Net6
+network6_of net = record { ip = record { number = network_number net }; len = net.len }
+
+abbrev pub network6_routes : Outlet → Net6 → List HostRow
+network6_routes outlet net =
+    if nat_lt net.len 128
+    then Route outlet.iface (Family.V6 (network6_of net)) OnLink outlet.metric ∷ []
+    else []
+
+-- it is in force as one of IPv4 is
+abbrev pub static6_rows : Outlet → (in_force : Bool) → Option Net6 → List HostRow
+static6_rows outlet false address = []
+static6_rows outlet true None = []
+static6_rows outlet true (Some net) = Addr outlet.iface (Family.V6 net) ∷ network6_routes outlet net
 
 -- ---- a lease (RFC 2131, RFC 3442)
 
@@ -114,25 +134,52 @@ abbrev pub local_rows : Outlet → Option Ip4 → List HostRow
 local_rows outlet None = []
 local_rows outlet (Some ip) = address_rows outlet (local_net ip)
 
--- ---- the addresses of a DHCPv6 lease, each by itself (RFC 8415, section 18.2.10.1, leaves it to routers to tell the network)
+-- ---- the shares of a delegated prefix (RFC 3633, section 12.1)
 
-abbrev pub item_rows : Outlet → IaKind → Item6 → List HostRow
-item_rows outlet Na item = Addr outlet.iface (Family.V6 item.net) ∷ []
-item_rows outlet Pd item = []
+-- the first address of a subnet after that of its routers (RFC 4291, section 2.6.1)
+abbrev pub first_address : Net6 → Net6
+first_address net = record { ip = record { number = net.ip.number + 1 }; len = net.len }
 
-abbrev pub ia_rows : Outlet → IaLeaseContent → List HostRow
-ia_rows outlet ia = flat_map (item_rows outlet ia.kind) ia.items
+abbrev pub subnet_rows : Outlet → Option Net6 → List HostRow
+subnet_rows outlet None = []
+subnet_rows outlet (Some net) =
+    Addr outlet.iface (Family.V6 (first_address net)) ∷ Route outlet.iface (Family.V6 net) OnLink outlet.metric ∷ []
 
-abbrev pub lease6_rows : Outlet → Option Lease6Content → List HostRow
-lease6_rows outlet None = []
-lease6_rows outlet (Some lease) = flat_map (ia_rows outlet) lease.ias
+-- a share has its subnet of the prefix, on its own interface
+abbrev pub share_rows : Net6 → ShareConf → List HostRow
+share_rows prefix share = subnet_rows share.outlet (subnet_in prefix share.share)
 
+-- the shares of an IA's prefixes
+abbrev pub shares_of : (iaid : ℕ) → List ShareConf → List ShareConf
+shares_of iaid shares = filter (λ share. share.iaid == iaid) shares
+
+-- ---- a DHCPv6 lease: each address by itself (RFC 8415, section 18.2.10.1, leaves it to routers to tell the network); each
+-- prefix is refused where no longer route leads into it (RFC 7084, WPD-5), and its shares have their subnets
+
+abbrev pub item_rows : Outlet → List ShareConf → IaKind → Item6 → List HostRow
+item_rows outlet shares Na item = Addr outlet.iface (Family.V6 item.net) ∷ []
+item_rows outlet shares Pd item =
+    Route outlet.iface (Family.V6 item.net) Reject outlet.metric ∷ flat_map (share_rows item.net) shares
+
+abbrev pub ia_rows : Outlet → List ShareConf → IaLeaseContent → List HostRow
+ia_rows outlet shares ia = flat_map (item_rows outlet (shares_of ia.iaid shares) ia.kind) ia.items
+
+abbrev pub lease6_rows : Outlet → List ShareConf → Option Lease6Content → List HostRow
+lease6_rows outlet shares None = []
+lease6_rows outlet shares (Some lease) = flat_map (ia_rows outlet shares) lease.ias
+
+-- static addresses are in force while the carrier is up and no stop came
+abbrev pub is_in_force : Iface → Bool
+is_in_force iface = iface.up && not iface.stopped
+
+-- those of its own addresses, and those of the shares of its prefixes
 abbrev pub iface_rows : Iface → List HostRow
 iface_rows iface =
-    static_rows (outlet_of iface.managed) (iface.up && not iface.stopped) iface.managed.conf.address iface.managed.conf.router
+    static_rows (outlet_of iface.managed) (is_in_force iface) iface.managed.conf.address iface.managed.conf.router
+    ++ static6_rows (outlet_of iface.managed) (is_in_force iface) iface.managed.conf.address6
     ++ lease_rows (outlet_of iface.managed) iface.managed.conf.router (held_of iface.dhcp4)
     ++ local_rows (outlet_of iface.managed) (held_in iface.local.state)
-    ++ lease6_rows (outlet_of iface.managed) (dhcp6.held_of iface.dhcp6)
+    ++ lease6_rows (outlet_of iface.managed) iface.managed.conf.dhcp6.shares (dhcp6.held_of iface.dhcp6)
 
 -- the rows that are wanted, in row order
 abbrev pub wanted_rows : List Iface → List HostRow

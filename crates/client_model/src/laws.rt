@@ -4,6 +4,7 @@ ghost use Rattle.lease_text.specs.Leases.{LeaseContent};
 ghost use Rattle.lease6_text.specs.Leases.{Lease6Content};
 ghost use Rattle.world.specs.declared.rows.HostRow.{HostRow};
 ghost use Rattle.world.specs.RowOrder.{in_row_order};
+ghost use Rattle.settings.specs.ManagedRows.{SharesAreManaged};
 ghost use Rattle.host_model.specs.HostTable.{InRowOrder, Wantable};
 ghost use Rattle.client_model.specs.declared.interfaces.Iface.{Iface};
 ghost use Rattle.client_model.specs.IfaceTurns.{Turn};
@@ -49,10 +50,10 @@ pub fn options_are_asked_for_rightly()
     ensures { (asked refused : List ℕ) → AsksRightly asked refused }
 {}
 
-/// Law of the rows that these laws speak of: those that the interfaces want are on them, in row order, each once; and so
-/// is every table that was put in row order.
+/// Law of the rows that these laws speak of: those that the interfaces want are on them, in row order, each once, where the shares
+/// of their prefixes are theirs; and so is every table that was put in row order.
 pub fn wanted_rows_can_be_wanted()
-    ensures wantable { (ifaces : List Iface) → Wantable (map (λ iface. iface.managed) ifaces) (wanted_rows ifaces) }
+    ensures wantable { (ifaces : List Iface) → SharesAreManaged (map (λ iface. iface.managed) ifaces) → Wantable (map (λ iface. iface.managed) ifaces) (wanted_rows ifaces) }
     ensures in_order { (rows : List HostRow) → InRowOrder (in_row_order rows) }
 {}
 
@@ -74,8 +75,8 @@ pub fn kept_texts_are_leases6()
     ensures { (text : List ℕ) (lease : Lease6Content) → IsReading6 text lease }
 {}
 
-/// Law: an interface's rows and the DHCPv6 lease that it keeps change only in turns of which something is new, and the DHCPv4 lease
-/// that it keeps only in those or where it says something.
+/// Law: an interface's rows, what it tells the resolver, and the DHCPv6 lease that it keeps change only in turns of which
+/// something is new, and the DHCPv4 lease that it keeps only in those or where it says something.
 pub fn rows_and_leases_stay_in_quiet_turns()
     ensures { (own : List Mac) (turn : Turn) (iface : Iface) → KeepsInQuiet own turn iface }
 {}

@@ -4,7 +4,6 @@
 mod asking;
 mod interfaces;
 mod laws;
-mod outlet;
 mod steps;
 
 pub use asking::{BY_DUID, ETHERNET, WANTED_CODES};
@@ -15,5 +14,4 @@ pub use laws::{
     rows_and_leases_stay_in_quiet_turns, the_hosts_duid_fits, wanted_rows_can_be_wanted,
     what_is_asked_fits,
 };
-pub use outlet::Outlet;
 pub use steps::{News, TimedMachine};

@@ -5,6 +5,8 @@ use v6_client::News6;
 /// What is new on an interface.
 #[derive(Clone, Copy, Debug, PartialEq, Eq)]
 pub enum News {
+    /// The interface was opened.
+    Opened,
     /// The carrier came, or was there at the opening.
     CarrierCame,
     CarrierWent,

@@ -4,3 +4,4 @@ pub mod OrderedShares
 pub mod IdentifierLaws
 pub mod CodeLaws
 pub mod LengthLaws
+pub mod TextLaws

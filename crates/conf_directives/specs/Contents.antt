@@ -1,5 +1,5 @@
 -- What lines say, without where it lies in memory.
-use Rattle.std.specs.Prelude.{ℕ, Bool, List, [], ◌∷◌, map, Option, Some, None, option_map}
+use Rattle.std.specs.Prelude.{ℕ, Bool, List, [], ◌∷◌, map, Option, Some, None, option_map, string_bytes}
 use Rattle.net_types.specs.declared.address.Ip4.{Ip4}
 use Rattle.net_types.specs.declared.address.Net4.{Net4}
 use Rattle.net_types.specs.declared.address.Net6.{Net6}
@@ -90,15 +90,15 @@ abbrev pub static_content : StaticValue → StaticContent
 static_content (statics.Address net) = Address net
 static_content (statics.Routers addresses) = Routers addresses.items
 static_content (statics.NameServers addresses) = NameServers addresses.items
-static_content (statics.DomainName name) = DomainName name.items
-static_content (statics.DomainSearch names) = DomainSearch (map (λ name. name.items) names.items)
+static_content (statics.DomainName name) = DomainName (string_bytes name)
+static_content (statics.DomainSearch names) = DomainSearch (map string_bytes names.items)
 static_content (statics.Address6 net) = Address6 net
 
 abbrev pub ia_content : IaLine → IaContent
 ia_content ia = record { kind = ia.kind; iaid = ia.iaid; hint = ia.hint; shares = ia.shares.items }
 
 abbrev pub env_content : Env → EnvContent
-env_content env = record { name = env.name.items; value = env.value.items }
+env_content env = record { name = string_bytes env.name; value = string_bytes env.value }
 
 abbrev pub directive_content : Directive → DirectiveContent
 directive_content (directives.Flag name) = Flag name
@@ -113,7 +113,7 @@ directive_content (directives.Ia ia) = Ia (ia_content ia)
 directive_content (directives.Env env) = Variable (env_content env)
 directive_content (directives.Blacklist nets) = Blacklist nets.items
 directive_content (directives.Interfaces interfaces patterns) = Interfaces interfaces patterns.items
-directive_content (directives.Script path) = Script path.items
+directive_content (directives.Script path) = Script (string_bytes path)
 
 abbrev pub said_content : LineSaid → SaidContent
 said_content said = record { directive = option_map directive_content said.directive; notices = map (λ word. word.now) said.notices.items }

@@ -5,12 +5,12 @@ ghost use Rattle.conf_words.specs.Marks.{is_of_word};
 ghost use Rattle.conf_directives.specs.Contents.{said_content, static_content};
 ghost use Rattle.conf_directives.specs.Names.{named};
 ghost use Rattle.conf_directives.specs.declared.statics.StaticName.TheVariants as names;
-ghost use Rattle.conf_directives.specs.Statics.{is_key, named_value, only_name, static_by, static_rows, static_said, value_of};
+ghost use Rattle.conf_directives.specs.Statics.{is_key, named_value, static_by, static_rows, static_said, value_of};
 ghost use Rattle.conf_directives.specs.Words.{members_of};
 
 use crate::names::named;
 use crate::nets::own_net;
-use crate::texts::{domain_name, domain_names};
+use crate::texts::{domain_names, domain_text};
 use crate::values::{Directive, LineSaid, StaticValue};
 use crate::words::{members_of, one_or_more, only};
 use net_types::{NoMemory, net6_of, split_at_byte};
@@ -56,16 +56,10 @@ fn address6(members: &[&[u8]]) -> Option<StaticValue>
 fn own_domain(alloc: Global, members: &[&[u8]]) -> Result<Option<StaticValue>, NoMemory>
     ensures { IfOk result (λ value. option_map static_content value ≡ value_of names.DomainName (map (λ member. member.now) members.now)) }
 {
-    match only_name(members) {
-        Some(name) => Ok(Some(StaticValue::DomainName(name.to_vec(alloc)?))),
-        None => Ok(None),
-    }
-}
-
-fn only_name<'a>(members: &[&'a [u8]]) -> Option<&'a [u8]>
-    ensures { option_map (λ name. name.now) result ≡ only_name (map (λ member. member.now) members.now) }
-{
-    domain_name(only(members)?)
+    let Some(text) = only(members) else {
+        return Ok(None);
+    };
+    Ok(domain_text(alloc, text)?.map(StaticValue::DomainName))
 }
 
 /// The value of a name, by its members.

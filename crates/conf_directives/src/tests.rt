@@ -64,7 +64,7 @@ fn what_lines_say(rt: HostRuntime) -> Result<(), Fail> {
         ),
         (
             b"static domain_search=a b",
-            "Static(DomainSearch([[97], [98]]))",
+            "Static(DomainSearch([\"a\", \"b\"]))",
             b"",
         ),
         (b"static domain_name=a b", "bad", b""),
@@ -84,7 +84,7 @@ fn what_lines_say(rt: HostRuntime) -> Result<(), Fail> {
         (b"ia_pd 1/::", "bad", b""),
         (
             b"env \"a=b =\"",
-            "Env(Env { name: [97], value: [98, 32, 61] })",
+            "Env(Env { name: \"a\", value: \"b =\" })",
             b"",
         ),
         (

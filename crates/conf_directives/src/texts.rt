@@ -1,6 +1,8 @@
 //! Texts that are taken as they are.
-ghost use Rattle.std.specs.Prelude.{◌≡◌, option_map, map, IfOk};
+ghost use Rattle.std.specs.Prelude.{◌≡◌, true, option_map, map, IfOk};
 ghost use Rattle.std.specs.List.{list_all};
+ghost use Rattle.std.specs.Str.{IsUtf8};
+ghost use Rattle.std.specs.String.{string_bytes};
 ghost use Rattle.net_types.specs.Marks.{is_printable};
 ghost use Rattle.domain_names.specs.NameText.{is_name};
 ghost use Rattle.conf_directives.specs.Contents.{env_content};
@@ -10,6 +12,7 @@ use crate::values::Env;
 use domain_names::is_name;
 use net_types::{NoMemory, split_at_byte};
 use std::alloc::{AllocError, Global};
+use std::str::from_utf8;
 
 /// How many bytes a text has at most.
 pub const TEXT_LIMIT: usize = 255;
@@ -32,6 +35,17 @@ fn is_printed(text: &[u8], limit: usize) -> bool
     text.len() <= limit && are_printable(text)
 }
 
+/// A copy of bytes that are text.
+fn owned_text(alloc: Global, text: &[u8]) -> Result<String, AllocError>
+    requires { IsUtf8 text.now }
+    ensures { IfOk result (λ copy. string_bytes copy ≡ text.now) }
+{
+    match from_utf8(text) {
+        Ok(text) => String::from_str(alloc, text),
+        Err(_) => unreachable!(),
+    }
+}
+
 /// The text, where it is printable ASCII of no more bytes.
 pub(crate) fn printed(text: &[u8], limit: usize) -> Option<&[u8]>
     ensures { option_map (λ printed. printed.now) result ≡ printed limit text.now }
@@ -43,11 +57,37 @@ pub(crate) fn printed(text: &[u8], limit: usize) -> Option<&[u8]>
     }
 }
 
+/// A copy of the text, where it is printable ASCII of no more bytes.
+pub(crate) fn printed_text(
+    alloc: Global,
+    text: &[u8],
+    limit: usize,
+) -> Result<Option<String>, AllocError>
+    ensures { IfOk result (λ copy. option_map string_bytes copy ≡ printed limit text.now) }
+{
+    if is_printed(text, limit) {
+        Ok(Some(owned_text(alloc, text)?))
+    } else {
+        Ok(None)
+    }
+}
+
 /// The text, where it is the name of a domain.
 pub(crate) fn domain_name(text: &[u8]) -> Option<&[u8]>
     ensures { option_map (λ name. name.now) result ≡ domain_name text.now }
 {
     if is_name(text) { Some(text) } else { None }
+}
+
+/// A copy of the text, where it is the name of a domain.
+pub(crate) fn domain_text(alloc: Global, text: &[u8]) -> Result<Option<String>, AllocError>
+    ensures { IfOk result (λ name. option_map string_bytes name ≡ domain_name text.now) }
+{
+    if is_name(text) {
+        Ok(Some(owned_text(alloc, text)?))
+    } else {
+        Ok(None)
+    }
 }
 
 fn all_names(texts: &[&[u8]]) -> bool
@@ -56,12 +96,14 @@ fn all_names(texts: &[&[u8]]) -> bool
     texts.iter().all(|text| is_name(text))
 }
 
-fn copies(alloc: Global, texts: &[&[u8]]) -> Result<Vec<Vec<u8>>, AllocError>
-    ensures { IfOk result (λ copies. map (λ copy. copy.items) copies.items ≡ map (λ text. text.now) texts.now) }
+/// Copies of texts that are names of domains.
+fn copies(alloc: Global, texts: &[&[u8]]) -> Result<Vec<String>, AllocError>
+    requires { list_all (λ text. is_name text.now) texts.now ≡ true }
+    ensures { IfOk result (λ copies. map string_bytes copies.items ≡ map (λ text. text.now) texts.now) }
 {
     let mut copies = Vec::new(alloc);
     for text in texts {
-        copies.push(text.to_vec(alloc)?)?;
+        copies.push(owned_text(alloc, text)?)?;
     }
     Ok(copies)
 }
@@ -77,8 +119,8 @@ fn are_names(texts: &[&[u8]]) -> bool
 pub(crate) fn domain_names(
     alloc: Global,
     texts: &[&[u8]],
-) -> Result<Option<Vec<Vec<u8>>>, AllocError>
-    ensures { IfOk result (λ names. option_map (λ v. map (λ name. name.items) v.items) names ≡ domain_names (map (λ text. text.now) texts.now)) }
+) -> Result<Option<Vec<String>>, AllocError>
+    ensures { IfOk result (λ names. option_map (λ v. map string_bytes v.items) names ≡ domain_names (map (λ text. text.now) texts.now)) }
 {
     if are_names(texts) {
         Ok(Some(copies(alloc, texts)?))
@@ -105,8 +147,8 @@ pub(crate) fn variable(alloc: Global, text: &[u8]) -> Result<Option<Env>, AllocE
 {
     match variable_parts(text) {
         Some((name, value)) => Ok(Some(Env {
-            name: name.to_vec(alloc)?,
-            value: value.to_vec(alloc)?,
+            name: owned_text(alloc, name)?,
+            value: owned_text(alloc, value)?,
         })),
         None => Ok(None),
     }

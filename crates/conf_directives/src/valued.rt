@@ -6,7 +6,7 @@ ghost use Rattle.conf_directives.specs.declared.names.ValueName.TheVariants as v
 
 use crate::identifiers::identifier;
 use crate::names::{InterfaceList, SecondsName, ValueName};
-use crate::texts::{TEXT_LIMIT, printed, variable};
+use crate::texts::{TEXT_LIMIT, printed, printed_text, variable};
 use crate::values::{Directive, Identifier};
 use crate::words::{one_or_more, only};
 use net_types::{NoMemory, number_of};
@@ -67,7 +67,7 @@ fn script(alloc: Global, arguments: &[&[u8]]) -> Result<Option<Directive>, NoMem
     let Some(text) = only(arguments) else {
         return Ok(None);
     };
-    Ok(copied(alloc, printed(text, TEXT_LIMIT))?.map(Directive::Script))
+    Ok(printed_text(alloc, text, TEXT_LIMIT)?.map(Directive::Script))
 }
 
 fn env(alloc: Global, arguments: &[&[u8]]) -> Result<Option<Directive>, NoMemory>

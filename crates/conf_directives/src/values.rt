@@ -39,9 +39,9 @@ pub enum StaticValue {
     /// `domain_name_servers`.
     NameServers(Vec<Ip4>),
     /// `domain_name`.
-    DomainName(Vec<u8>),
+    DomainName(String),
     /// `domain_search`.
-    DomainSearch(Vec<Vec<u8>>),
+    DomainSearch(Vec<String>),
     /// `ip6_address`.
     Address6(Net6),
 }
@@ -72,8 +72,8 @@ pub struct IaLine {
 #[derive(Debug, Drop)]
 pub struct Env {
     /// Holds no `=`, and isn't empty.
-    pub name: Vec<u8>,
-    pub value: Vec<u8>,
+    pub name: String,
+    pub value: String,
 }
 
 /// Which interfaces a word names.
@@ -104,7 +104,7 @@ pub enum Directive {
     Blacklist(Vec<Net4>),
     Interfaces(InterfaceList, Vec<Pattern>),
     /// A path, printable ASCII. Empty: the device's own.
-    Script(Vec<u8>),
+    Script(String),
 }
 
 /// What a line says.

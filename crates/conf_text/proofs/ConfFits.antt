@@ -1,33 +1,36 @@
 -- What is in force for a managed interface is within bounds.
 use Rattle.std.proofs.Common.{◌≡◌, ℕ, ◌<◌, ◌≤◌, ◌^◌, Bool, true, false, cond, List, [], ◌∷◌, ◌++◌, length, map, find, filter_map, Option, Some, None, option_map, sym, subst, arith}
 use Rattle.std.specs.Prelude.{IfSome, option_and_then, unwrap_or}
-use Rattle.std.specs.List.{AllByRecursion, cons_option, filter, last_or}
+use Rattle.std.specs.List.{AllByRecursion, filter, last_or}
 use Rattle.std.specs.Option.{option_or}
 use Rattle.std.proofs.lemmas.List.{length-append}
 use Rattle.net_types.specs.declared.address.Ip4.{Ip4}
 use Rattle.net_types.specs.declared.interface.IfSpec.{IfSpec}
 use Rattle.net_types.specs.declared.interface.Name.{Name}
-use Rattle.net_types.specs.AddressText.{FitsIp4, FitsNet4}
+use Rattle.net_types.specs.AddressText.{FitsIp4, FitsNet4, FitsNet6}
 use Rattle.settings.specs.Dhcp4Settings as settings
 use Rattle.settings.specs.Fitting.{FitsManaged, AreManaged}
 use Rattle.conf_words.specs.Directives.{Directive}
 use Rattle.conf_directives.specs.declared.names.HeadingName.{HeadingName}
 use Rattle.conf_directives.specs.declared.names.HeadingName.TheVariants.{Interface, Profile, Ssid}
 use Rattle.conf_directives.specs.Names.{directive_at, heading_at}
-use Rattle.conf_directives.specs.Contents.{noticed, DirectiveContent, Metric, HostName, VendorClass, ClientIs, Static, Ia, IdentifierContent, Hardware, Bytes, Duid, StaticContent, Address, Routers, IaContent, SaidContent}
-use Rattle.conf_text.specs.Associations.{ia_with, is_kept}
+use Rattle.conf_directives.specs.Contents.{noticed, DirectiveContent, Metric, HostName, VendorClass, ClientIs, Static, Ia, IdentifierContent, Hardware, Bytes, Duid, StaticContent, Address, Address6, Routers, IaContent, SaidContent}
+use Rattle.conf_text.specs.Associations.{association, associations, is_kept}
+use Rattle.conf_text.specs.Choosing.{is_managed, scope_for}
 use Rattle.conf_text.specs.Configurations.{BlockContent, Configuration, block_of, configured}
 use Rattle.conf_text.specs.Faults.{names_in}
-use Rattle.conf_text.specs.Fits.{FitsSpec, SettingsFit}
+use Rattle.conf_text.specs.Fits.{AreInForce, FitsSpec, SettingsFit}
 use Rattle.conf_text.specs.Places.{Place, Global, Block, Skipped, is_named, is_place}
 use Rattle.conf_text.specs.Sayings.{directive_of, said_at_place, said_there}
-use Rattle.conf_text.specs.Scopes.{ScopeContent, scope_of, last_of, address_in, routers_in}
-use Rattle.conf_text.specs.Settings.{identifier_or_hardware, first_router, in_force, is_managed, managed_of, managed_with, scope_for, settings_for, settings_of}
+use Rattle.conf_text.specs.Scopes.{ScopeContent, scope_of, last_of, address_in, address6_in, routers_in}
+use Rattle.conf_text.specs.Settings.{identifier_or_hardware, first_router, in_force_among, managed_of, managed_with, settings_for, settings_of}
 use Rattle.conf_text.specs.Standings.{Standing, standing, of_interface, is_global_alone, SaysInBlock, SaysAt, StandsUnder, StandFrom, place_after}
 use Rattle.conf_text.specs.Values.{metric_said, host_said, vendor_said, identifier_said, ia_said, static_said}
-use Rattle.conf_text.proofs.IaFits.{all_join, ias_fit}
+use Rattle.conf_text.proofs.FoundFits.{all_join, either_fits, found_fit}
+use Rattle.conf_text.proofs.IaFits.{FitMetrics, associations_fit, ias_fit, shared_fit}
 use Rattle.conf_text.proofs.IaLaws.{few_ias}
 use Rattle.conf_text.proofs.OnceLaws.{each_unlike, ias_few}
+use Rattle.conf_text.proofs.LeadLaws.{shares_lead}
 use Rattle.conf_text.proofs.SaidFits.{FitsDirective, FitsIa, FitsSaid, says_fits, some_guard}
 
 -- ---- lines
@@ -68,14 +71,6 @@ front_fits place (line ∷ lines) (stands ∷ front) rest stand = (standing_fits
 
 -- ---- scopes
 
-with_found_fits : {X : Type 0} (P : X → Type 0) (o : Option X) (xs : List X) → IfSome o P → AllByRecursion P xs → AllByRecursion P (cons_option o xs)
-with_found_fits P None xs fits fit = fit
-with_found_fits P (Some x) xs fits fit = (fits, fit)
-
-found_fit : {C X : Type 0} (f : C → Option X) (Q : C → Type 0) (P : X → Type 0) → ((c : C) → Q c → IfSome (f c) P) → (cs : List C) → AllByRecursion Q cs → AllByRecursion P (filter_map f cs)
-found_fit f Q P each [] fit = tt
-found_fit f Q P each (c ∷ cs) fit = with_found_fits P (f c) (filter_map f cs) (each c fit.0) (found_fit f Q P each cs fit.1)
-
 last_fits : {X : Type 0} (P : X → Type 0) (o : Option X) (xs : List X) → IfSome o P → AllByRecursion P xs → IfSome (last_or o xs) P
 last_fits P o [] fits fit = fits
 last_fits P o (x ∷ xs) fits fit = last_fits P (Some x) xs fit.0 fit.1
@@ -95,6 +90,7 @@ pub record FitsScope (scope : ScopeContent) : Type 0 where
   pub vendor : IfSome scope.vendor (λ class. length class < 256)
   pub identifier : IfSome scope.identifier FitsIdentifier
   pub address : IfSome scope.statics.address FitsNet4
+  pub address6 : IfSome scope.statics.address6 FitsNet6
   pub routers : IfSome scope.statics.routers (AllByRecursion FitsIp4)
   pub ias : AllByRecursion FitsIa scope.ias
 
@@ -126,6 +122,10 @@ address_one : (value : StaticContent) → FitsStatic value → IfSome (address_i
 address_one (Address net) fits = fits
 address_one _ fits = tt
 
+address6_one : (value : StaticContent) → FitsStatic value → IfSome (address6_in value) FitsNet6
+address6_one (Address6 net) fits = fits
+address6_one _ fits = tt
+
 routers_one : (value : StaticContent) → FitsStatic value → IfSome (routers_in value) (AllByRecursion FitsIp4)
 routers_one (Routers addresses) fits = fits
 routers_one _ fits = tt
@@ -142,15 +142,12 @@ scope_fits lines fit =
       vendor = last_found_fits vendor_said FitsDirective (λ class. length class < 256) vendor_one lines fit;
       identifier = last_found_fits identifier_said FitsDirective FitsIdentifier identifier_one lines fit;
       address = last_found_fits address_in FitsStatic FitsNet4 address_one (filter_map static_said lines) statics;
+      address6 = last_found_fits address6_in FitsStatic FitsNet6 address6_one (filter_map static_said lines) statics;
       routers = last_found_fits routers_in FitsStatic (AllByRecursion FitsIp4) routers_one (filter_map static_said lines) statics;
       ias = found_fit ia_said FitsDirective FitsIa ia_one lines fit;
     }
 
 -- ---- what is in force
-
-either_fits : {X : Type 0} (P : X → Type 0) (block global : Option X) → IfSome block P → IfSome global P → IfSome (option_or block global) P
-either_fits P None global fits other = other
-either_fits P (Some x) global fits other = fits
 
 text_fits : (o : Option (List ℕ)) → IfSome o (λ t. length t < 256) → length (unwrap_or o []) < 256
 text_fits None fits = omega arith
@@ -172,17 +169,22 @@ record FitsAfter (global scope : ScopeContent) : Type 0 where
   fits : FitsScope scope
   few : length (global.ias ++ scope.ias) ≤ 6
 
-managed_fits : (spec : IfSpec) (global block : ScopeContent) → FitsSpec spec → FitsScope global → FitsAfter global block → FitsManaged (record { spec = spec; conf = in_force spec.index.number global block })
-managed_fits spec global block one all after =
+managed_fits : (conf : Configuration) (specs : List IfSpec) (spec : IfSpec) (block : ScopeContent) → FitMetrics conf → AllByRecursion FitsSpec specs → FitsSpec spec → FitsScope conf.global → FitsAfter conf.global block
+    → FitsManaged (record { spec = spec; conf = in_force_among conf specs spec block })
+managed_fits conf specs spec block metrics each one all after =
+    let global : ScopeContent = conf.global in
     let here = after.fits in
     let few = after.few in
     let lines : List IaContent = global.ias ++ block.ias in
+    let index : ℕ = spec.index.number in
+    let asked = associations_fit index (omega (arith, one.index.1)) lines (all_join FitsIa global.ias block.ias all.ias here.ias) in
     record {
       index = one.index;
       name = one.name;
       mac = one.mac;
       metric = either_fits (λ n. n < 2 ^ 32) block.metric global.metric here.metric all.metric;
       address = either_fits FitsNet4 block.statics.address global.statics.address here.address all.address;
+      address6 = either_fits FitsNet6 block.statics.address6 global.statics.address6 here.address6 all.address6;
       router = router_fits (option_or block.statics.routers global.statics.routers) (either_fits (AllByRecursion FitsIp4) block.statics.routers global.statics.routers here.routers all.routers);
       dhcp4 = record {
         host = text_fits (option_or block.host global.host) (either_fits (λ t. length t < 256) block.host global.host here.host all.host);
@@ -190,9 +192,10 @@ managed_fits spec global block one all after =
         identifier = identifier_fits (option_or block.identifier global.identifier) (either_fits FitsIdentifier block.identifier global.identifier here.identifier all.identifier);
       };
       dhcp6 = record {
-        few = omega (arith, ias_few spec.index.number lines, few);
-        each = ias_fit spec.index.number (omega (arith, one.index.1)) lines (all_join FitsIa global.ias block.ias all.ias here.ias);
-        unlike = each_unlike (map (ia_with spec.index.number) (filter (is_kept spec.index.number lines) lines));
+        few = omega (arith, ias_few index lines, few);
+        each = ias_fit (associations index lines) asked;
+        shares = shared_fit conf metrics specs each spec.name (associations index lines) asked;
+        unlike = each_unlike (map (association index) (filter (is_kept index lines) lines));
       };
     }
 
@@ -214,26 +217,38 @@ AreFew front = (name : Name) → length ((scope_of (said_at_place Global front))
 few_alone : {X : Type 0} (xs ys : List X) → length (xs ++ ys) ≤ 6 → length (xs ++ []) ≤ 6
 few_alone xs ys few = omega (arith, few, length-append xs ys, length-append xs [])
 
-one_fits : (front : List Standing) → AllByRecursion FitsStanding front → AreFew front → (spec : IfSpec) → FitsSpec spec → IfSome (managed_with spec (settings_of (configured front) spec)) FitsManaged
+-- the scope of any interface, after the global lines
+scope_after : (front : List Standing) → AllByRecursion FitsStanding front → AreFew front → (name : Name) → FitsAfter (configured front).global (scope_for (configured front).blocks name)
 unfolding configured
-one_fits front fit few spec one = by (is_managed (configured front) spec.name)
-  where
-    global : ScopeContent
-    global = scope_of (said_at_place Global front)
+scope_after front fit few name =
+    let global : ScopeContent = scope_of (said_at_place Global front) in
+    scope_found (FitsAfter global) (find (λ block. is_named name block.name) (map (block_of front) (names_in front)))
+    (record { fits = scope_fits [] tt; few = few_alone global.ias (scope_of (said_at_place (Block name) front)).ias (few name) })
+    (find_fits (FitsAfter global) (λ block. is_named name block.name) front
+    (λ other. record { fits = scope_fits (said_at_place (Block other) front) (said_fit (Block other) front fit); few = few other }) (names_in front))
 
-    by : (b : Bool) → IfSome (managed_with spec (cond b (Some (settings_for (configured front) spec)) None)) FitsManaged
-    by true = managed_fits spec global (scope_for (map (block_of front) (names_in front)) spec.name) one
-        (scope_fits (said_at_place Global front) (said_fit Global front fit))
-        (scope_found (FitsAfter global) (find (λ block. is_named spec.name block.name) (map (block_of front) (names_in front)))
-        (record { fits = scope_fits [] tt; few = few_alone global.ias (scope_of (said_at_place (Block spec.name) front)).ias (few spec.name) })
-        (find_fits (FitsAfter global) (λ block. is_named spec.name block.name) front
-        (λ name. record { fits = scope_fits (said_at_place (Block name) front) (said_fit (Block name) front fit); few = few name }) (names_in front)))
+global_fits : (front : List Standing) → AllByRecursion FitsStanding front → FitsScope (configured front).global
+unfolding configured
+global_fits front fit = scope_fits (said_at_place Global front) (said_fit Global front fit)
+
+metrics_fit : (front : List Standing) → AllByRecursion FitsStanding front → AreFew front → FitMetrics (configured front)
+metrics_fit front fit few = record { global = (global_fits front fit).metric; block = λ name. (scope_after front fit few name).fits.metric }
+
+one_fits : (front : List Standing) → AllByRecursion FitsStanding front → AreFew front → (specs : List IfSpec) → AllByRecursion FitsSpec specs → (spec : IfSpec) → FitsSpec spec
+    → IfSome (managed_with spec (settings_of (configured front) specs spec)) FitsManaged
+one_fits front fit few specs each spec one = by (is_managed (configured front) spec.name)
+  where
+    by : (b : Bool) → IfSome (managed_with spec (cond b (Some (settings_for (configured front) specs spec)) None)) FitsManaged
+    by true = managed_fits (configured front) specs spec (scope_for (configured front).blocks spec.name) (metrics_fit front fit few) each one (global_fits front fit) (scope_after front fit few spec.name)
     by false = tt
 
 all_fit : (front : List Standing) → AllByRecursion FitsStanding front → AreFew front → (specs : List IfSpec) → AllByRecursion FitsSpec specs → AreManaged (managed_of (configured front) specs)
-all_fit front fit few specs each = found_fit (λ spec. managed_with spec (settings_of (configured front) spec)) FitsSpec FitsManaged (λ spec one. one_fits front fit few spec one) specs each
+all_fit front fit few specs each = found_fit (λ spec. managed_with spec (settings_of (configured front) specs spec)) FitsSpec FitsManaged (λ spec one. one_fits front fit few specs each spec one) specs each
 
 pub settings_fit : SettingsFit
 settings_fit text conf is specs each =
     let front : List Standing = is.front in
-    subst (λ (c : Configuration). AreManaged (managed_of c specs)) (sym is.tells.3) (all_fit front (front_fits Global is.read.found front is.rest is.stand) (few_ias is.read.found front is.rest is.stand is.tells.1) specs each)
+    subst (λ (c : Configuration). AreInForce (managed_of c specs)) (sym is.tells.3) (record {
+      fit = all_fit front (front_fits Global is.read.found front is.rest is.stand) (few_ias is.read.found front is.rest is.stand is.tells.1) specs each;
+      shares = shares_lead (configured front) specs;
+    })

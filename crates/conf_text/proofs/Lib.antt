@@ -1,6 +1,10 @@
+mod FoundFits
 mod IaFits
+mod LeadLaws
 mod IaLaws
 mod OnceLaws
+mod FoundLaws
+mod ShareLaws
 pub mod ListLaws
 pub mod ScopeLaws
 pub mod TakeLaws

@@ -52,6 +52,11 @@ any_in_map p g (x ∷ xs) = ap (λ b. p (g x) || b) (any_in_map p g xs)
 pub any_of_both : {X Y : Type 0} (p : Y → Bool) (g : X → Y) (xs ys : List X) → list_any p (map g xs ++ map g ys) ≡ (list_any (λ x. p (g x)) xs || list_any (λ x. p (g x)) ys)
 any_of_both p g xs ys = list_any-append p (map g xs) (map g ys) ∙ ap (λ b. b || list_any p (map g ys)) (any_in_map p g xs) ∙ ap (λ b. list_any (λ x. p (g x)) xs || b) (any_in_map p g ys)
 
+pub mapped_both : {X Y Z : Type 0} (f : Y → Z) (g : X → Y) (xs ys : List X) → map (λ x. f (g x)) xs ++ map (λ x. f (g x)) ys ≡ map f (map g xs ++ map g ys)
+mapped_both f g [] [] = refl
+mapped_both f g [] (y ∷ ys) = ap (λ zs. f (g y) ∷ zs) (mapped_both f g [] ys)
+mapped_both f g (x ∷ xs) ys = ap (λ zs. f (g x) ∷ zs) (mapped_both f g xs ys)
+
 one_on : (at size : ℕ) → nat_lt (1 + at) (suc size) ≡ nat_lt at size
 one_on at size =
     elim (nat_lt at size) as (λ b. nat_lt at size ≡ b → nat_lt (1 + at) (suc size) ≡ b) [

@@ -7,11 +7,11 @@ use Rattle.net_types.specs.declared.interface.IfSpec.{IfSpec}
 use Rattle.settings.specs.declared.interfaces.IfConf.{IfConf}
 use Rattle.settings.specs.declared.interfaces.Managed.{Managed}
 use Rattle.conf_text.specs.Configurations.{Configuration}
-use Rattle.conf_text.specs.Settings.{managed_of, managed_with, settings_of}
+use Rattle.conf_text.specs.Settings.{managed_among, managed_with, settings_of}
 
-pub managed_more : (conf : Configuration) (specs : List IfSpec) (at : ℕ) (spec : IfSpec) (all : List Managed) (settings : Option IfConf) → at < length specs → all ≡ managed_of conf (take at specs) → settings ≡ settings_of conf (get_or specs at spec) → all ++ cons_option (managed_with (get_or specs at spec) settings) [] ≡ managed_of conf (take (at + 1) specs)
-managed_more conf specs at spec all settings within is said =
-    ap (λ (ms : List Managed). ms ++ cons_option (managed_with (get_or specs at spec) settings) []) is
-    ∙ ap (λ (o : Option IfConf). managed_of conf (take at specs) ++ cons_option (managed_with (get_or specs at spec) o) []) said
-    ∙ sym (ap (managed_of conf) (take_more specs at spec within)
-    ∙ filter_map-append (λ (s : IfSpec). managed_with s (settings_of conf s)) (take at specs) (get_or specs at spec ∷ []))
+pub managed_more : (conf : Configuration) (specs these : List IfSpec) (at : ℕ) (spec : IfSpec) (all : List Managed) (settings : Option IfConf) → at < length these → all ≡ managed_among conf specs (take at these) → settings ≡ settings_of conf specs (get_or these at spec) → all ++ cons_option (managed_with (get_or these at spec) settings) [] ≡ managed_among conf specs (take (at + 1) these)
+managed_more conf specs these at spec all settings within is said =
+    ap (λ (ms : List Managed). ms ++ cons_option (managed_with (get_or these at spec) settings) []) is
+    ∙ ap (λ (o : Option IfConf). managed_among conf specs (take at these) ++ cons_option (managed_with (get_or these at spec) o) []) said
+    ∙ sym (ap (managed_among conf specs) (take_more these at spec within)
+    ∙ filter_map-append (λ (s : IfSpec). managed_with s (settings_of conf specs s)) (take at these) (get_or these at spec ∷ []))

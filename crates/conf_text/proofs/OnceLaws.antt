@@ -1,9 +1,9 @@
 -- Identity associations of which each stands once.
-use Rattle.std.proofs.Common.{◌≡◌, ◌≢◌, ℕ, ◌+◌, ◌<◌, ◌≤◌, Bool, true, false, not, ◌&&◌, ◌||◌, ◌==◌, cond, List, [], ◌∷◌, ◌++◌, length, map, take, get_or, refl, sym, ap, ◌∙◌, arith}
+use Rattle.std.proofs.Common.{◌≡◌, ◌≢◌, ℕ, ◌≤◌, Bool, true, false, not, ◌&&◌, ◌||◌, ◌==◌, cond, List, [], ◌∷◌, ◌++◌, length, map, refl, sym, ap, subst, ◌∙◌, arith}
 use Rattle.std.specs.Prelude.{AllPairs}
 use Rattle.std.specs.List.{filter, list_any}
 use Rattle.std.proofs.lemmas.Bool.{true≢false, eqb-true, eq-eqb, and_parts, and_from}
-use Rattle.std.proofs.lemmas.List.{append-nil, length-map, map-append, take_more}
+use Rattle.std.proofs.lemmas.List.{append-nil, length-map}
 use Rattle.std.proofs.lemmas.List.Elements.{All-weaker, filter-append, filter_passes}
 use Rattle.std.proofs.lemmas.List.Kept.{AllPairs-cons, AllPairs-filter}
 use Rattle.std.proofs.lemmas.List.Sums.{count_by-le-length, length-filter}
@@ -12,7 +12,7 @@ use Rattle.v6_options.specs.declared.ia.IaKind.TheVariants.{Na, Pd}
 use Rattle.settings.specs.declared.dhcp6_conf.IaConf.{IaConf}
 use Rattle.settings.specs.Dhcp6Settings.{conf_key}
 use Rattle.conf_directives.specs.Contents.{IaContent}
-use Rattle.conf_text.specs.Associations.{each_once, ia_with, ias_of, is_kept, is_same_ia}
+use Rattle.conf_text.specs.Associations.{Association, association, associations, each_once, ias_of, is_kept, is_same_ia}
 use Rattle.conf_text.specs.Limits.{is_same_kind}
 use Rattle.conf_text.specs.AssociationSteps.{once_more}
 
@@ -50,98 +50,87 @@ unlike_key one other apart e = true≢false (sym (itself one) ∙ by_key one one
 -- ---- one more
 
 -- one that isn't the same as the first is the same as another exactly if it is so as one of those that differ from the first
-still_among : (first last : IaConf) → is_same_ia first last ≡ false → (ias : List IaConf)
-    → list_any (λ one. is_same_ia one last) (filter (λ other. not (is_same_ia first other)) ias) ≡ list_any (λ one. is_same_ia one last) ias
+still_among : (first last : Association) → is_same_ia first.ia last.ia ≡ false → (ias : List Association)
+    → list_any (λ one. is_same_ia one.ia last.ia) (filter (λ other. not (is_same_ia first.ia other.ia)) ias) ≡ list_any (λ one. is_same_ia one.ia last.ia) ias
 still_among first last apart [] = refl
-still_among first last apart (ia ∷ ias) = by (is_same_ia first ia) refl (still_among first last apart ias)
+still_among first last apart (ia ∷ ias) = by (is_same_ia first.ia ia.ia) refl (still_among first last apart ias)
   where
-    later : List IaConf
-    later = filter (λ other. not (is_same_ia first other)) ias
+    later : List Association
+    later = filter (λ other. not (is_same_ia first.ia other.ia)) ias
 
-    unlike : (b : Bool) → is_same_ia ia last ≡ b → is_same_ia first ia ≡ true → is_same_ia ia last ≡ false
-    unlike true same e = absurd (true≢false (sym e ∙ by_key first ia last (keys_same ia last same) ∙ apart))
+    unlike : (b : Bool) → is_same_ia ia.ia last.ia ≡ b → is_same_ia first.ia ia.ia ≡ true → is_same_ia ia.ia last.ia ≡ false
+    unlike true same e = absurd (true≢false (sym e ∙ by_key first.ia ia.ia last.ia (keys_same ia.ia last.ia same) ∙ apart))
     unlike false same e = same
 
-    by : (b : Bool) → is_same_ia first ia ≡ b → list_any (λ one. is_same_ia one last) later ≡ list_any (λ one. is_same_ia one last) ias
-        → list_any (λ one. is_same_ia one last) (cond (not b) (ia ∷ later) later) ≡ (is_same_ia ia last || list_any (λ one. is_same_ia one last) ias)
-    by true e same = same ∙ sym (ap (λ b. b || list_any (λ one. is_same_ia one last) ias) (unlike (is_same_ia ia last) refl e))
-    by false e same = ap (λ b. is_same_ia ia last || b) same
+    by : (b : Bool) → is_same_ia first.ia ia.ia ≡ b → list_any (λ one. is_same_ia one.ia last.ia) later ≡ list_any (λ one. is_same_ia one.ia last.ia) ias
+        → list_any (λ one. is_same_ia one.ia last.ia) (cond (not b) (ia ∷ later) later) ≡ (is_same_ia ia.ia last.ia || list_any (λ one. is_same_ia one.ia last.ia) ias)
+    by true e same = same ∙ sym (ap (λ b. b || list_any (λ one. is_same_ia one.ia last.ia) ias) (unlike (is_same_ia ia.ia last.ia) refl e))
+    by false e same = ap (λ b. is_same_ia ia.ia last.ia || b) same
 
-pub each_once_more : (ias : List IaConf) (last : IaConf) → each_once (ias ++ last ∷ []) ≡ once_more (each_once ias) last
+pub each_once_more : (ias : List Association) (last : Association) → each_once (ias ++ last ∷ []) ≡ once_more (each_once ias) last
 each_once_more [] last = refl
 each_once_more (ia ∷ ias) last =
-    ap (λ (all : List IaConf). ia ∷ filter (λ other. not (is_same_ia ia other)) all) (each_once_more ias last)
-    ∙ by (is_same_ia ia last) refl (list_any (λ one. is_same_ia one last) (each_once ias)) refl
+    ap (λ (all : List Association). ia ∷ filter (λ other. not (is_same_ia ia.ia other.ia)) all) (each_once_more ias last)
+    ∙ by (is_same_ia ia.ia last.ia) refl (list_any (λ one. is_same_ia one.ia last.ia) (each_once ias)) refl
   where
-    once : List IaConf
+    once : List Association
     once = each_once ias
 
-    kept : List IaConf
-    kept = filter (λ other. not (is_same_ia ia other)) once
+    kept : List Association
+    kept = filter (λ other. not (is_same_ia ia.ia other.ia)) once
 
-    last_goes : (b : Bool) → is_same_ia ia last ≡ b → filter (λ other. not (is_same_ia ia other)) (last ∷ []) ≡ cond (not b) (last ∷ []) []
+    last_goes : (b : Bool) → is_same_ia ia.ia last.ia ≡ b → filter (λ other. not (is_same_ia ia.ia other.ia)) (last ∷ []) ≡ cond (not b) (last ∷ []) []
     last_goes b e = ap (λ c. cond (not c) (last ∷ []) []) e
 
-    pushed : (b : Bool) → is_same_ia ia last ≡ b → filter (λ other. not (is_same_ia ia other)) (once ++ last ∷ []) ≡ kept ++ cond (not b) (last ∷ []) []
-    pushed b e = filter-append (λ other. not (is_same_ia ia other)) once (last ∷ []) ∙ ap (λ (ls : List IaConf). kept ++ ls) (last_goes b e)
+    pushed : (b : Bool) → is_same_ia ia.ia last.ia ≡ b → filter (λ other. not (is_same_ia ia.ia other.ia)) (once ++ last ∷ []) ≡ kept ++ cond (not b) (last ∷ []) []
+    pushed b e = filter-append (λ other. not (is_same_ia ia.ia other.ia)) once (last ∷ []) ∙ ap (λ (ls : List Association). kept ++ ls) (last_goes b e)
 
-    by : (b : Bool) → is_same_ia ia last ≡ b → (c : Bool) → list_any (λ one. is_same_ia one last) once ≡ c
-        → ia ∷ filter (λ other. not (is_same_ia ia other)) (cond c once (once ++ last ∷ []))
-        ≡ cond (is_same_ia ia last || list_any (λ one. is_same_ia one last) kept) (ia ∷ kept) (ia ∷ kept ++ last ∷ [])
-    by true e true f = sym (ap (λ b. cond (b || list_any (λ one. is_same_ia one last) kept) (ia ∷ kept) (ia ∷ kept ++ last ∷ [])) e)
+    by : (b : Bool) → is_same_ia ia.ia last.ia ≡ b → (c : Bool) → list_any (λ one. is_same_ia one.ia last.ia) once ≡ c
+        → ia ∷ filter (λ other. not (is_same_ia ia.ia other.ia)) (cond c once (once ++ last ∷ []))
+        ≡ cond (is_same_ia ia.ia last.ia || list_any (λ one. is_same_ia one.ia last.ia) kept) (ia ∷ kept) (ia ∷ kept ++ last ∷ [])
+    by true e true f = sym (ap (λ b. cond (b || list_any (λ one. is_same_ia one.ia last.ia) kept) (ia ∷ kept) (ia ∷ kept ++ last ∷ [])) e)
     by true e false f =
-        ap (λ (ls : List IaConf). ia ∷ ls) (pushed true e ∙ append-nil kept)
-        ∙ sym (ap (λ b. cond (b || list_any (λ one. is_same_ia one last) kept) (ia ∷ kept) (ia ∷ kept ++ last ∷ [])) e)
+        ap (λ (ls : List Association). ia ∷ ls) (pushed true e ∙ append-nil kept)
+        ∙ sym (ap (λ b. cond (b || list_any (λ one. is_same_ia one.ia last.ia) kept) (ia ∷ kept) (ia ∷ kept ++ last ∷ [])) e)
     by false e true f =
-        sym (ap (λ b. cond (b || list_any (λ one. is_same_ia one last) kept) (ia ∷ kept) (ia ∷ kept ++ last ∷ [])) e
+        sym (ap (λ b. cond (b || list_any (λ one. is_same_ia one.ia last.ia) kept) (ia ∷ kept) (ia ∷ kept ++ last ∷ [])) e
         ∙ ap (λ b. cond b (ia ∷ kept) (ia ∷ kept ++ last ∷ [])) (still_among ia last e once ∙ f))
     by false e false f =
-        ap (λ (ls : List IaConf). ia ∷ ls) (pushed false e)
-        ∙ sym (ap (λ b. cond (b || list_any (λ one. is_same_ia one last) kept) (ia ∷ kept) (ia ∷ kept ++ last ∷ [])) e
+        ap (λ (ls : List Association). ia ∷ ls) (pushed false e)
+        ∙ sym (ap (λ b. cond (b || list_any (λ one. is_same_ia one.ia last.ia) kept) (ia ∷ kept) (ia ∷ kept ++ last ∷ [])) e
         ∙ ap (λ b. cond b (ia ∷ kept) (ia ∷ kept ++ last ∷ [])) (still_among ia last e once ∙ f))
-
-pub once_at : (ias : List IaConf) (at : ℕ) (ia : IaConf) (all : List IaConf) → at < length ias → all ≡ each_once (take at ias) → once_more all (get_or ias at ia) ≡ each_once (take (at + 1) ias)
-once_at ias at ia all within is =
-    ap (λ (once : List IaConf). once_more once (get_or ias at ia)) is
-    ∙ sym (ap each_once (take_more ias at ia within) ∙ each_once_more (take at ias) (get_or ias at ia))
 
 -- ---- all of them
 
-pub each_unlike : (ias : List IaConf) → AllPairs (λ one other. conf_key one ≢ conf_key other) (each_once ias)
+pub kept_of_map : {X Y : Type 0} (p : Y → Bool) (f : X → Y) (xs : List X) → filter p (map f xs) ≡ map f (filter (λ x. p (f x)) xs)
+kept_of_map p f [] = refl
+kept_of_map p f (x ∷ xs) = by (p (f x)) (kept_of_map p f xs)
+  where
+    by : (b : Bool) → filter p (map f xs) ≡ map f (filter (λ x. p (f x)) xs) → cond b (f x ∷ filter p (map f xs)) (filter p (map f xs)) ≡ map f (cond b (x ∷ filter (λ x. p (f x)) xs) (filter (λ x. p (f x)) xs))
+    by true same = ap (λ ys. f x ∷ ys) same
+    by false same = same
+
+abbrev pub ia_in : Association → IaConf
+ia_in one = one.ia
+
+pub each_unlike : (all : List Association) → AllPairs (λ one other. conf_key one ≢ conf_key other) (map ia_in (each_once all))
 each_unlike [] = λ i j d less within. absurd (omega arith)
-each_unlike (ia ∷ ias) =
-    let p : IaConf → Bool = λ other. not (is_same_ia ia other) in
-    AllPairs-cons (λ (one other : IaConf). conf_key one ≢ conf_key other) ia (filter p (each_once ias))
-    (All-weaker (λ other. p other ≡ true) (λ other. conf_key ia ≢ conf_key other) (λ other apart. unlike_key ia other apart) (filter p (each_once ias)) (filter_passes p (each_once ias)))
-    (AllPairs-filter (λ (one other : IaConf). conf_key one ≢ conf_key other) p (each_once ias) (each_unlike ias))
+each_unlike (first ∷ all) =
+    let p : IaConf → Bool = λ other. not (is_same_ia first.ia other) in
+    let ias : List IaConf = map ia_in (each_once all) in
+    subst (λ (others : List IaConf). AllPairs (λ one other. conf_key one ≢ conf_key other) (first.ia ∷ others)) (kept_of_map p ia_in (each_once all))
+    (AllPairs-cons (λ (one other : IaConf). conf_key one ≢ conf_key other) first.ia (filter p ias)
+    (All-weaker (λ other. p other ≡ true) (λ other. conf_key first.ia ≢ conf_key other) (λ other apart. unlike_key first.ia other apart) (filter p ias) (filter_passes p ias))
+    (AllPairs-filter (λ (one other : IaConf). conf_key one ≢ conf_key other) p ias (each_unlike all)))
 
 few_kept : {X : Type 0} (p : X → Bool) (xs : List X) → length (filter p xs) ≤ length xs
 few_kept p xs = omega (arith, length-filter p xs, count_by-le-length p xs)
 
-once_few : (ias : List IaConf) → length (each_once ias) ≤ length ias
+once_few : (all : List Association) → length (each_once all) ≤ length all
 once_few [] = omega arith
-once_few (ia ∷ ias) = omega (arith, few_kept (λ other. not (is_same_ia ia other)) (each_once ias), once_few ias)
+once_few (first ∷ all) = omega (arith, few_kept (λ (other : Association). not (is_same_ia first.ia other.ia)) (each_once all), once_few all)
 
 pub ias_few : (index : ℕ) (lines : List IaContent) → length (ias_of index lines) ≤ length lines
 ias_few index lines =
     let kept : List IaContent = filter (is_kept index lines) lines in
-    omega (arith, once_few (map (ia_with index) kept), length-map kept (ia_with index), few_kept (is_kept index lines) lines)
-
--- ---- those of two lists
-
-filter_map_content : {X Y Z : Type 0} (f : Y → Z) (p : Y → Bool) (content : X → Y) (xs : List X)
-    → map (λ x. f (content x)) (filter (λ x. p (content x)) xs) ≡ map f (filter p (map content xs))
-filter_map_content f p content [] = refl
-filter_map_content f p content (x ∷ xs) = by (p (content x)) (filter_map_content f p content xs)
-  where
-    by : (b : Bool) → map (λ x. f (content x)) (filter (λ x. p (content x)) xs) ≡ map f (filter p (map content xs))
-        → map (λ x. f (content x)) (cond b (x ∷ filter (λ x. p (content x)) xs) (filter (λ x. p (content x)) xs)) ≡ map f (cond b (content x ∷ filter p (map content xs)) (filter p (map content xs)))
-    by true same = ap (λ zs. f (content x) ∷ zs) same
-    by false same = same
-
-pub kept_join : {X Y Z : Type 0} (f : Y → Z) (p : Y → Bool) (content : X → Y) (xs ys : List X)
-    → map (λ x. f (content x)) (filter (λ x. p (content x)) xs) ++ map (λ x. f (content x)) (filter (λ x. p (content x)) ys) ≡ map f (filter p (map content xs ++ map content ys))
-kept_join f p content xs ys =
-    ap (λ zs. zs ++ map (λ x. f (content x)) (filter (λ x. p (content x)) ys)) (filter_map_content f p content xs)
-    ∙ ap (λ zs. map f (filter p (map content xs)) ++ zs) (filter_map_content f p content ys)
-    ∙ sym (ap (map f) (filter-append p (map content xs) (map content ys)) ∙ map-append f (filter p (map content xs)) (filter p (map content ys)))
+    omega (arith, length-map (associations index lines) ia_in, once_few (map (association index) kept), length-map kept (association index), few_kept (is_kept index lines) lines)

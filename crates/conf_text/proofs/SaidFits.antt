@@ -6,11 +6,12 @@ use Rattle.std.proofs.lemmas.Bool.{and_parts, true≢false}
 use Rattle.std.proofs.lemmas.Bool.Decides.{nat_tests}
 use Rattle.net_types.specs.declared.address.Ip4.{Ip4}
 use Rattle.net_types.specs.declared.address.Net4.{Net4}
-use Rattle.net_types.specs.AddressText.{ip4_at, net4_at, FitsIp4, FitsNet4}
+use Rattle.net_types.specs.AddressText.{ip4_at, net4_at, FitsIp4, FitsNet4, FitsNet6}
 use Rattle.net_types.specs.Cutting.{◌>>=◌, guarded, read_all, split_at_byte}
 use Rattle.net_types.specs.Ip6Text.{net6_at}
 use Rattle.net_types.specs.Numbers.{number_at}
 use Rattle.net_types.proofs.AddressLaws.{ip4_reads, net4_reads}
+use Rattle.net_types.proofs.Ip6Laws.{net6_found}
 use Rattle.net_types.proofs.NumberLaws.{number_reads}
 use Rattle.domain_names.specs.NameText.{is_name}
 use Rattle.domain_names.proofs.Labels.{name_long}
@@ -31,9 +32,9 @@ use Rattle.conf_directives.specs.Patterns.{pattern}
 use Rattle.conf_directives.specs.Shares.{addresses, are_planned, asked, asked_by, hint_at, ia, id_at, left_over, prefix, prefix_by, share}
 use Rattle.conf_directives.specs.Statics.{is_key, named_value, only_name, static_by, static_rows, static_said}
 use Rattle.conf_directives.specs.Codes.{are_right, codes_of, codes_said}
-use Rattle.conf_directives.specs.SayLaws.{FitsAsked}
+use Rattle.conf_directives.specs.SayLaws.{FitsAsked, FitsLine}
 use Rattle.conf_directives.specs.Says.{vendor_class, client_id, value_said, host_said, ia_said, SaysNamed}
-use Rattle.conf_directives.proofs.LengthLaws.{hints_fit}
+use Rattle.conf_directives.proofs.LengthLaws.{hints_fit, shares_fit}
 
 -- ---- what a reading gives
 
@@ -84,7 +85,7 @@ all_read {X = X} read P each (text ∷ texts) = one_more (read text) (read_all r
 -- ---- bounds of what is said
 
 abbrev pub FitsIa : IaContent → Type 0
-FitsIa ia = IfSome ia.iaid (λ iaid. iaid < 2 ^ 32) × (ia.hint ≤ 128)
+FitsIa ia = IfSome ia.iaid (λ iaid. iaid < 2 ^ 32) × (ia.hint ≤ 128) × AllByRecursion FitsLine ia.shares
 
 abbrev pub FitsDirective : DirectiveContent → Type 0
 FitsDirective (Metric metric) = metric < 2 ^ 32
@@ -94,6 +95,7 @@ FitsDirective (ClientIs (Bytes bytes)) = length bytes < 256
 FitsDirective (Ia ia) = FitsIa ia
 FitsDirective (Static (Address net)) = FitsNet4 net
 FitsDirective (Static (Routers addresses)) = AllByRecursion FitsIp4 addresses
+FitsDirective (Static (Address6 net)) = FitsNet6 net
 FitsDirective _ = Unit {0}
 
 abbrev pub FitsSaid : SaidContent → Type 0
@@ -112,6 +114,9 @@ ip4_fits text = some_by (ip4_at text) FitsIp4 (λ ip e. (ip4_reads.sound text ip
 
 net4_fits : (text : List ℕ) → IfSome (net4_at text) FitsNet4
 net4_fits text = some_by (net4_at text) FitsNet4 (λ net e. (net4_reads.sound text net e).1)
+
+net6_fits : (text : List ℕ) → IfSome (net6_at text) FitsNet6
+net6_fits text = some_by (net6_at text) FitsNet6 (λ net e. let spells = net6_found text net e in record { address = spells.spells.range; prefix = spells.prefix })
 
 printed_fits : (limit : ℕ) (text : List ℕ) → limit ≤ 255 → IfSome (printed limit text) (λ t. length t < 256)
 printed_fits limit text small = some_if (is_printed limit text) text (λ t. length t < 256) (λ e. below (length text) limit small (and_parts (nat_le (length text) limit) _ e).0)
@@ -218,7 +223,7 @@ named_fits key value =
             taken_fits _ (some_map (only_name members) DomainName FitsStaticSaid (some_unit (only_name members))),
             (
               taken_fits _ (some_map (domain_names members) DomainSearch FitsStaticSaid (some_unit (domain_names members))),
-              (taken_fits _ (some_map (only members >>= net6_at) Address6 FitsStaticSaid (some_unit (only members >>= net6_at))), tt),
+              (taken_fits _ (some_map (only members >>= net6_at) Address6 FitsStaticSaid (some_then (only members) net6_at FitsNet6 net6_fits)), tt),
             ),
           ),
         ),
@@ -234,8 +239,8 @@ id_below : (text : List ℕ) (id : ℕ) → id_at text ≡ Some id → id < 2 ^ 
 id_below text id e = ((number_reads (2 ^ 32) (omega arith)).sound text id e).1
 
 addresses_fit : (arguments : List (List ℕ)) → IfSome (addresses arguments) FitsIa
-addresses_fit [] = (tt, omega arith)
-addresses_fit (text ∷ []) = some_map (id_at text) (λ id. ia Na (Some id) 0 []) FitsIa (some_by (id_at text) (λ id. FitsIa (ia Na (Some id) 0 [])) (λ id e. (id_below text id e, omega arith)))
+addresses_fit [] = (tt, omega arith, tt)
+addresses_fit (text ∷ []) = some_map (id_at text) (λ id. ia Na (Some id) 0 []) FitsIa (some_by (id_at text) (λ id. FitsIa (ia Na (Some id) 0 [])) (λ id e. (id_below text id e, omega arith, tt)))
 addresses_fit (text ∷ other ∷ texts) = tt
 
 asked_below : (parts : List (List ℕ)) → IfSome (asked_by parts) (λ asked. asked.iaid < 2 ^ 32)
@@ -252,13 +257,14 @@ hint_most hint fits = elim fits [ inl none ↦ omega (arith, none) | inr within 
 
 ia_fits : (kind : IaKind) (arguments : List (List ℕ)) → IfSome (ia_said kind arguments) FitsSaid
 ia_fits Na arguments = some_map (addresses arguments) (λ ia. taken (Ia ia)) FitsSaid (addresses_fit arguments)
-ia_fits Pd [] = (tt, omega arith)
+ia_fits Pd [] = (tt, omega arith, tt)
 ia_fits Pd (text ∷ words) =
     some_then_by (asked_by (slash_parts text)) (λ asked. option_and_then (prefix_by words asked) (read_all share words)) FitsSaid
-    (λ asked e. some_then (read_all share words) (prefix_by words asked) FitsSaid
-    (λ shares. some_if (are_planned asked.hint shares) (record { directive = Some (Ia (prefix asked shares)); notices = flat_map left_over words }) FitsSaid (λ planned. (
+    (λ asked e. some_then_by (read_all share words) (prefix_by words asked) FitsSaid
+    (λ shares f. some_if (are_planned asked.hint shares) (record { directive = Some (Ia (prefix asked shares)); notices = flat_map left_over words }) FitsSaid (λ planned. (
       some_at (asked_by (slash_parts text)) asked (λ asked. asked.iaid < 2 ^ 32) e (asked_below (slash_parts text)),
       hint_most asked.hint (some_at (asked_by (slash_parts text)) asked FitsAsked e (hints_fit (slash_parts text))),
+      some_at (read_all share words) shares (AllByRecursion FitsLine) f (all_read share FitsLine shares_fit words),
     ))))
 
 codes_line_fits : (list : CodeList) (arguments : List (List ℕ)) → IfSome (codes_said list arguments) FitsSaid

@@ -1,12 +1,11 @@
 -- A step of the reader is what the definitions say of one line more.
 use Rattle.std.proofs.Common.{◌≡◌, ℕ, suc, Bool, true, false, not, ◌&&◌, ◌||◌, cond, List, [], ◌∷◌, ◌++◌, length, map, filter_map, Option, Some, None, option_map, Result, Ok, Err, refl, sym, ap, ◌∙◌, subst}
 use Rattle.std.specs.Prelude.{nat_le}
-use Rattle.std.specs.List.{cons_option, flat_map, last_or, list_any}
+use Rattle.std.specs.List.{flat_map, last_or, list_any}
 use Rattle.std.specs.Option.{option_or}
 use Rattle.std.proofs.Math.Bool.{and-false}
 use Rattle.std.proofs.lemmas.Grind.{flat_map-append}
 use Rattle.std.proofs.lemmas.List.{append-nil, append_assoc, length-map, map-append}
-use Rattle.std.proofs.lemmas.List.Elements.{filter_map-append}
 use Rattle.std.proofs.lemmas.Option.{none-some, slice_get-map}
 use Rattle.net_types.specs.declared.interface.Name.{Name}
 use Rattle.conf_words.specs.Directives.{Directive}
@@ -20,14 +19,14 @@ use Rattle.conf_text.specs.declared.answers.ConfFault.{ConfFault}
 use Rattle.conf_text.specs.declared.counting.TheConstants.{MOST_BLOCKS}
 use Rattle.conf_text.specs.declared.reader.Spot.{Spot}
 use Rattle.conf_text.specs.declared.reader.Spot.TheVariants as Spots
-use Rattle.conf_text.specs.Configurations.{NoticeContent, BlockContent, Configuration, block_of, configured, first_of, interfaces_of, mark, mark_of, notices_of}
+use Rattle.conf_text.specs.Configurations.{NoticeContent, BlockContent, Configuration, block_of, configured, interfaces_of, notices_of}
 use Rattle.conf_text.specs.Faults.{added, cause_at, cause_from, cause_of, cause_of_heading, cause_of_said, fault, fault_at, first_fault, first_from, names_in, unlike_after}
 use Rattle.conf_text.specs.Laws.{HasFault}
 use Rattle.conf_text.specs.Places.{Place, Global, Block, Skipped, interface_of, is_named}
 use Rattle.conf_text.specs.Sayings.{directive_of, said_there, said_at_place, said_for, said_of}
 use Rattle.conf_text.specs.Scopes.{ScopeContent, scope_of}
 use Rattle.conf_text.specs.Standings.{Standing, Stand, Stands, place_after, place_of}
-use Rattle.conf_text.specs.Steps.{ReadSoFar, IsAt, TakesLine, block_with, both_counts, cause_now, conf_counts, directive_step, enter, entered, first_place, global_with, list_with, mark_with, noticed_step, notices_with, say_at, say_now, scope_counts, scope_or_empty, step, take_step, taken, with_block}
+use Rattle.conf_text.specs.Steps.{ReadSoFar, IsAt, TakesLine, block_with, both_counts, cause_now, conf_counts, directive_step, enter, entered, first_place, global_with, list_with, noticed_step, notices_with, say_at, say_now, scope_counts, scope_or_empty, step, take_step, taken, with_block}
 use Rattle.conf_text.specs.Values.{interfaces_said, script_said}
 use Rattle.conf_text.proofs.CountLaws.{cause_alone, cause_join}
 use Rattle.conf_text.proofs.ListLaws.{first_place_map, last_found, lists_found, with_found}
@@ -67,40 +66,27 @@ pub record Parts : Type 0 where
   pub denied : List Pattern
   pub script : Option (List ℕ)
 
-abbrev conf_from : Parts → List NoticeContent → Option ℕ → Configuration
-conf_from parts notices mark = record {
+abbrev conf_from : Parts → List NoticeContent → Configuration
+conf_from parts notices = record {
   global = parts.global;
   blocks = parts.blocks;
   allowed = parts.allowed;
   denied = parts.denied;
   script = parts.script;
   notices = notices;
-  not_built = mark;
 }
 
 abbrev parts_of : Configuration → Parts
 parts_of conf = record { global = conf.global; blocks = conf.blocks; allowed = conf.allowed; denied = conf.denied; script = conf.script }
 
-same_parts : (parts : Parts) (notices more : List NoticeContent) (mark other : Option ℕ) → notices ≡ more → mark ≡ other → conf_from parts notices mark ≡ conf_from parts more other
-same_parts parts notices more mark other e h = ap (λ (ns : List NoticeContent). conf_from parts ns mark) e ∙ ap (conf_from parts more) h
-
-first_more : (numbers : List ℕ) (o : Option ℕ) → first_of (numbers ++ cons_option o []) ≡ option_or (first_of numbers) o
-first_more [] None = refl
-first_more [] (Some n) = refl
-first_more (n ∷ numbers) o = refl
-
 notices_more : (front : List Standing) (stands : Standing) → flat_map notices_of (front ++ stands ∷ []) ≡ flat_map notices_of front ++ notices_of stands
 notices_more front stands = flat_map-append notices_of front (stands ∷ []) ∙ ap (λ (ns : List NoticeContent). flat_map notices_of front ++ ns) (append-nil (notices_of stands))
 
-mark_more : (front : List Standing) (stands : Standing) → first_of (filter_map mark_of (front ++ stands ∷ [])) ≡ option_or (first_of (filter_map mark_of front)) (mark_of stands)
-mark_more front stands = ap first_of (filter_map-append mark_of front (stands ∷ [])) ∙ first_more (filter_map mark_of front) (mark_of stands)
-
--- what a line adds to notices and marks, whatever it does to the other parts
-next_conf : (front : List Standing) (stands : Standing) (parts : Parts) → parts_of (configured (front ++ stands ∷ [])) ≡ parts → configured (front ++ stands ∷ []) ≡ conf_from parts ((configured front).notices ++ notices_of stands) (option_or (configured front).not_built (mark_of stands))
+-- what a line adds to notices, whatever it does to the other parts
+next_conf : (front : List Standing) (stands : Standing) (parts : Parts) → parts_of (configured (front ++ stands ∷ [])) ≡ parts → configured (front ++ stands ∷ []) ≡ conf_from parts ((configured front).notices ++ notices_of stands)
 unfolding configured
 next_conf front stands parts e =
-    ap (λ (p : Parts). conf_from p (flat_map notices_of (front ++ stands ∷ [])) (first_of (filter_map mark_of (front ++ stands ∷ [])))) e
-    ∙ same_parts parts (flat_map notices_of (front ++ stands ∷ [])) (flat_map notices_of front ++ notices_of stands) (first_of (filter_map mark_of (front ++ stands ∷ []))) (option_or (first_of (filter_map mark_of front)) (mark_of stands)) (notices_more front stands) (mark_more front stands)
+    ap (λ (p : Parts). conf_from p (flat_map notices_of (front ++ stands ∷ []))) e ∙ ap (conf_from parts) (notices_more front stands)
 
 abbrev names_with : List Name → Option Name → List Name
 names_with names None = names
@@ -157,19 +143,11 @@ global_more lines said blocks conf e =
 
 -- ---- lines that say nothing in a scope
 
-or_none : (o : Option ℕ) → option_or o None ≡ o
-or_none None = refl
-or_none (Some n) = refl
-
-no_mark : (stands : Standing) → directive_of stands ≡ None → mark_of stands ≡ None
-no_mark stands none = ap (mark stands.number) none
-
 -- a line without directive leaves all but names and notices
 quiet_conf : (front : List Standing) (stands : Standing) (blocks : List BlockContent) → directive_of stands ≡ None → map (block_of (front ++ stands ∷ [])) (names_in (front ++ stands ∷ [])) ≡ blocks → configured (front ++ stands ∷ []) ≡ record (configured front) { blocks = blocks; notices = (configured front).notices ++ notices_of stands }
 unfolding configured
 quiet_conf front stands blocks none e =
     next_conf front stands (global_parts (said_at_place Global front) blocks) (parts_next front stands None blocks (nothing_there Global stands none) e)
-    ∙ ap (conf_from (global_parts (said_at_place Global front) blocks) (flat_map notices_of front ++ notices_of stands)) (ap (option_or (first_of (filter_map mark_of front))) (no_mark stands none) ∙ or_none (first_of (filter_map mark_of front)))
 
 quiet_blocks : (front : List Standing) (stands : Standing) → directive_of stands ≡ None → (names : List Name) → map (block_of (front ++ stands ∷ [])) names ≡ map (block_of front) names
 quiet_blocks front stands none names = map_same (block_of front) (block_of (front ++ stands ∷ [])) (λ name. block_same front stands name (nothing_there (Block name) stands none)) names
@@ -324,7 +302,7 @@ abbrev says : ℕ → Place → DirectiveContent → List (List ℕ) → Standin
 says number place said notices = stand_so number place None (Some (record { directive = Some said; notices = notices }))
 
 abbrev said_conf : ℕ → Spot → DirectiveContent → List (List ℕ) → Configuration → Configuration
-said_conf number spot said notices conf = notices_with number notices (say_now spot said (mark_with number said conf))
+said_conf number spot said notices conf = notices_with number notices (say_now spot said conf)
 
 same_names : (front : List Standing) (number : ℕ) (place : Place) (said : DirectiveContent) (notices : List (List ℕ)) → names_in (front ++ says number place said notices ∷ []) ≡ names_in front
 same_names front number place said notices = names_more front (says number place said notices) None refl
@@ -369,13 +347,13 @@ say_so front number Skipped Spots.Global said notices at = absurd at
 say_so front number Skipped (Spots.Block index) said notices at = absurd at
 say_so front number Skipped Spots.Skipped said notices at = say_skipped front number said notices
 
-say_law : (front : List Standing) (spot : Spot) (number : ℕ) (place : Place) (said : DirectiveContent) (notices : List (List ℕ)) → IsSpot (names_in front) place spot → Outcome front (says number place said notices) (noticed_step number notices (take_step (state front spot) number said))
+say_law : (front : List Standing) (spot : Spot) (number : ℕ) (place : Place) (said : DirectiveContent) (notices : List (List ℕ)) → IsSpot (names_in front) place spot → Outcome front (says number place said notices) (noticed_step number notices (take_step (state front spot) said))
 unfolding take_step cause_at
 say_law front spot number place said notices at =
-    subst (λ (o : Option ConfCause). Outcome front (says number place said notices) (noticed_step number notices (taken (state front spot) number said o))) (sym (cause_so front place spot said at))
+    subst (λ (o : Option ConfCause). Outcome front (says number place said notices) (noticed_step number notices (taken (state front spot) said o))) (sym (cause_so front place spot said at))
     (by (cause_of (said_at_place Global front) (said_for place front) said) refl)
   where
-    by : (o : Option ConfCause) → cause_of (said_at_place Global front) (said_for place front) said ≡ o → Outcome front (says number place said notices) (noticed_step number notices (taken (state front spot) number said o))
+    by : (o : Option ConfCause) → cause_of (said_at_place Global front) (said_for place front) said ≡ o → Outcome front (says number place said notices) (noticed_step number notices (taken (state front spot) said o))
     by (Some cause) e = e
     by None e = record {
       good = e;
@@ -414,9 +392,9 @@ unfolding step
 step_law front spot number place begins None chain at = bad_law front number place begins
 step_law front spot number place None (Some said) chain at = by said.directive refl
   where
-    by : (o : Option DirectiveContent) → said.directive ≡ o → Outcome front (stand_so number place None (Some said)) (noticed_step number said.notices (directive_step (state front spot) number o))
+    by : (o : Option DirectiveContent) → said.directive ≡ o → Outcome front (stand_so number place None (Some said)) (noticed_step number said.notices (directive_step (state front spot) o))
     by None e = quiet_law front spot number place said e at
-    by (Some d) e = subst (λ (o : Option DirectiveContent). Outcome front (stand_so number place None (Some (record { directive = o; notices = said.notices }))) (noticed_step number said.notices (take_step (state front spot) number d))) (sym e) (say_law front spot number place d said.notices at)
+    by (Some d) e = subst (λ (o : Option DirectiveContent). Outcome front (stand_so number place None (Some (record { directive = o; notices = said.notices }))) (noticed_step number said.notices (take_step (state front spot) d))) (sym e) (say_law front spot number place d said.notices at)
 step_law front spot number place (Some Global) (Some said) chain at = heading_law front place Global Spots.Global number said refl (λ names. tt)
 step_law front spot number place (Some (Block name)) (Some said) chain at = enter_law front spot number place name said chain
 step_law front spot number place (Some Skipped) (Some said) chain at = heading_law front place Skipped Spots.Skipped number said refl (λ names. tt)

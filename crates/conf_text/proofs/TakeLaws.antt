@@ -101,10 +101,10 @@ takes_alone so_far line index outcome heading spot alone same = λ place at.
 
 -- ---- what lines say
 
-pub takes_said : (so_far mid : ReadSoFar) (line : Directive) (said : SaidContent) (outcome : Result ReadSoFar ConfCause) → Says line.word line.about (Some said) → directive_step so_far line.number said.directive ≡ Ok mid → outcome ≡ Ok (record mid { conf = notices_with line.number said.notices mid.conf }) → TakesSaid so_far line outcome
+pub takes_said : (so_far mid : ReadSoFar) (line : Directive) (said : SaidContent) (outcome : Result ReadSoFar ConfCause) → Says line.word line.about (Some said) → directive_step so_far said.directive ≡ Ok mid → outcome ≡ Ok (record mid { conf = notices_with line.number said.notices mid.conf }) → TakesSaid so_far line outcome
 takes_said so_far mid line said outcome says takes same = (Some said, says, same ∙ sym (ap (noticed_step line.number said.notices) takes))
 
-pub refuses_said : (so_far : ReadSoFar) (line : Directive) (said : SaidContent) (cause : ConfCause) → Says line.word line.about (Some said) → directive_step so_far line.number said.directive ≡ Err cause → TakesSaid so_far line (Err cause)
+pub refuses_said : (so_far : ReadSoFar) (line : Directive) (said : SaidContent) (cause : ConfCause) → Says line.word line.about (Some said) → directive_step so_far said.directive ≡ Err cause → TakesSaid so_far line (Err cause)
 refuses_said so_far line said cause says refuses = (Some said, says, sym (ap (noticed_step line.number said.notices) refuses))
 
 pub refuses_bad : (so_far : ReadSoFar) (line : Directive) → Says line.word line.about None → TakesSaid so_far line (Err BadArgument)

@@ -1,5 +1,5 @@
 -- The configuration of a text.
-use Rattle.std.specs.Prelude.{◌≡◌, ◌⊎◌, ℕ, List, [], ◌∷◌, map, Option, Some, None, Result, Ok, Err, if◌then◌else◌}
+use Rattle.std.specs.Prelude.{◌≡◌, ◌⊎◌, ℕ, List, [], map, Option, Some, None, Result, Ok, Err}
 use Rattle.std.specs.List.{filter_map, flat_map}
 use Rattle.std.specs.Str.Lossy.{utf8_lossy}
 use Rattle.net_types.specs.declared.interface.Name.{Name}
@@ -13,8 +13,8 @@ use Rattle.conf_text.specs.declared.answers.ConfFault.{ConfFault}
 use Rattle.conf_text.specs.Numbering.{line_number}
 use Rattle.conf_text.specs.Places.{Global, Block}
 use Rattle.conf_text.specs.Standings.{Standing, Stand}
-use Rattle.conf_text.specs.Sayings.{said_of, directive_of, said_at_place}
-use Rattle.conf_text.specs.Values.{interfaces_said, script_said, is_unbuilt}
+use Rattle.conf_text.specs.Sayings.{said_of, said_at_place}
+use Rattle.conf_text.specs.Values.{interfaces_said, script_said}
 use Rattle.conf_text.specs.Scopes.{ScopeContent, scope_of, last_of}
 use Rattle.conf_text.specs.Faults.{names_in, first_fault, not_text}
 
@@ -37,8 +37,6 @@ pub record Configuration : Type 0 where
   -- the last `script` line
   pub script : Option (List ℕ)
   pub notices : List NoticeContent
-  -- the first line of what isn't built yet
-  pub not_built : Option ℕ
 
 abbrev pub block_of : List Standing → Name → BlockContent
 block_of lines name = record { name = name; scope = scope_of (said_at_place (Block name) lines) }
@@ -52,17 +50,6 @@ notice_of line word = record { line = line; word = utf8_lossy word }
 abbrev pub notices_of : Standing → List NoticeContent
 notices_of stands = map (notice_of (line_number stands.number)) (said_of stands).notices
 
-abbrev pub mark : ℕ → Option DirectiveContent → Option ℕ
-mark number None = None
-mark number (Some said) = if is_unbuilt said then Some (line_number number) else None
-
-abbrev pub mark_of : Standing → Option ℕ
-mark_of stands = mark stands.number (directive_of stands)
-
-abbrev pub first_of : List ℕ → Option ℕ
-first_of [] = None
-first_of (number ∷ numbers) = Some number
-
 -- what lines without a fault say
 unfoldable pub configured : List Standing → Configuration
 configured lines = record {
@@ -72,7 +59,6 @@ configured lines = record {
   denied = interfaces_of Denied (said_at_place Global lines);
   script = last_of script_said (said_at_place Global lines);
   notices = flat_map notices_of lines;
-  not_built = first_of (filter_map mark_of lines);
 }
 
 -- Without a fault all lines stand so, and say this. A fault among the first lines is that of all; where there is none, and no

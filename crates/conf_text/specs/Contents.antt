@@ -18,8 +18,8 @@ statics_content statics = record {
   address = statics.address;
   routers = option_map (λ addresses. addresses.items) statics.routers;
   name_servers = option_map (λ addresses. addresses.items) statics.name_servers;
-  domain_name = text_content statics.domain_name;
-  domain_search = option_map (λ names. map (λ name. name.items) names.items) statics.domain_search;
+  domain_name = option_map string_bytes statics.domain_name;
+  domain_search = option_map (λ names. map string_bytes names.items) statics.domain_search;
   address6 = statics.address6;
 }
 
@@ -53,7 +53,6 @@ configuration conf = record {
   blocks = map block_content conf.blocks.items;
   allowed = conf.allowed.items;
   denied = conf.denied.items;
-  script = text_content conf.script;
+  script = option_map string_bytes conf.script;
   notices = map notice_content conf.notices.items;
-  not_built = conf.not_built;
 }

@@ -11,7 +11,10 @@ pub mod Configurations
 pub mod Contents
 pub mod Laws
 pub mod Associations
+pub mod Choosing
+pub mod Shares
 pub mod Settings
 pub mod Steps
 pub mod AssociationSteps
 pub mod Fits
+pub mod SharesTaken

@@ -1,53 +1,29 @@
 -- Which interfaces are managed, and what is in force for each of them.
-use Rattle.std.specs.Prelude.{◌≡◌, ℕ, Bool, true, false, not, ◌&&◌, ◌||◌, ◌==◌, nat_eq, List, [], ◌∷◌, ◌++◌, length, find, Option, Some, None, option_map, option_and_then, unwrap_or, codes, bytes_eq, if◌then◌else◌}
-use Rattle.std.specs.Option.{option_or}
-use Rattle.std.specs.List.{filter_map, list_any, starts_with}
+use Rattle.std.specs.Prelude.{ℕ, Bool, false, ◌||◌, ◌==◌, List, [], ◌∷◌, ◌++◌, length, map, Option, Some, None, option_map, option_and_then, unwrap_or, codes, bytes_eq, if◌then◌else◌}
+use Rattle.std.specs.List.{filter_map}
 use Rattle.net_types.specs.declared.address.Ip4.{Ip4}
-use Rattle.net_types.specs.declared.interface.Name.{Name}
 use Rattle.net_types.specs.declared.interface.IfSpec.{IfSpec}
-use Rattle.net_types.specs.NameText.{name_text}
+use Rattle.world.specs.HookCalls.{Variable}
 use Rattle.settings.specs.declared.interfaces.IfConf.{IfConf}
 use Rattle.settings.specs.declared.interfaces.Managed.{Managed}
 use Rattle.settings.specs.Dhcp4Settings.{Dhcp4Settings}
 use Rattle.settings.specs.Dhcp4Settings as settings
 use Rattle.settings.specs.Dhcp6Settings.{Dhcp6Settings}
-use Rattle.conf_directives.specs.declared.values.Pattern.{Pattern}
-use Rattle.conf_directives.specs.declared.values.Pattern.TheVariants.{Exactly, Any, Beginning}
-use Rattle.conf_directives.specs.Contents.{IdentifierContent, Hardware, Bytes, Duid}
+use Rattle.settings.specs.HookSettings.{HookSettings, ScriptContent, Nothing, Default, At}
+use Rattle.settings.specs.ResolverSettings.{ResolverSettings}
+use Rattle.conf_directives.specs.Contents.{EnvContent, IdentifierContent, Hardware, Bytes, Duid}
 use Rattle.conf_text.specs.declared.managing.TheConstants.{DEFAULT_TIMEOUT, DEFAULT_REBOOT}
-use Rattle.conf_text.specs.declared.managing.ManagedAnswer.{ManagedAnswer}
-use Rattle.conf_text.specs.declared.managing.ManagedAnswer.TheVariants.{NotBuilt, NoMemory}
 use Rattle.conf_text.specs.Associations.{ias_of}
 use Rattle.conf_text.specs.Flags.{either}
-use Rattle.conf_text.specs.Places.{is_named}
-use Rattle.conf_text.specs.Scopes.{ScopeContent, scope_of}
-use Rattle.conf_text.specs.Configurations.{BlockContent, Configuration}
-
--- ---- which are managed
-
-abbrev pub is_meant : Name → Pattern → Bool
-is_meant name (Exactly other) = is_named name other
-is_meant name Any = true
-is_meant name (Beginning front) = starts_with nat_eq (name_text name) (name_text front)
-
--- those that aren't denied, and where some are allowed, these alone
-abbrev pub is_managed : Configuration → Name → Bool
-is_managed conf name =
-    not (list_any (is_meant name) conf.denied)
-    && (length conf.allowed == 0 || list_any (is_meant name) conf.allowed)
+use Rattle.conf_text.specs.Scopes.{ScopeContent, StaticsContent}
+use Rattle.conf_text.specs.Choosing.{first_said, is_managed, scope_for}
+use Rattle.conf_text.specs.Configurations.{Configuration}
+use Rattle.conf_text.specs.Shares.{shares_of}
 
 -- ---- what is in force
 
--- an interface without a block has one that says nothing
-abbrev pub scope_for : List BlockContent → Name → ScopeContent
-scope_for blocks name = unwrap_or (option_map (λ block. block.scope) (find (λ block. is_named name block.name) blocks)) (scope_of [])
-
--- the block before the global lines
-abbrev pub first_said : {X : Type 0} → (block global : Option X) → Option X
-first_said block global = option_or block global
-
-abbrev pub text_or_none : (block global : Option (List ℕ)) → List ℕ
-text_or_none block global = unwrap_or (first_said block global) []
+abbrev pub list_or_none : {X : Type 0} → (block global : Option (List X)) → List X
+list_or_none block global = unwrap_or (first_said block global) []
 
 -- the hardware address where no line says it
 abbrev pub identifier_or_hardware : Option IdentifierContent → settings.IdentifierContent
@@ -63,8 +39,8 @@ first_router (router ∷ routers) = Some router
 -- lists go on after the global ones
 abbrev pub dhcp4_in_force : (global block : ScopeContent) → Dhcp4Settings
 dhcp4_in_force global block = record {
-  host = text_or_none block.host global.host;
-  vendor = text_or_none block.vendor global.vendor;
+  host = list_or_none block.host global.host;
+  vendor = list_or_none block.vendor global.vendor;
   identifier = identifier_or_hardware (first_said block.identifier global.identifier);
   asked = global.asked.codes ++ block.asked.codes;
   refused = global.refused.codes ++ block.refused.codes;
@@ -73,15 +49,43 @@ dhcp4_in_force global block = record {
 }
 
 -- `option rapid_commit` of either
-abbrev pub dhcp6_in_force : (index : ℕ) → (global block : ScopeContent) → Dhcp6Settings
-dhcp6_in_force index global block = record {
-  rapid = global.asked.rapid || block.asked.rapid;
-  ias = ias_of index (global.ias ++ block.ias);
+abbrev pub dhcp6_in_force : Configuration → List IfSpec → IfSpec → (block : ScopeContent) → Dhcp6Settings
+dhcp6_in_force conf specs spec block = record {
+  rapid = conf.global.asked.rapid || block.asked.rapid;
+  ias = ias_of spec.index.number (conf.global.ias ++ block.ias);
+  shares = shares_of conf specs spec (conf.global.ias ++ block.ias);
 }
 
+-- lists of `static` don't go on
+abbrev pub resolver_in_force : (global block : StaticsContent) → ResolverSettings
+resolver_in_force global block = record {
+  servers = list_or_none block.name_servers global.name_servers;
+  search = list_or_none block.domain_search global.domain_search;
+  domain = list_or_none block.domain_name global.domain_name;
+}
+
+-- `/dev/null` is nothing, and no path the device's own script
+abbrev pub no_hooks : List ℕ
+no_hooks = codes "/dev/null"
+
+abbrev pub script_of : (path : List ℕ) → ScriptContent
+script_of path =
+    if bytes_eq path no_hooks then Nothing
+    else if length path == 0 then Default
+    else At path
+
+abbrev pub script_in_force : Option (List ℕ) → ScriptContent
+script_in_force path = unwrap_or (option_map script_of path) Default
+
+abbrev pub variable_said : EnvContent → Variable
+variable_said env = record { name = env.name; value = env.value }
+
+abbrev pub hooks_in_force : (script : Option (List ℕ)) → (global block : ScopeContent) → HookSettings
+hooks_in_force script global block = record { script = script_in_force script; env = map variable_said (global.env ++ block.env) }
+
 -- single values are the block's, else the global ones; flags are on in either
-abbrev pub in_force : (index : ℕ) → (global block : ScopeContent) → IfConf
-in_force index global block =
+abbrev pub in_force : Dhcp6Settings → HookSettings → (global block : ScopeContent) → IfConf
+in_force dhcp6 hooks global block =
     let flags = either global.flags block.flags in
     record {
       ipv4only = flags.ipv4only;
@@ -97,40 +101,42 @@ in_force index global block =
       reboot = unwrap_or (first_said block.reboot global.reboot) DEFAULT_REBOOT;
       metric = first_said block.metric global.metric;
       address = first_said block.statics.address global.statics.address;
+      address6 = first_said block.statics.address6 global.statics.address6;
       router = option_and_then first_router (first_said block.statics.routers global.statics.routers);
       dhcp4 = dhcp4_in_force global block;
-      dhcp6 = dhcp6_in_force index global block;
+      dhcp6 = dhcp6;
+      resolver = resolver_in_force global.statics block.statics;
+      hooks = hooks;
     }
 
-abbrev pub settings_for : Configuration → IfSpec → IfConf
-settings_for conf spec = in_force spec.index.number conf.global (scope_for conf.blocks spec.name)
+-- for the interface that has this block, among all of them
+abbrev pub in_force_among : Configuration → (specs : List IfSpec) → IfSpec → (block : ScopeContent) → IfConf
+in_force_among conf specs spec block =
+    in_force (dhcp6_in_force conf specs spec block) (hooks_in_force conf.script conf.global block) conf.global block
 
--- what is in force for an interface, where it is managed
-abbrev pub settings_of : Configuration → IfSpec → Option IfConf
-settings_of conf spec = if is_managed conf spec.name then Some (settings_for conf spec) else None
+-- what is in force for an interface, whether or not it is managed; `specs` are all of them
+abbrev pub settings_for : Configuration → (specs : List IfSpec) → IfSpec → IfConf
+settings_for conf specs spec = in_force_among conf specs spec (scope_for conf.blocks spec.name)
+
+abbrev pub settings_of : Configuration → (specs : List IfSpec) → IfSpec → Option IfConf
+settings_of conf specs spec = if is_managed conf spec.name then Some (settings_for conf specs spec) else None
 
 abbrev pub managed_with : IfSpec → Option IfConf → Option Managed
 managed_with spec settings = option_map (λ conf. record { spec = spec; conf = conf }) settings
 
--- those of the interfaces that are managed, in their order
+-- some of all interfaces, where they are managed, in their order
+abbrev pub managed_among : Configuration → (specs these : List IfSpec) → List Managed
+managed_among conf specs these = filter_map (λ spec. managed_with spec (settings_of conf specs spec)) these
+
 abbrev pub managed_of : Configuration → List IfSpec → List Managed
-managed_of conf specs = filter_map (λ spec. managed_with spec (settings_of conf spec)) specs
+managed_of conf specs = managed_among conf specs specs
 
 -- ---- hooks
-
--- `script /dev/null` turns hooks off, where it is the last such line
-abbrev pub no_hooks : List ℕ
-no_hooks = codes "/dev/null"
 
 abbrev pub is_path_of_none : Option (List ℕ) → Bool
 is_path_of_none None = false
 is_path_of_none (Some path) = bytes_eq path no_hooks
 
+-- `script /dev/null` turns hooks off, where it is the last such line
 abbrev pub turns_hooks_off : Configuration → Bool
 turns_hooks_off conf = is_path_of_none conf.script
-
--- ---- what isn't built yet
-
-abbrev pub AnswersUnbuilt : Configuration → ManagedAnswer → Type 0
-AnswersUnbuilt conf (NotBuilt line) = conf.not_built ≡ Some line
-AnswersUnbuilt conf NoMemory = Unit {0}

@@ -22,7 +22,7 @@ use Rattle.conf_text.specs.declared.reader.Reader.{Reader}
 use Rattle.conf_text.specs.declared.reader.Spot.{Spot}
 use Rattle.conf_text.specs.declared.reader.Spot.TheVariants as Spots
 use Rattle.conf_text.specs.Contents.{configuration}
-use Rattle.conf_text.specs.Configurations.{BlockContent, Configuration, configured, mark, notice_of}
+use Rattle.conf_text.specs.Configurations.{BlockContent, Configuration, configured, notice_of}
 use Rattle.conf_text.specs.Faults.{cause_from}
 use Rattle.conf_text.specs.Numbering.{line_number}
 use Rattle.conf_text.specs.Places.{Place, Global, Block, Skipped, is_named}
@@ -133,9 +133,6 @@ both_counts one other = record {
 abbrev pub notices_with : ℕ → List (List ℕ) → Configuration → Configuration
 notices_with number words conf = record conf { notices = conf.notices ++ map (notice_of (line_number number)) words }
 
-abbrev pub mark_with : ℕ → DirectiveContent → Configuration → Configuration
-mark_with number said conf = record conf { not_built = option_or conf.not_built (mark number (Some said)) }
-
 abbrev pub global_with : DirectiveContent → Configuration → Configuration
 global_with said conf = record conf {
   global = scope_with conf.global said;
@@ -215,16 +212,16 @@ say_now Spots.Global said conf = global_with said conf
 say_now (Spots.Block place) said conf = record conf { blocks = say_at place said conf.blocks }
 say_now Spots.Skipped said conf = conf
 
-abbrev pub taken : ReadSoFar → ℕ → DirectiveContent → Option ConfCause → Result ReadSoFar ConfCause
-taken so_far number said (Some cause) = Err cause
-taken so_far number said None = Ok (record so_far { conf = say_now so_far.spot said (mark_with number said so_far.conf) })
+abbrev pub taken : ReadSoFar → DirectiveContent → Option ConfCause → Result ReadSoFar ConfCause
+taken so_far said (Some cause) = Err cause
+taken so_far said None = Ok (record so_far { conf = say_now so_far.spot said so_far.conf })
 
-unfoldable pub take_step : ReadSoFar → ℕ → DirectiveContent → Result ReadSoFar ConfCause
-take_step so_far number said = taken so_far number said (cause_now so_far said)
+unfoldable pub take_step : ReadSoFar → DirectiveContent → Result ReadSoFar ConfCause
+take_step so_far said = taken so_far said (cause_now so_far said)
 
-abbrev pub directive_step : ReadSoFar → ℕ → Option DirectiveContent → Result ReadSoFar ConfCause
-directive_step so_far number None = Ok so_far
-directive_step so_far number (Some said) = take_step so_far number said
+abbrev pub directive_step : ReadSoFar → Option DirectiveContent → Result ReadSoFar ConfCause
+directive_step so_far None = Ok so_far
+directive_step so_far (Some said) = take_step so_far said
 
 abbrev pub enter_by : ReadSoFar → Option Name → Result ReadSoFar ConfCause
 enter_by so_far None = Err BadArgument
@@ -240,15 +237,15 @@ abbrev pub noticed_step : ℕ → List (List ℕ) → Result ReadSoFar ConfCause
 noticed_step number words (Err cause) = Err cause
 noticed_step number words (Ok so_far) = Ok (record so_far { conf = notices_with number words so_far.conf })
 
-abbrev pub begin_step : ReadSoFar → ℕ → Option DirectiveContent → Option Place → Result ReadSoFar ConfCause
-begin_step so_far number said None = directive_step so_far number said
-begin_step so_far number said (Some Global) = Ok (record so_far { spot = Spots.Global })
-begin_step so_far number said (Some (Block name)) = enter so_far name
-begin_step so_far number said (Some Skipped) = Ok (record so_far { spot = Spots.Skipped })
+abbrev pub begin_step : ReadSoFar → Option DirectiveContent → Option Place → Result ReadSoFar ConfCause
+begin_step so_far said None = directive_step so_far said
+begin_step so_far said (Some Global) = Ok (record so_far { spot = Spots.Global })
+begin_step so_far said (Some (Block name)) = enter so_far name
+begin_step so_far said (Some Skipped) = Ok (record so_far { spot = Spots.Skipped })
 
 abbrev pub step_by : ReadSoFar → ℕ → Option Place → Option SaidContent → Result ReadSoFar ConfCause
 step_by so_far number begins None = Err BadArgument
-step_by so_far number begins (Some said) = noticed_step number said.notices (begin_step so_far number said.directive begins)
+step_by so_far number begins (Some said) = noticed_step number said.notices (begin_step so_far said.directive begins)
 
 -- one line more
 unfoldable pub step : ReadSoFar → Standing → Result ReadSoFar ConfCause

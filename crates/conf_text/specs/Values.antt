@@ -1,8 +1,6 @@
 -- What directives say, one kind of value at a time.
-use Rattle.std.specs.Prelude.{ℕ, Bool, true, false, List, Option, Some, None}
+use Rattle.std.specs.Prelude.{ℕ, List, Option, Some, None}
 use Rattle.net_types.specs.declared.address.Net4.{Net4}
-use Rattle.v6_options.specs.declared.ia.IaKind.{IaKind}
-use Rattle.v6_options.specs.declared.ia.IaKind.TheVariants.{Na, Pd}
 use Rattle.conf_directives.specs.declared.names.FlagName.{FlagName}
 use Rattle.conf_directives.specs.declared.names.SecondsName.TheVariants.{Timeout, Reboot}
 use Rattle.conf_directives.specs.declared.names.CodeList.{CodeList}
@@ -10,7 +8,7 @@ use Rattle.conf_directives.specs.declared.names.CodeList.TheVariants.{Asked, Ref
 use Rattle.conf_directives.specs.declared.names.InterfaceList.{InterfaceList}
 use Rattle.conf_directives.specs.declared.names.InterfaceList.TheVariants.{Allowed, Denied}
 use Rattle.conf_directives.specs.declared.values.Pattern.{Pattern}
-use Rattle.conf_directives.specs.Contents.{DirectiveContent, Flag, Seconds, Metric, HostName, VendorClass, ClientIs, Codes, Static, Ia, Variable, Blacklist, Interfaces, Script, IdentifierContent, CodesContent, StaticContent, Address6, IaContent, EnvContent}
+use Rattle.conf_directives.specs.Contents.{DirectiveContent, Flag, Seconds, Metric, HostName, VendorClass, ClientIs, Codes, Static, Ia, Variable, Blacklist, Interfaces, Script, IdentifierContent, CodesContent, StaticContent, IaContent, EnvContent}
 
 abbrev pub flag_said : DirectiveContent → Option FlagName
 flag_said (Flag name) = Some name
@@ -70,13 +68,3 @@ interfaces_said _ _ = None
 abbrev pub script_said : DirectiveContent → Option (List ℕ)
 script_said (Script path) = Some path
 script_said _ = None
-
-abbrev pub is_of_prefixes : IaKind → Bool
-is_of_prefixes Na = false
-is_of_prefixes Pd = true
-
--- what isn't built yet: identity associations of prefixes, and static IPv6 addresses
-abbrev pub is_unbuilt : DirectiveContent → Bool
-is_unbuilt (Ia ia) = is_of_prefixes ia.kind
-is_unbuilt (Static (Address6 net)) = true
-is_unbuilt _ = false

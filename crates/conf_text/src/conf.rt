@@ -5,19 +5,17 @@ ghost use Rattle.conf_text.specs.Configurations.{configured, notice_of};
 ghost use Rattle.conf_text.specs.Contents.{block_content, configuration, notice_content, scope_content};
 ghost use Rattle.conf_text.specs.Scopes.{scope_of};
 ghost use Rattle.conf_text.specs.Settings.{turns_hooks_off};
-ghost use Rattle.conf_text.specs.Steps.{FitsWords, conf_counts, global_with, mark_with, notices_with};
-ghost use Rattle.conf_text.specs.Values.{is_unbuilt};
+ghost use Rattle.conf_text.specs.Steps.{FitsWords, conf_counts, global_with, notices_with};
 
 use crate::answers::line_number;
 use crate::counting::Counts;
 use crate::scope::Scope;
-use conf_directives::{Directive, InterfaceList, Pattern, StaticValue};
+use conf_directives::{Directive, InterfaceList, Pattern};
 use net_types::{Name, NoMemory};
 use std::alloc::Global;
-use v6_options::IaKind;
 
 /// The path that turns hooks off.
-const NO_HOOKS: &[u8] = b"/dev/null";
+pub(crate) const NO_HOOKS: &str = "/dev/null";
 
 /// A word of a configuration that does nothing.
 #[derive(Debug, Drop)]
@@ -55,10 +53,8 @@ pub struct Conf {
     pub(crate) allowed: Vec<Pattern>,
     pub(crate) denied: Vec<Pattern>,
     /// The path of the last `script` line.
-    pub(crate) script: Option<Vec<u8>>,
+    pub(crate) script: Option<String>,
     pub(crate) notices: Vec<Notice>,
-    /// The first line of what isn't built yet.
-    pub(crate) not_built: Option<u32>,
 }
 
 /// The words that do nothing, in the order of their places.
@@ -66,36 +62,6 @@ pub fn notices(conf: &Conf) -> &[Notice]
     ensures { map notice_content result.now ≡ (configuration conf.now).notices }
 {
     &conf.notices
-}
-
-fn is_unbuilt(directive: &Directive) -> bool
-    ensures { result ≡ is_unbuilt (directive_content directive.now) }
-{
-    match directive {
-        Directive::Static(value) => match value {
-            StaticValue::Address6(_) => true,
-            StaticValue::Address(_)
-            | StaticValue::Routers(_)
-            | StaticValue::NameServers(_)
-            | StaticValue::DomainName(_)
-            | StaticValue::DomainSearch(_) => false,
-        },
-        Directive::Ia(ia) => match ia.kind {
-            IaKind::Na => false,
-            IaKind::Pd => true,
-        },
-        Directive::Flag(_)
-        | Directive::Seconds(_, _)
-        | Directive::Metric(_)
-        | Directive::HostName(_)
-        | Directive::VendorClass(_)
-        | Directive::Identifier(_)
-        | Directive::Codes(_, _)
-        | Directive::Env(_)
-        | Directive::Blacklist(_)
-        | Directive::Interfaces(_, _)
-        | Directive::Script(_) => false,
-    }
 }
 
 fn add_notice(
@@ -138,16 +104,7 @@ impl Conf {
             denied: Vec::new(alloc),
             script: None,
             notices: Vec::new(alloc),
-            not_built: None,
         }
-    }
-
-    /// The first line of what isn't built yet: `ia_pd` and `static ip6_address`, also in the block of an interface that doesn't
-    /// exist.
-    pub fn not_built(&self) -> Option<u32>
-        ensures { result ≡ (configuration self.now).not_built }
-    {
-        self.not_built
     }
 
     /// Whether the last `script` line is `script /dev/null`.
@@ -155,7 +112,7 @@ impl Conf {
         ensures { result ≡ turns_hooks_off (configuration self.now) }
     {
         match &self.script {
-            Some(path) => path.as_slice() == NO_HOOKS,
+            Some(path) => path.as_str() == NO_HOOKS,
             None => false,
         }
     }
@@ -181,15 +138,6 @@ impl Conf {
         ensures { OnOk result (configuration self.new ≡ notices_with number (map (λ word. word.now) words.now) (configuration self.old)) }
     {
         add_notices(alloc, &mut self.notices, line_number(number), words)
-    }
-
-    /// Marks a line where it is the first of what isn't built.
-    pub(crate) fn mark(&mut self, number: usize, directive: &Directive)
-        ensures { configuration self.new ≡ mark_with number (directive_content directive.now) (configuration self.old) }
-    {
-        if self.not_built.is_none() && is_unbuilt(directive) {
-            self.not_built = Some(line_number(number));
-        }
     }
 
     /// Takes what one global line more says.

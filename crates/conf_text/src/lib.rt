@@ -6,19 +6,26 @@
 
 mod answers;
 mod associations;
+mod choosing;
 mod conf;
 mod counting;
 mod flags;
+mod hooks;
+mod lists;
 mod managing;
 mod reader;
 mod reading;
+mod resolver;
 mod scope;
+mod sharing;
 mod statics;
+mod subject;
 
 pub use answers::{ConfAnswer, ConfCause, ConfFault};
 pub use conf::{Conf, Notice, notices};
-pub use managing::{ManagedAnswer, managed, settings, settings_fit};
+pub use managing::{managed, settings, settings_fit};
 pub use reading::{configuration_is_one, read_conf};
+pub use sharing::shares_are_planned;
 
 #[cfg(test)]
 mod tests;

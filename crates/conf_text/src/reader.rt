@@ -183,20 +183,19 @@ impl Reader {
     /// Takes what a line says.
     #[tactic(auto, unfolding(crate::specs::Steps::take_step))]
     fn take(&mut self, number: usize, directive: Directive) -> Result<(), ConfAnswer>
-        ensures ok { OnOk result (take_step (read_so_far self.old) number (directive_content directive) ≡ Ok (read_so_far self.new)) }
-        ensures bad { IfErr result (λ answer. AnswersWith (λ outcome. take_step (read_so_far self.old) number (directive_content directive) ≡ outcome) number answer) }
+        ensures ok { OnOk result (take_step (read_so_far self.old) (directive_content directive) ≡ Ok (read_so_far self.new)) }
+        ensures bad { IfErr result (λ answer. AnswersWith (λ outcome. take_step (read_so_far self.old) (directive_content directive) ≡ outcome) number answer) }
     {
         if let Some(cause) = self.cause_of(&directive) {
             return Err(ConfAnswer::Bad(fault_at(number, cause)));
         }
-        self.conf.mark(number, &directive);
         self.say(directive)?;
         Ok(())
     }
 
     fn take_any(&mut self, number: usize, directive: Option<Directive>) -> Result<(), ConfAnswer>
-        ensures ok { OnOk result (directive_step (read_so_far self.old) number (option_map directive_content directive) ≡ Ok (read_so_far self.new)) }
-        ensures bad { IfErr result (λ answer. AnswersWith (λ outcome. directive_step (read_so_far self.old) number (option_map directive_content directive) ≡ outcome) number answer) }
+        ensures ok { OnOk result (directive_step (read_so_far self.old) (option_map directive_content directive) ≡ Ok (read_so_far self.new)) }
+        ensures bad { IfErr result (λ answer. AnswersWith (λ outcome. directive_step (read_so_far self.old) (option_map directive_content directive) ≡ outcome) number answer) }
     {
         match directive {
             Some(directive) => self.take(number, directive),

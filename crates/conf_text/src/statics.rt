@@ -14,8 +14,8 @@ pub struct Statics {
     pub address: Option<Net4>,
     pub routers: Option<Vec<Ip4>>,
     pub name_servers: Option<Vec<Ip4>>,
-    pub domain_name: Option<Vec<u8>>,
-    pub domain_search: Option<Vec<Vec<u8>>>,
+    pub domain_name: Option<String>,
+    pub domain_search: Option<Vec<String>>,
     pub address6: Option<Net6>,
 }
 

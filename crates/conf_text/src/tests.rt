@@ -123,14 +123,13 @@ fn the_words_that_do_nothing(rt: HostRuntime) -> Result<(), Fail> {
         assert_eq!(rt; notice.line, *line);
         assert!(rt; notice.word.as_str() == *word);
     }
-    assert_eq!(rt; conf.not_built(), None);
     assert!(rt; !conf.turns_hooks_off());
     Ok(())
 }
 
-fn spec_of(name: &[u8]) -> Option<IfSpec> {
+fn spec_of(number: u32, name: &[u8]) -> Option<IfSpec> {
     Some(IfSpec {
-        index: IfIndex { number: 1 },
+        index: IfIndex { number },
         name: name_of(name)?,
         mac: Mac {
             bytes: [2, 0, 0, 0, 0, 1],
@@ -148,10 +147,10 @@ fn what_is_in_force(rt: HostRuntime) -> Result<(), Fail> {
         b"script /dev/null\nallowinterfaces eth*\ndenyinterfaces eth1\nmetric 5\nnooption 3\nnodelay\ninterface eth0\nmetric 6\nmetric 7\nrelease\nnooption 6\nstatic routers=10.0.0.1 10.0.0.2\n";
     let conf = read_conf(rt.alloc(), text).ok().ok_or("it has no fault")?;
     assert!(rt; conf.turns_hooks_off());
-    let eth0 = spec_of(b"eth0").ok_or("a name")?;
-    let eth1 = spec_of(b"eth1").ok_or("a name")?;
-    let eth2 = spec_of(b"eth2").ok_or("a name")?;
-    let set = settings(rt.alloc(), &conf, &eth0)
+    let eth0 = spec_of(1, b"eth0").ok_or("a name")?;
+    let eth1 = spec_of(2, b"eth1").ok_or("a name")?;
+    let eth2 = spec_of(3, b"eth2").ok_or("a name")?;
+    let set = settings(rt.alloc(), &conf, &[eth0], &eth0)
         .ok()
         .ok_or("memory")?
         .ok_or("it is managed")?;
@@ -163,7 +162,7 @@ fn what_is_in_force(rt: HostRuntime) -> Result<(), Fail> {
     assert!(rt; refused_by(&set).starts_with(&[3, 6]));
     let all = managed(rt.alloc(), &conf, &[eth0, eth1, eth2])
         .ok()
-        .ok_or("it is built")?;
+        .ok_or("memory")?;
     assert_eq!(rt; all.len(), 2);
     if let Some(last) = all.last() {
         assert_eq!(rt; last.conf.metric, Some(5));
@@ -171,11 +170,13 @@ fn what_is_in_force(rt: HostRuntime) -> Result<(), Fail> {
     Ok(())
 }
 
-/// What is in force for eth0, whose index is 1.
+/// What is in force for eth0, whose index is 1, beside eth1 and eth2.
 fn set_on_eth0(alloc: Global, text: &[u8]) -> Result<IfConf, Fail> {
     let conf = read_conf(alloc, text).ok().ok_or("it has no fault")?;
-    let eth0 = spec_of(b"eth0").ok_or("a name")?;
-    let set = settings(alloc, &conf, &eth0)
+    let eth0 = spec_of(1, b"eth0").ok_or("a name")?;
+    let eth1 = spec_of(2, b"eth1").ok_or("a name")?;
+    let eth2 = spec_of(3, b"eth2").ok_or("a name")?;
+    let set = settings(alloc, &conf, &[eth0, eth1, eth2], &eth0)
         .ok()
         .ok_or("memory")?
         .ok_or("it is managed")?;
@@ -238,19 +239,30 @@ fn the_duid_as_identifier(rt: HostRuntime) -> Result<(), Fail> {
 }
 
 #[test]
-fn the_first_line_that_is_not_built(rt: HostRuntime) -> Result<(), Fail> {
-    let readings: [(&[u8], Option<u32>); 4] = [
-        (b"duid\nia_na\nia_na 5\n", None),
-        (b"ia_na\nia_pd\n", Some(2)),
+fn shares_of_a_prefix(rt: HostRuntime) -> Result<(), Fail> {
+    // what leads where: the index of the interface, its metric, and the SLA id
+    let readings: [(&[u8], &[(u32, u32, u32)]); 4] = [
         (
-            b"interface a\nduid\nstatic ip6_address=::1/64\nia_pd\n",
-            Some(3),
+            b"ia_pd 1/::/56 eth1/0 eth2/255",
+            &[(2, 1002, 0), (3, 1003, 255)],
         ),
-        (b"ssid a\nia_pd\n", None),
+        // the index is the SLA id where none is written: the upstream one uses 3 up, so eth2 is left out, and eth3 is unknown
+        (
+            b"metric 9\nia_pd 1 eth0/3 eth3 eth2 eth1\ninterface eth1\nmetric 5",
+            &[(2, 5, 2)],
+        ),
+        // it is used up by an interface that isn't managed
+        (b"denyinterfaces eth2\nia_pd 1 eth2/2 eth1", &[]),
+        // of an association that goes nothing is shared
+        (b"ia_pd 1 eth1/7\nia_pd\nia_na", &[(2, 1002, 7)]),
     ];
     for (text, expected) in readings {
-        let conf = read_conf(rt.alloc(), text).ok().ok_or("it has no fault")?;
-        assert_eq!(rt; conf.not_built(), expected);
+        let set = set_on_eth0(rt.alloc(), text)?;
+        assert_eq!(rt; set.dhcp6.shares.len(), expected.len());
+        for (one, (number, metric, sla)) in set.dhcp6.shares.iter().zip(expected.iter()) {
+            assert_eq!(rt; one.outlet.iface, IfIndex { number: *number });
+            assert_eq!(rt; (one.outlet.metric, one.share.sla), (*metric, *sla));
+        }
     }
     Ok(())
 }

@@ -12,10 +12,13 @@ use Rattle.world.specs.HostCalls.{HostCall, HostTold, Listed, host_answered, hos
 use Rattle.world.specs.FileLists.{asides, file_at, put_file, rename_file, drop_file}
 use Rattle.world.specs.FileNames.{aside_of}
 use Rattle.world.specs.StoreCalls.{StoreCall, StoreTold, Reading, Found, Missing, Unread, ListedAsides, ReadFile, WroteAside, SyncedAside, RenamedAside, RemovedFile, SettledFiles, reading_of, Appended, ListsAsides, ReadsFile, store_answered, store_number, ChangesFiles, RenameForetold}
+use Rattle.net_types.specs.declared.fault.Failed.{Failed}
+use Rattle.world.specs.declared.hooking.Poll.{Poll}
+use Rattle.world.specs.HookCalls.{HooksTold, HookCall, Job, Started, Polled, Abandoned, StartsJob, AnswersPoll, Abandons, start_number, next_answer, polled, hooks_answered, said_by_poll}
 use Rattle.host_model.specs.declared.changes.HostChange.{HostChange}
 use Rattle.host_model.specs.HostTurn.{change_call, applied}
 use Rattle.device_calls.specs.Telling.{Adds}
-use Rattle.daemon.specs.Answered.{OfferedBy, ListedBy, ChangedBy, AsidesBy, ReadBy, WrittenBy, SyncedBy, RenamedBy, RemovedBy, SettledBy}
+use Rattle.daemon.specs.Answered.{OfferedBy, ListedBy, ChangedBy, AsidesBy, ReadBy, WrittenBy, SyncedBy, RenamedBy, RemovedBy, SettledBy, StartedBy, PolledBy, AbandonedBy}
 
 abbrev done_call : Result (Unit {0}) DeviceAnswer
 done_call = Ok tt
@@ -230,3 +233,38 @@ unsettled_by (Some failing) (Some told) new changes foretold = record { adds = s
 pub unwritten : (failing : Option StoreFails) (change : _) (call : Bool → StoreCall) (old new : Option StoreTold) → ChangesFiles {T = Unit {0}} failing change call old new no_memory → new ≡ old
 unwritten failing change call None new changes = changes
 unwritten failing change call (Some told) new changes = changes
+
+-- ---- hooks
+
+hooks_add : (call : HookCall) (told : HooksTold) (new : Option HooksTold) → new ≡ Some (hooks_answered call told) → Adds (Some told.calls) (option_map (λ t. t.calls) new) (call ∷ [])
+hooks_add call told new same = subst (λ (n : Option HooksTold). Adds (Some told.calls) (option_map (λ t. t.calls) n) (call ∷ [])) (sym same) refl
+
+pub started_by : (job : Job) (failing : Option (List ℕ)) (old new : Option HooksTold) → StartsJob job old new done_call → Foretold failing (start_number old) done_call → StartedBy job true failing old new
+started_by job failing None new starts foretold = record { adds = tt; foretold_is = tt }
+started_by job None (Some told) new starts foretold = record { adds = hooks_add (Started job true) told new starts; foretold_is = tt }
+started_by job (Some failing) (Some told) new starts foretold = record { adds = hooks_add (Started job true) told new starts; foretold_is = (ap not (sym foretold), starts) }
+
+pub unstarted_by : (job : Job) (failing : Option (List ℕ)) (old new : Option HooksTold) → StartsJob job old new failed_call → Foretold failing (start_number old) failed_call → StartedBy job false failing old new
+unstarted_by job failing None new starts foretold = record { adds = tt; foretold_is = tt }
+unstarted_by job None (Some told) new starts foretold = record { adds = hooks_add (Started job false) told new starts; foretold_is = tt }
+unstarted_by job (Some failing) (Some told) new starts foretold = record { adds = hooks_add (Started job false) told new starts; foretold_is = (ap not (sym foretold), starts) }
+
+pub unasked_start : (job : Job) (old new : Option HooksTold) → StartsJob {T = Unit {0}} job old new no_memory → new ≡ old
+unasked_start job None new starts = starts
+unasked_start job (Some told) new starts = starts
+
+polled_add : (answer : Option Poll) (told : HooksTold) (new : Option HooksTold) → answer ≡ next_answer told.polls → new ≡ Some (polled told) → Adds (Some told.calls) (option_map (λ t. t.calls) new) (Polled answer ∷ [])
+polled_add answer told new said same =
+    subst (λ (n : Option HooksTold). Adds (Some told.calls) (option_map (λ t. t.calls) n) (Polled answer ∷ [])) (sym same)
+    (ap (λ (a : Option Poll). told.calls ++ Polled a ∷ []) (sym said))
+
+pub polled_by : (result : Result Poll Failed) (failing : Option (List ℕ)) (old new : Option HooksTold) → AnswersPoll old new result → PolledBy (said_by_poll result) failing old new
+polled_by result failing None new answers = record { adds = tt; foretold_is = tt }
+polled_by result None (Some told) new answers = record { adds = polled_add (said_by_poll result) told new answers.0 answers.1; foretold_is = tt }
+polled_by result (Some failing) (Some told) new answers = record { adds = polled_add (said_by_poll result) told new answers.0 answers.1; foretold_is = answers }
+
+pub abandoned_by : (failing : Option (List ℕ)) (running : Bool) (old new : Option HooksTold) → running ≡ true → Abandons running old new → AbandonedBy failing old new
+abandoned_by failing running None new runs abandons = record { adds = tt; foretold_is = tt }
+abandoned_by failing false (Some told) new runs abandons = absurd cc
+abandoned_by None true (Some told) new runs abandons = record { adds = hooks_add Abandoned told new abandons; foretold_is = tt }
+abandoned_by (Some failing) true (Some told) new runs abandons = record { adds = hooks_add Abandoned told new abandons; foretold_is = (refl, abandons) }

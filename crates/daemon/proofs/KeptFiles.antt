@@ -17,10 +17,10 @@ use Rattle.device_calls.specs.Worlds.{Seen}
 use Rattle.device_calls.specs.Does.{Does}
 use Rattle.device_calls.proofs.Programs.{MakesBoth, makes_both}
 use Rattle.device_calls.proofs.Doing.{does_done, does_after}
-use Rattle.turn_model.specs.KeptFiles.{Keeps, Duid, Lease4, Lease6, KeptFile, same_content, is_settled, wanted_in, bringing, known_after, keeping_one, keeping, is_unknown}
+use Rattle.turn_model.specs.KeptFiles.{Keeps, Duid, Lease4, Lease6, Resolver, KeptFile, same_content, is_settled, wanted_in, bringing, known_after, keeping_one, keeping, is_unknown}
 use Rattle.daemon.specs.declared.keeping.Touched.{Touched}
 use Rattle.daemon.specs.declared.keeping.Touched.TheVariants.{All, These}
-use Rattle.daemon.specs.Keeping.{may_differ, IsKept, AreKept, AreKeptBut}
+use Rattle.daemon.specs.Keeping.{has_some, may_differ, IsKept, AreKept, AreKeptBut}
 
 -- ---- one file
 
@@ -140,6 +140,10 @@ but_more P files i next lt all = subst (AllByRecursion P) (sym (drop-set-lt (i +
 
 -- ---- from turn to turn
 
+none_has : (touched : List IfIndex) → has_some touched ≡ false → touched ≡ []
+none_has [] none = refl
+none_has (index ∷ touched) none = absurd cc
+
 -- what a file is to hold stays where its interface wasn't touched
 stays_wanted : (touched : List IfIndex) (these : Bor (List IfIndex)) (old new : List Iface) (keeps : Keeps) → these.now ≡ touched → KeepsUntouched touched old new
     → may_differ keeps (These these) ≡ false → wanted_in new keeps ≡ wanted_in old keeps
@@ -148,6 +152,7 @@ stays_wanted touched these old new (Lease4 iface) is stays untouched =
     ap (option_map lease4_text) (stays.kept4 iface (ap (is_touched iface) (sym is) ∙ untouched))
 stays_wanted touched these old new (Lease6 iface) is stays untouched =
     ap (option_map lease6_text) (stays.kept6 iface (ap (is_touched iface) (sym is) ∙ untouched))
+stays_wanted touched these old new Resolver is stays untouched = stays.resolver (none_has touched (ap has_some (sym is) ∙ untouched))
 
 -- files stay as they are to be where their interfaces weren't touched
 pub kept_but : (touched : List IfIndex) (these : Bor (List IfIndex)) (old new : List Iface) (files : List KeptFile) → these.now ≡ touched → KeepsUntouched touched old new → AreKept old files → AreKeptBut (These these) new files
@@ -162,6 +167,7 @@ all_differ : (keeps : Keeps) → may_differ keeps All ≡ true
 all_differ (Duid bytes) = refl
 all_differ (Lease4 iface) = refl
 all_differ (Lease6 iface) = refl
+all_differ Resolver = refl
 
 pub all_but : (ifaces : List Iface) (files : List KeptFile) → AreKeptBut All ifaces files
 all_but ifaces [] = tt

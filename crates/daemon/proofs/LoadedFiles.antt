@@ -16,9 +16,9 @@ use Rattle.device_calls.specs.Programs.{Asks, Done, Then, after}
 use Rattle.device_calls.specs.Worlds.{Seen}
 use Rattle.device_calls.specs.Does.{Does}
 use Rattle.device_calls.proofs.Doing.{does_done, does_then, does_after}
-use Rattle.turn_model.specs.KeptFiles.{KeptFile, Duid}
-use Rattle.turn_model.specs.Loading.{reading_if, duid_file, lease4_file, lease6_file, Loaded, loaded, loading_one, loading, files_loaded, file_with, files_by, beginning_of, duid_with}
-use Rattle.daemon.specs.Loading.{LoadsLeases, LoadsAll}
+use Rattle.turn_model.specs.KeptFiles.{KeptFile, Duid, Resolver}
+use Rattle.turn_model.specs.Loading.{reading_if, duid_file, resolver_file, lease4_file, lease6_file, Loaded, loaded, loading_one, loading, FilesLoaded, files_loaded, file_with, files_by, beginning_of}
+use Rattle.daemon.specs.Loading.{LoadsLeases, LoadsOwn, LoadsAll}
 
 -- ---- one file
 
@@ -98,14 +98,18 @@ pub fit_more : {X : Type 0} (P : Beginning → Type 0) (content : X → Beginnin
 fit_more P content all next one next_is fit holds =
     subst (AllByRecursion P) (sym (ap (map content) next_is ∙ map-append content all (one ∷ []))) (all_with P (map content all) (content one) fit holds)
 
--- ---- all that a life keeps
+-- ---- those of the DUID and of leases
 
 -- none, where no interface is managed
 pub loads_nothing : (managed : List Managed) (beginnings : List Beginning) (files : List KeptFile) (seen : Seen) (text : List ℕ)
-    → slice_get managed 0 ≡ None → beginnings ≡ [] → files ≡ [] → LoadsAll managed beginnings files seen seen text text
+    → slice_get managed 0 ≡ None → beginnings ≡ [] → files ≡ [] → LoadsOwn managed beginnings files seen seen text text
 loads_nothing [] beginnings files seen text none no_beginnings no_files = record {
-  loaded = files_loaded None [];
-  does = does_done (files_loaded None []) seen text;
+  duid = None;
+  leases = [];
+  mid = seen;
+  text_mid = text;
+  reads_duid = does_done None seen text;
+  reads_leases = does_done [] seen text;
   beginnings_are = no_beginnings;
   files_are = no_files;
 }
@@ -120,18 +124,40 @@ pub loads_with : (managed : List Managed) (first : Managed) (is_kept : Bool) (na
     (beginnings : List Beginning) (files : List KeptFile) (old mid new : Seen) (t u v : List ℕ)
     → slice_get managed 0 ≡ Some first → is_kept ≡ some_need_duid managed → name ≡ duid_file → duid ≡ host_duid (first ∷ []) read
     → before ≡ file_with (Duid duid) duid_file read → Does (reading_if is_kept name) read old mid t u
-    → LoadsLeases managed duid before beginnings files mid new u v → LoadsAll managed beginnings files old new t v
+    → LoadsLeases managed duid before beginnings files mid new u v → LoadsOwn managed beginnings files old new t v
 loads_with managed first is_kept name duid read before beginnings files old mid new t u v first_is kept_is name_is duid_is before_is reads loads =
-    let same : duid ≡ duid_with managed (files_loaded read loads.loaded) = duid_is ∙ made_by_first managed first read first_is in
-    let did : Does (reading_if (some_need_duid managed) duid_file) read old mid t u =
-    subst (λ (asks : Asks (Option Reading)). Does asks read old mid t u) (λ i. reading_if (kept_is i) (name_is i)) reads in
+    let same : duid ≡ host_duid managed read = duid_is ∙ made_by_first managed first read first_is in
     record {
-      loaded = files_loaded read loads.loaded;
-      does = does_after (reading_if (some_need_duid managed) duid_file) (λ d. after (loading managed) (λ ifaces. Done (files_loaded d ifaces))) read (files_loaded read loads.loaded)
-          old mid new t u v did
-          (does_after (loading managed) (λ ifaces. Done (files_loaded read ifaces)) loads.loaded (files_loaded read loads.loaded) mid new new u v v loads.does
-          (does_done (files_loaded read loads.loaded) new v));
+      duid = read;
+      leases = loads.loaded;
+      mid = mid;
+      text_mid = u;
+      reads_duid = subst (λ (asks : Asks (Option Reading)). Does asks read old mid t u) (λ i. reading_if (kept_is i) (name_is i)) reads;
+      reads_leases = loads.does;
       beginnings_are = loads.beginnings_are ∙ ap (λ (d : List ℕ). map (beginning_of d) loads.loaded) same;
       files_are = loads.files_are ∙ ap (λ (fs : List KeptFile). fs ++ flat_map files_by loads.loaded) before_is
           ∙ ap (λ (d : List ℕ). file_with (Duid d) duid_file read ++ flat_map files_by loads.loaded) same;
+    }
+
+-- ---- all that a life keeps
+
+pub loads_all : (managed : List Managed) (beginnings : List Beginning) (files all : List KeptFile) (name : List ℕ) (reading : Reading) (old mid new : Seen) (t u v : List ℕ)
+    → LoadsOwn managed beginnings files old mid t u → name ≡ resolver_file → Does (Then (Read name) Done) reading mid new u v
+    → all ≡ files ++ file_with Resolver resolver_file (Some reading) → LoadsAll managed beginnings all old new t v
+loads_all managed beginnings files all name reading old mid new t u v own name_is reads all_is =
+    let loaded : FilesLoaded = files_loaded own.duid own.leases reading in
+    let duid_files : List KeptFile = file_with (Duid (host_duid managed own.duid)) duid_file own.duid in
+    let read : Does (Then (Read resolver_file) Done) reading mid new u v =
+    subst (λ (file : List ℕ). Does (Then (Read file) Done) reading mid new u v) name_is reads in
+    record {
+      loaded = loaded;
+      does = does_after (reading_if (some_need_duid managed) duid_file)
+          (λ d. after (loading managed) (λ ifaces. Then (Read resolver_file) (λ r. Done (files_loaded d ifaces r)))) own.duid loaded
+          old own.mid new t own.text_mid v own.reads_duid
+          (does_after (loading managed) (λ ifaces. Then (Read resolver_file) (λ r. Done (files_loaded own.duid ifaces r))) own.leases loaded
+          own.mid mid new own.text_mid u v own.reads_leases
+          (does_then (Read resolver_file) (λ r. Done (files_loaded own.duid own.leases r)) reading loaded mid new new u v v read (does_done loaded new v)));
+      beginnings_are = own.beginnings_are;
+      files_are = all_is ∙ ap (λ (fs : List KeptFile). fs ++ file_with Resolver resolver_file (Some reading)) own.files_are
+          ∙ append_assoc duid_files (flat_map files_by own.leases) (file_with Resolver resolver_file (Some reading));
     }

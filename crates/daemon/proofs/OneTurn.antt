@@ -6,6 +6,7 @@ use Rattle.world.specs.StoreFails.{StoreFails}
 use Rattle.world.specs.LinkCalls.{LinkTold, Given, Waited, frame_len, Comes, Waits}
 use Rattle.world.specs.HostCalls.{HostTold}
 use Rattle.world.specs.StoreCalls.{StoreTold}
+use Rattle.world.specs.HookCalls.{HooksTold}
 use Rattle.settings.specs.declared.interfaces.Managed.{Managed}
 use Rattle.script_model.specs.Lines.{Line, lines_text}
 use Rattle.device_calls.specs.Calls.{Call, Link}
@@ -113,34 +114,36 @@ last_in managed life wake buffer asked told mid world (given ∷ coming) end com
     ap (λ (b : Bool). cond b [] (met_of given (ran_turn managed life world given) ∷ told_turns managed (ran_turn managed life world given).result (ran_turn managed life world given).world coming))
     (or_true (is_over life) (is_end given.wake.event) is)
 
-last_at : (managed : List Managed) (life : Life) (wake : Wake) (buffer : List ℕ) (asked : Option ℕ) (link mid : Option LinkTold) (failing : Option (List ℕ)) (host : Option (Told HostTold (List ℕ))) (store : Option (Told StoreTold StoreFails)) → is_end wake.event ≡ true
-    → Waits asked link mid buffer (woke wake) → IfSome (world_from (told_from link failing) host store) (λ world. foretold_turns managed life world ≡ [])
-last_at managed life wake buffer asked None mid failing host store end waits = tt
-last_at managed life wake buffer asked (Some told) mid None host store end waits = tt
-last_at managed life wake buffer asked (Some told) mid (Some failing) None store end waits = tt
-last_at managed life wake buffer asked (Some told) mid (Some failing) (Some host) None end waits = tt
-last_at managed life wake buffer asked (Some told) mid (Some failing) (Some host) (Some store) end waits = last_in managed life wake buffer asked told mid _ told.coming end waits
+last_at : (managed : List Managed) (life : Life) (wake : Wake) (buffer : List ℕ) (asked : Option ℕ) (link mid : Option LinkTold) (failing : Option (List ℕ)) (host : Option (Told HostTold (List ℕ))) (store : Option (Told StoreTold StoreFails)) (hooks : Option (Told HooksTold (List ℕ))) → is_end wake.event ≡ true
+    → Waits asked link mid buffer (woke wake) → IfSome (world_from (told_from link failing) host store hooks) (λ world. foretold_turns managed life world ≡ [])
+last_at managed life wake buffer asked None mid failing host store hooks end waits = tt
+last_at managed life wake buffer asked (Some told) mid None host store hooks end waits = tt
+last_at managed life wake buffer asked (Some told) mid (Some failing) None store hooks end waits = tt
+last_at managed life wake buffer asked (Some told) mid (Some failing) (Some host) None hooks end waits = tt
+last_at managed life wake buffer asked (Some told) mid (Some failing) (Some host) (Some store) None end waits = tt
+last_at managed life wake buffer asked (Some told) mid (Some failing) (Some host) (Some store) (Some hooks) end waits = last_in managed life wake buffer asked told mid _ told.coming end waits
 
 -- what is left then
-left_in-last : (managed : List Managed) (life : Life) (wake : Wake) (buffer : List ℕ) (asked : Option ℕ) (told : LinkTold) (mid : Option LinkTold) (failing : List ℕ) (host : Told HostTold (List ℕ)) (store : Told StoreTold StoreFails) (coming : List Given)
+left_in-last : (managed : List Managed) (life : Life) (wake : Wake) (buffer : List ℕ) (asked : Option ℕ) (told : LinkTold) (mid : Option LinkTold) (failing : List ℕ) (host : Told HostTold (List ℕ)) (store : Told StoreTold StoreFails) (hooks : Told HooksTold (List ℕ)) (coming : List Given)
     → is_end wake.event ≡ true → Comes asked told coming mid buffer wake
-    → option_map left_in (world_from (told_from mid (Some failing)) (Some host) (Some store)) ≡ Some (left_in (told_after managed life (record { link = record { told = told; failing = failing }; host = host; store = store }) coming))
-left_in-last managed life wake buffer asked told mid failing host store [] end comes =
-    ap (λ (l : Option LinkTold). option_map left_in (world_from (told_from l (Some failing)) (Some host) (Some store))) comes.1
-left_in-last managed life wake buffer asked told mid failing host store (given ∷ coming) end comes =
+    → option_map left_in (world_from (told_from mid (Some failing)) (Some host) (Some store) (Some hooks)) ≡ Some (left_in (told_after managed life (record { link = record { told = told; failing = failing }; host = host; store = store; hooks = hooks }) coming))
+left_in-last managed life wake buffer asked told mid failing host store hooks [] end comes =
+    ap (λ (l : Option LinkTold). option_map left_in (world_from (told_from l (Some failing)) (Some host) (Some store) (Some hooks))) comes.1
+left_in-last managed life wake buffer asked told mid failing host store hooks (given ∷ coming) end comes =
     let is : is_end given.wake.event ≡ true = sym (is_end-cut given.wake.event (length given.bytes) (length buffer)) ∙ ap (λ (w : Wake). is_end w.event) (sym comes.0) ∙ end in
-    let world : World = record { link = record { told = told; failing = failing }; host = host; store = store } in
-    ap (λ (l : Option LinkTold). option_map left_in (world_from (told_from l (Some failing)) (Some host) (Some store))) comes.2
+    let world : World = record { link = record { told = told; failing = failing }; host = host; store = store; hooks = hooks } in
+    ap (λ (l : Option LinkTold). option_map left_in (world_from (told_from l (Some failing)) (Some host) (Some store) (Some hooks))) comes.2
     ∙ sym (ap (λ (b : Bool). Some (left_in (cond b world (told_after managed (ran_turn managed life world given).result (ran_turn managed life world given).world coming)))) (or_true (is_over life) (is_end given.wake.event) is))
 
-left_at : (managed : List Managed) (life : Life) (wake : Wake) (buffer : List ℕ) (asked : Option ℕ) (link mid : Option LinkTold) (failing : Option (List ℕ)) (host : Option (Told HostTold (List ℕ))) (store : Option (Told StoreTold StoreFails)) → is_end wake.event ≡ true
+left_at : (managed : List Managed) (life : Life) (wake : Wake) (buffer : List ℕ) (asked : Option ℕ) (link mid : Option LinkTold) (failing : Option (List ℕ)) (host : Option (Told HostTold (List ℕ))) (store : Option (Told StoreTold StoreFails)) (hooks : Option (Told HooksTold (List ℕ))) → is_end wake.event ≡ true
     → Waits asked link mid buffer (woke wake)
-    → IfSome (world_from (told_from link failing) host store) (λ world. option_map left_in (world_from (told_from mid failing) host store) ≡ Some (left_in (told_last managed life world)))
-left_at managed life wake buffer asked None mid failing host store end waits = tt
-left_at managed life wake buffer asked (Some told) mid None host store end waits = tt
-left_at managed life wake buffer asked (Some told) mid (Some failing) None store end waits = tt
-left_at managed life wake buffer asked (Some told) mid (Some failing) (Some host) None end waits = tt
-left_at managed life wake buffer asked (Some told) mid (Some failing) (Some host) (Some store) end waits = left_in-last managed life wake buffer asked told mid failing host store told.coming end waits
+    → IfSome (world_from (told_from link failing) host store hooks) (λ world. option_map left_in (world_from (told_from mid failing) host store hooks) ≡ Some (left_in (told_last managed life world)))
+left_at managed life wake buffer asked None mid failing host store hooks end waits = tt
+left_at managed life wake buffer asked (Some told) mid None host store hooks end waits = tt
+left_at managed life wake buffer asked (Some told) mid (Some failing) None store hooks end waits = tt
+left_at managed life wake buffer asked (Some told) mid (Some failing) (Some host) None hooks end waits = tt
+left_at managed life wake buffer asked (Some told) mid (Some failing) (Some host) (Some store) None end waits = tt
+left_at managed life wake buffer asked (Some told) mid (Some failing) (Some host) (Some store) (Some hooks) end waits = left_in-last managed life wake buffer asked told mid failing host store hooks told.coming end waits
 
 pub wait_ends : (managed : List Managed) (life : Life) (wake : Wake) (buffer : List ℕ) (asked : Option ℕ) (old mid : Seen) (out : Option (List ℕ))
     → asked ≡ until life → is_end wake.event ≡ true → WaitsThere asked old mid buffer (woke wake) → Ends managed life old out life mid out
@@ -154,7 +157,7 @@ wait_ends managed life wake buffer asked old mid out asked_is end waits =
       last = Link (Waited asked (Some it.given)) ∷ [];
       last_is = (asked_is, ap (λ (k : Wake). is_end k.event) it.its_wake ∙ end);
       tells = link_alone old mid (Waited asked (Some it.given)) waits.only waits.begins it.adds;
-      whole = last_at managed life wake buffer asked old.link.told mid.link.told old.link.failing (told_of old.host) (told_of old.store) end waits.told;
+      whole = last_at managed life wake buffer asked old.link.told mid.link.told old.link.failing (told_of old.host) (told_of old.store) (told_of old.hooks) end waits.told;
       left = subst (λ (m : Option World). IfSome (world_of old) (λ world. option_map left_in m ≡ Some (left_in (told_last managed life world)))) (same_but_link old mid waits.only)
-          (left_at managed life wake buffer asked old.link.told mid.link.told old.link.failing (told_of old.host) (told_of old.store) end waits.told);
+          (left_at managed life wake buffer asked old.link.told mid.link.told old.link.failing (told_of old.host) (told_of old.store) (told_of old.hooks) end waits.told);
     }

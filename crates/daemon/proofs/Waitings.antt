@@ -12,6 +12,7 @@ use Rattle.world.specs.StoreFails.{StoreFails}
 use Rattle.world.specs.LinkCalls.{LinkCall, LinkTold, Given, Waited, frame_len, cut_event, cut_wake, Comes, Waits, Begins}
 use Rattle.world.specs.HostCalls.{HostTold}
 use Rattle.world.specs.StoreCalls.{StoreTold}
+use Rattle.world.specs.HookCalls.{HooksTold}
 use Rattle.device_calls.specs.Calls.{Link}
 use Rattle.device_calls.specs.Worlds.{Seen, World, Told, told_from, told_of, world_from, world_of}
 use Rattle.device_calls.specs.Telling.{Adds, Tells}
@@ -54,24 +55,26 @@ link_alone old mid call only begins adds = record {
 }
 
 -- the worlds before and after differ in what the link tells alone
-pub same_but_link : (old mid : Seen) → OnlyLink old mid → world_from (told_from mid.link.told old.link.failing) (told_of old.host) (told_of old.store) ≡ world_of mid
-same_but_link old mid only = λ i. world_from (told_from mid.link.told (sym only.failing i)) (told_of (sym only.host i)) (told_of (sym only.store i))
+pub same_but_link : (old mid : Seen) → OnlyLink old mid → world_from (told_from mid.link.told old.link.failing) (told_of old.host) (told_of old.store) (told_of old.hooks) ≡ world_of mid
+same_but_link old mid only = λ i. world_from (told_from mid.link.told (sym only.failing i)) (told_of (sym only.host i)) (told_of (sym only.store i)) (told_of (sym only.hooks i))
 
 -- ---- beginning
 
-begun_at : (begin : Begin) (link mid : Option LinkTold) (failing : Option (List ℕ)) (host : Option (Told HostTold (List ℕ))) (store : Option (Told StoreTold StoreFails)) → Begins link mid (began begin)
-    → IfSome (world_from (told_from link failing) host store) (λ world. (begin ≡ world.link.told.begin) × (world_from (told_from mid failing) host store ≡ Some world))
-begun_at begin None mid failing host store begins = tt
-begun_at begin (Some told) mid None host store begins = tt
-begun_at begin (Some told) mid (Some failing) None store begins = tt
-begun_at begin (Some told) mid (Some failing) (Some host) None begins = tt
-begun_at begin (Some told) mid (Some failing) (Some host) (Some store) begins = (begins.0, ap (λ (l : Option LinkTold). world_from (told_from l (Some failing)) (Some host) (Some store)) begins.1)
+begun_at : (begin : Begin) (link mid : Option LinkTold) (failing : Option (List ℕ)) (host : Option (Told HostTold (List ℕ))) (store : Option (Told StoreTold StoreFails)) (hooks : Option (Told HooksTold (List ℕ))) → Begins link mid (began begin)
+    → IfSome (world_from (told_from link failing) host store hooks) (λ world. (begin ≡ world.link.told.begin) × (world_from (told_from mid failing) host store hooks ≡ Some world))
+begun_at begin None mid failing host store hooks begins = tt
+begun_at begin (Some told) mid None host store hooks begins = tt
+begun_at begin (Some told) mid (Some failing) None store hooks begins = tt
+begun_at begin (Some told) mid (Some failing) (Some host) None hooks begins = tt
+begun_at begin (Some told) mid (Some failing) (Some host) (Some store) None begins = tt
+begun_at begin (Some told) mid (Some failing) (Some host) (Some store) (Some hooks) begins =
+    (begins.0, ap (λ (l : Option LinkTold). world_from (told_from l (Some failing)) (Some host) (Some store) (Some hooks)) begins.1)
 
 -- a life begins as the link tells
 pub begun_world : (begin : Begin) (old mid : Seen) → BeginsThere old mid (began begin) → IfSome (world_of old) (λ world. (begin ≡ world.link.told.begin) × (world_of mid ≡ Some world))
 begun_world begin old mid begins =
     subst (λ (m : Option World). IfSome (world_of old) (λ world. (begin ≡ world.link.told.begin) × (m ≡ Some world))) (same_but_link old mid begins.only)
-    (begun_at begin old.link.told mid.link.told old.link.failing (told_of old.host) (told_of old.store) begins.told)
+    (begun_at begin old.link.told mid.link.told old.link.failing (told_of old.host) (told_of old.store) (told_of old.hooks) begins.told)
 
 -- ---- a wait that gave a wake
 
@@ -84,14 +87,14 @@ pub record Woke (asked : Option ℕ) (wake : Wake) (bytes : List ℕ) (world : W
   pub bytes_are : bytes ≡ told_bytes given
   pub mid_is : mid ≡ Some (woken asked wake bytes world)
 
-abbrev world_with : LinkTold → List ℕ → Told HostTold (List ℕ) → Told StoreTold StoreFails → World
-world_with told failing host store = record { link = record { told = told; failing = failing }; host = host; store = store }
+abbrev world_with : LinkTold → List ℕ → Told HostTold (List ℕ) → Told StoreTold StoreFails → Told HooksTold (List ℕ) → World
+world_with told failing host store hooks = record { link = record { told = told; failing = failing }; host = host; store = store; hooks = hooks }
 
 module _ (asked : Option ℕ) (wake : Wake) (bytes buffer : List ℕ) (more : is_end wake.event ≡ false) (room : length buffer ≡ 2048) (front : bytes ≡ take (frame_len wake.event) buffer) where
-  woke_in : (told : LinkTold) (failing : List ℕ) (mid : Option LinkTold) (host : Told HostTold (List ℕ)) (store : Told StoreTold StoreFails) (coming : List Given) → told.coming ≡ coming → Comes asked told coming mid buffer wake
-      → Woke asked wake bytes (world_with told failing host store) (world_from (told_from mid (Some failing)) (Some host) (Some store))
-  woke_in told failing mid host store [] same comes = absurd (let bad : false ≡ true = sym more ∙ ap is_end comes.0 in cc)
-  woke_in told failing mid host store (given ∷ coming) same comes =
+  woke_in : (told : LinkTold) (failing : List ℕ) (mid : Option LinkTold) (host : Told HostTold (List ℕ)) (store : Told StoreTold StoreFails) (hooks : Told HooksTold (List ℕ)) (coming : List Given) → told.coming ≡ coming → Comes asked told coming mid buffer wake
+      → Woke asked wake bytes (world_with told failing host store hooks) (world_from (told_from mid (Some failing)) (Some host) (Some store) (Some hooks))
+  woke_in told failing mid host store hooks [] same comes = absurd (let bad : false ≡ true = sym more ∙ ap is_end comes.0 in cc)
+  woke_in told failing mid host store hooks (given ∷ coming) same comes =
       let wake_is : wake ≡ told_wake given = comes.0 ∙ ap (cut_wake given) room in
       let bytes_here : bytes ≡ take (frame_len wake.event) given.bytes = front ∙ comes.1 in
       let rest_is : coming ≡ drop 1 told.coming = ap (λ (c : List Given). drop 1 c) (sym same) in
@@ -101,17 +104,18 @@ module _ (asked : Option ℕ) (wake : Wake) (bytes buffer : List ℕ) (more : is
         comes = same;
         wake_is = wake_is;
         bytes_are = bytes_here ∙ ap (λ (w : Wake). take (frame_len w.event) given.bytes) wake_is;
-        mid_is = ap (λ (l : Option LinkTold). world_from (told_from l (Some failing)) (Some host) (Some store)) comes.2
-            ∙ (λ i. Some (world_with (record told { coming = rest_is i; waits = told.waits + 1; calls = told.calls ++ Waited asked (Some (record { wake = wake; bytes = sym bytes_here i })) ∷ [] }) failing host store));
+        mid_is = ap (λ (l : Option LinkTold). world_from (told_from l (Some failing)) (Some host) (Some store) (Some hooks)) comes.2
+            ∙ (λ i. Some (world_with (record told { coming = rest_is i; waits = told.waits + 1; calls = told.calls ++ Waited asked (Some (record { wake = wake; bytes = sym bytes_here i })) ∷ [] }) failing host store hooks));
       }
 
-  woke_at : (link mid : Option LinkTold) (failing : Option (List ℕ)) (host : Option (Told HostTold (List ℕ))) (store : Option (Told StoreTold StoreFails)) → Waits asked link mid buffer (woke wake)
-      → IfSome (world_from (told_from link failing) host store) (λ world. Woke asked wake bytes world (world_from (told_from mid failing) host store))
-  woke_at None mid failing host store waits = tt
-  woke_at (Some told) mid None host store waits = tt
-  woke_at (Some told) mid (Some failing) None store waits = tt
-  woke_at (Some told) mid (Some failing) (Some host) None waits = tt
-  woke_at (Some told) mid (Some failing) (Some host) (Some store) waits = woke_in told failing mid host store told.coming refl waits
+  woke_at : (link mid : Option LinkTold) (failing : Option (List ℕ)) (host : Option (Told HostTold (List ℕ))) (store : Option (Told StoreTold StoreFails)) (hooks : Option (Told HooksTold (List ℕ))) → Waits asked link mid buffer (woke wake)
+      → IfSome (world_from (told_from link failing) host store hooks) (λ world. Woke asked wake bytes world (world_from (told_from mid failing) host store hooks))
+  woke_at None mid failing host store hooks waits = tt
+  woke_at (Some told) mid None host store hooks waits = tt
+  woke_at (Some told) mid (Some failing) None store hooks waits = tt
+  woke_at (Some told) mid (Some failing) (Some host) None hooks waits = tt
+  woke_at (Some told) mid (Some failing) (Some host) (Some store) None waits = tt
+  woke_at (Some told) mid (Some failing) (Some host) (Some store) (Some hooks) waits = woke_in told failing mid host store hooks told.coming refl waits
 
   wait_adds_in : (told : LinkTold) (mid : Option LinkTold) (coming : List Given) → Comes asked told coming mid buffer wake
       → Adds (Some told.calls) (option_map (λ t. t.calls) mid) (Waited asked (Some (record { wake = wake; bytes = bytes })) ∷ [])
@@ -127,7 +131,7 @@ module _ (asked : Option ℕ) (wake : Wake) (bytes buffer : List ℕ) (more : is
   pub woke_world : (old mid : Seen) → WaitsThere asked old mid buffer (woke wake) → IfSome (world_of old) (λ world. Woke asked wake bytes world (world_of mid))
   woke_world old mid waits =
       subst (λ (m : Option World). IfSome (world_of old) (λ world. Woke asked wake bytes world m)) (same_but_link old mid waits.only)
-      (woke_at old.link.told mid.link.told old.link.failing (told_of old.host) (told_of old.store) waits.told)
+      (woke_at old.link.told mid.link.told old.link.failing (told_of old.host) (told_of old.store) (told_of old.hooks) waits.told)
 
   pub wait_tells : (old mid : Seen) → WaitsThere asked old mid buffer (woke wake) → Tells old mid (Link (Waited asked (Some (record { wake = wake; bytes = bytes }))) ∷ [])
   wait_tells old mid waits = link_alone old mid _ waits.only waits.begins (wait_adds old.link.told mid.link.told waits.told)

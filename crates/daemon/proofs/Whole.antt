@@ -1,6 +1,7 @@
 -- A whole life.
 use Rattle.std.proofs.Common.{ℕ, ◌≡◌, ◌≤◌, List, [], ◌++◌, length, inl, inr, Option, Some, None, refl, sym, ap, subst, ◌∙◌, arith}
 use Rattle.std.specs.Prelude.{IfSome, flat_map, option_map}
+use Rattle.std.specs.Option.{is_some}
 use Rattle.net_types.specs.declared.interface.IfSpec.{IfSpec}
 use Rattle.world.specs.declared.wakes.Begin.{Begin}
 use Rattle.world.specs.LinkCalls.{Given}
@@ -18,7 +19,7 @@ use Rattle.turn_model.specs.Lives.{Met, IsLast, life_after, turns_calls, opening
 use Rattle.turn_model.specs.Foretold.{foretold_turns, foretold_life, left_in}
 use Rattle.daemon.specs.declared.serving.ServeEnd.{ServeEnd}
 use Rattle.daemon.specs.declared.serving.ServeEnd.TheVariants as ends
-use Rattle.daemon.specs.Waits.{BeginsThere}
+use Rattle.daemon.specs.Waits.{BeginsThere, KnowsChild}
 use Rattle.daemon.specs.Streams.{WritesBytes, WritesSome, WritesLines}
 use Rattle.daemon.specs.Serving.{opening_with, told_last, MakesOpening, Ends, AreManyTurns, HasServeCause}
 use Rattle.daemon.specs.Served.{IsLifeOf, Served}
@@ -85,9 +86,9 @@ module _ (managed : List Managed) (specs : List IfSpec) (begin : Begin) (life : 
       (subst (λ (t : List ℕ). Prints t text (opening_lines (opening_with begin made.calls life))) empty made.lines)
 
   -- it was lived to its end
-  pub serves : (last : Life) (new : Seen) (out_two out_three : Option (List ℕ)) → WritesBytes out out_one written → Ends managed life opened out_one last new out_two
+  pub serves : (last : Life) (new : Seen) (out_two out_three : Option (List ℕ)) → WritesBytes out out_one written → Ends managed life opened out_one last new out_two → KnowsChild last.hooks new
       → WritesLines out_two out_three (closing_lines last) → Served managed specs old new out out_three
-  serves last new out_two out_three wrote ends closes = record {
+  serves last new out_two out_three wrote ends known closes = record {
     begun = record { begin = begin; seen = mid; begins = begins };
     opening = opening_with begin made.calls life;
     mets = ends.mets;
@@ -102,6 +103,7 @@ module _ (managed : List Managed) (specs : List IfSpec) (begin : Begin) (life : 
         (subst (λ (l : Life). WritesLines out_two out_three (closing_lines l)) ends.after closes));
     foretold = opens_foretold managed specs begin made.calls life ends.mets (world_of old) (world_of mid) (world_of opened) (begun_world begin old mid begins) made.did.foretold ends.whole;
     left = leaves_foretold managed specs begin made.calls life (world_of old) (world_of mid) (world_of opened) (world_of new) (begun_world begin old mid begins) made.did.foretold ends.left;
+    child = known ∙ ap (λ (l : Life). is_some l.hooks.child) ends.after;
   }
 
   -- the lines of the opening were not all written

@@ -1,5 +1,5 @@
 -- What one device did at one question, in the words of the definitions.
-use Rattle.std.specs.Prelude.{ℕ, ◌≡◌, Bool, not, if◌then◌else◌, List, [], ◌∷◌, map, Option, None, Some, IfSome, option_map, String}
+use Rattle.std.specs.Prelude.{ℕ, ◌≡◌, Bool, true, false, not, if◌then◌else◌, List, [], ◌∷◌, map, Option, None, Some, IfSome, option_map, String}
 use Rattle.std.specs.BTreeSet.{BTreeSet}
 use Rattle.std.specs.Global.{Global, Vec}
 use Rattle.std.specs.String.{string_bytes}
@@ -11,10 +11,13 @@ use Rattle.world.specs.HostCalls.{HostTold, Listed, host_answered}
 use Rattle.world.specs.StoreCalls.{StoreTold, Reading, Unread, ListedAsides, ReadFile, WroteAside, SyncedAside, RenamedAside, RemovedFile, SettledFiles, reading_of, store_answered}
 use Rattle.world.specs.StoreFails.{StoreFails}
 use Rattle.world.specs.FileLists.{asides, file_at}
+use Rattle.world.specs.declared.hooking.Poll.{Poll}
+use Rattle.world.specs.declared.hooking.Poll.TheVariants.{Running, Ended}
+use Rattle.world.specs.HookCalls.{HooksTold, Job, Started, Polled, Abandoned, next_answer, polled, hooks_answered}
 use Rattle.host_model.specs.declared.changes.HostChange.{HostChange}
 use Rattle.host_model.specs.declared.changes.HostChange.TheVariants.{Remove, Add}
 use Rattle.host_model.specs.HostTurn.{change_call}
-use Rattle.device_calls.specs.Worlds.{Told, told_from, fails_send, fails_host, fails_store, fails_renaming, host_with, store_written, store_synced, store_renamed, store_without}
+use Rattle.device_calls.specs.Worlds.{Told, told_from, fails_send, fails_host, fails_store, fails_renaming, fails_start, host_with, store_written, store_synced, store_renamed, store_without}
 use Rattle.device_calls.specs.Telling.{Adds}
 
 abbrev pub keys_of : Option (BTreeSet HostRow) → Option (List HostRow)
@@ -67,3 +70,18 @@ RemovedBy name done = By (λ told. told.calls) (RemovedFile name done) done (λ 
 
 abbrev pub SettledBy : Bool → Option StoreFails → Option StoreTold → Option StoreTold → Type 0
 SettledBy done = By (λ told. told.calls) (SettledFiles done) done (λ store. not (fails_store store)) (λ told. store_answered (SettledFiles done) told.files told)
+
+abbrev pub StartedBy : Job → Bool → Option (List ℕ) → Option HooksTold → Option HooksTold → Type 0
+StartedBy job done = By (λ told. told.calls) (Started job done) done (λ hooks. not (fails_start hooks)) (hooks_answered (Started job done))
+
+abbrev pub PolledBy : Option Poll → Option (List ℕ) → Option HooksTold → Option HooksTold → Type 0
+PolledBy answer = By (λ told. told.calls) (Polled answer) answer (λ hooks. next_answer hooks.told.polls) polled
+
+abbrev pub AbandonedBy : Option (List ℕ) → Option HooksTold → Option HooksTold → Type 0
+AbandonedBy = By {B = Unit {0}} (λ told. told.calls) Abandoned tt (λ hooks. tt) (hooks_answered Abandoned)
+
+-- whether the child runs on after a poll; one that failed says no other
+abbrev pub runs_on : Option Poll → Bool
+runs_on None = true
+runs_on (Some Running) = true
+runs_on (Some (Ended status)) = false

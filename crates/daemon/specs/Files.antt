@@ -20,3 +20,4 @@ abbrev pub keeps_of : Keeps → model.Keeps
 keeps_of (kept.Duid duid) = model.Duid duid.bytes.items
 keeps_of (kept.Lease4 iface) = model.Lease4 iface.number
 keeps_of (kept.Lease6 iface) = model.Lease6 iface.number
+keeps_of kept.Resolver = model.Resolver

@@ -1,9 +1,11 @@
 pub mod Answered
 pub mod Waits
+pub mod Hooking
 pub mod Files
 pub mod Keeping
 pub mod Loading
 pub mod Lives
+pub mod Acts
 pub mod Streams
 pub mod Serving
 pub mod Waking

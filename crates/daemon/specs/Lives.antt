@@ -11,7 +11,7 @@ abbrev pub keys_of : Option (BTreeSet HostRow) → Option (List HostRow)
 keys_of rows = option_map (λ set. set.keys) rows
 
 abbrev pub life_of : Life → model.Life
-life_of life = record { client = life.core; known = keys_of life.known; files = life.files.items; now = life.moment; stop = life.stop; unsent = life.unsent }
+life_of life = record { client = life.core; known = keys_of life.known; files = life.files.items; hooks = life.hooks; now = life.moment; stop = life.stop; unsent = life.unsent }
 
 abbrev pub IsBelowEnd : Option ℕ → Type 0
 IsBelowEnd None = Unit {0}

@@ -1,5 +1,6 @@
 -- A whole life, from its opening to its end.
 use Rattle.std.specs.Prelude.{ℕ, ◌≡◌, List, ◌++◌, Option, Some, IfSome, option_map, Ok}
+use Rattle.std.specs.Option.{is_some}
 use Rattle.net_types.specs.declared.interface.IfSpec.{IfSpec}
 use Rattle.world.specs.declared.wakes.Begin.{Begin}
 use Rattle.settings.specs.declared.interfaces.Managed.{Managed}
@@ -31,7 +32,7 @@ abbrev pub LeavesForetold : List Managed → List IfSpec → Seen → Seen → T
 LeavesForetold managed specs old new = IfSome (world_of old) (λ world. option_map left_in (world_of new) ≡ Some (foretold_life managed specs world).left)
 
 -- A life was lived to its end: it was begun once, its opening and turns asked what they are to ask, the devices that tell their
--- calls tell these and no other, and its lines were written.
+-- calls tell these and no other, and its lines were written. A hook's child runs then where the last turn left one.
 pub record Served (managed : List Managed) (specs : List IfSpec) (old new : Seen) (out_from out_to : Option (List ℕ)) : Type 0 where
   pub begun : Begun old
   pub opening : OpeningMet
@@ -45,3 +46,4 @@ pub record Served (managed : List Managed) (specs : List IfSpec) (old new : Seen
   pub written : WritesLines out_from out_to (life_lines opening mets)
   pub foretold : IsForetold managed specs old opening mets
   pub left : LeavesForetold managed specs old new
+  pub child : new.waiting.child ≡ is_some (life_after opening.life mets).hooks.child

@@ -1,12 +1,14 @@
 -- What beginning and waiting do to what the devices tell.
 use Rattle.std.specs.Prelude.{ℕ, ◌≡◌, List, Option, Result}
+use Rattle.std.specs.Option.{is_some}
 use Rattle.net_types.specs.declared.fault.Failed.{Failed}
 use Rattle.world.specs.declared.faults.DeviceAnswer.{DeviceAnswer}
 use Rattle.world.specs.declared.wakes.Begin.{Begin}
 use Rattle.world.specs.declared.wakes.Wake.{Wake}
 use Rattle.world.specs.LinkCalls.{Begins, Waits}
 use Rattle.world.specs.Streams.{count_after}
-use Rattle.device_calls.specs.Worlds.{Seen}
+use Rattle.hook_child.specs.Supervision.{Supervision}
+use Rattle.device_calls.specs.Worlds.{Seen, Waiting}
 
 -- all but what the link tells stays
 pub record OnlyLink (old new : Seen) : Type 0 where
@@ -15,6 +17,17 @@ pub record OnlyLink (old new : Seen) : Type 0 where
   pub host : new.host ≡ old.host
   pub store : new.store ≡ old.store
   pub hooks : new.hooks ≡ old.hooks
+  pub child : new.waiting.child ≡ old.waiting.child
+
+-- all stays that the link counts of begins and waits; a hook's child may have come or gone
+pub record OnlyChild (old new : Waiting) : Type 0 where
+  pub begins : new.begins ≡ old.begins
+  pub faults : new.faults ≡ old.faults
+  pub failing : new.failing ≡ old.failing
+
+-- a hook's child runs exactly where the supervisor has one
+abbrev pub KnowsChild : Supervision → Seen → Type 0
+KnowsChild hooks seen = seen.waiting.child ≡ is_some hooks.child
 
 -- the life was to begin once more
 pub record BeginsThere (old new : Seen) (result : Result Begin Failed) : Type 0 where

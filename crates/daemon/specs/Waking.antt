@@ -8,6 +8,7 @@ use Rattle.turn_model.specs.Lives.{Met}
 use Rattle.daemon.specs.declared.waking.Woken.{Woken}
 use Rattle.daemon.specs.declared.waking.Woken.TheVariants.{On, Over}
 use Rattle.daemon.specs.Lives.{life_of, IsOrderly}
+use Rattle.daemon.specs.Waits.{KnowsChild}
 use Rattle.daemon.specs.Serving.{Goes, Ends}
 
 -- a life goes on after exactly one turn
@@ -17,5 +18,5 @@ pub record GoesOn (managed : List Managed) (from : model.Life) (old : Seen) (out
   pub going : is_over to ≡ false
 
 abbrev pub IsOneTurn : List Managed → model.Life → Seen → Option (List ℕ) → Woken → Seen → Option (List ℕ) → Type 0
-IsOneTurn managed from old out (On life) new out_to = IsOrderly life × GoesOn managed from old out (life_of life) new out_to
-IsOneTurn managed from old out (Over life) new out_to = Ends managed from old out (life_of life) new out_to
+IsOneTurn managed from old out (On life) new out_to = IsOrderly life × KnowsChild life.hooks new × GoesOn managed from old out (life_of life) new out_to
+IsOneTurn managed from old out (Over life) new out_to = KnowsChild life.hooks new × Ends managed from old out (life_of life) new out_to

@@ -1,16 +1,19 @@
-ghost use Rattle.std.specs.Prelude.{◌≡◌, IfOk, IfErr, IfSome};
+ghost use Rattle.std.specs.Prelude.{◌≡◌, true, false, IfOk, IfErr, IfSome};
 ghost use Rattle.std.specs.List.{AllByRecursion};
 ghost use Rattle.std.specs.String.{string_bytes};
 ghost use Rattle.world.specs.FileNames.{IsFileName};
+ghost use Rattle.world.specs.HookCalls.{job_of};
 ghost use Rattle.lease_file.specs.FileReads.{got_reading};
-ghost use Rattle.daemon.specs.Answered.{rows_listed, names_of, FitsChange, OfferedBy, ListedBy, ChangedBy, AsidesBy, ReadBy, WrittenBy, SyncedBy, RenamedBy, RemovedBy, SettledBy};
+ghost use Rattle.daemon.specs.Answered.{rows_listed, names_of, FitsChange, OfferedBy, ListedBy, ChangedBy, AsidesBy, ReadBy, WrittenBy, SyncedBy, RenamedBy, RemovedBy, SettledBy, StartedBy, PolledBy, AbandonedBy, runs_on};
 
 use crate::outside::Outside;
 use host_model::HostChange;
 use lease_file::Got;
 use net_types::{Failed, IfIndex};
 use std::alloc::Global;
-use world::{Begin, DeviceAnswer, Hooks, Host, HostRow, Link, NoMemory, Store, Wake};
+use world::{
+    Begin, DeviceAnswer, HookJob, Hooks, Host, HostRow, Link, NoMemory, Poll, Store, Wake,
+};
 
 /// The devices that a life runs over.
 #[derive(Drop)]
@@ -168,13 +171,51 @@ fn settle_in<S: Store>(store: &mut S) -> Result<bool, NoMemory>
     }
 }
 
+#[tactic(auto, using(crate::proofs::Answers::started_by, crate::proofs::Answers::unstarted_by, crate::proofs::Answers::unasked_start))]
+fn start_of<K: Hooks>(hooks: &mut K, job: &HookJob) -> Result<bool, NoMemory>
+    requires { K.running hooks.old ≡ false }
+    ensures started { IfOk result (λ done. StartedBy (job_of job.now) done (K.failing hooks.old) (K.told hooks.old) (K.told hooks.new)) }
+    ensures runs { IfOk result (λ done. K.running hooks.new ≡ done) }
+    ensures failing { K.failing hooks.new ≡ K.failing hooks.old }
+    ensures memory { IfErr result (λ _. (K.told hooks.new ≡ K.told hooks.old) × ((K.faults hooks.new ≡ K.faults hooks.old) × (K.running hooks.new ≡ K.running hooks.old))) }
+{
+    match hooks.start(job) {
+        Ok(()) => Ok(true),
+        Err(DeviceAnswer::Failed) => Ok(false),
+        Err(DeviceAnswer::NoMemory) => Err(NoMemory),
+    }
+}
+
+#[tactic(auto, using(crate::proofs::Answers::polled_by))]
+fn poll_of<K: Hooks>(hooks: &mut K) -> Option<Poll>
+    requires { K.running hooks.old ≡ true }
+    ensures polled { PolledBy result (K.failing hooks.old) (K.told hooks.old) (K.told hooks.new) }
+    ensures runs { K.running hooks.new ≡ runs_on result }
+    ensures failing { K.failing hooks.new ≡ K.failing hooks.old }
+{
+    match hooks.poll() {
+        Ok(poll) => Some(poll),
+        Err(Failed) => None,
+    }
+}
+
+#[tactic(auto, using(crate::proofs::Answers::abandoned_by))]
+fn abandon_of<K: Hooks>(hooks: &mut K)
+    requires { K.running hooks.old ≡ true }
+    ensures abandoned { AbandonedBy (K.failing hooks.old) (K.told hooks.old) (K.told hooks.new) }
+    ensures runs { K.running hooks.new ≡ false }
+    ensures failing { K.failing hooks.new ≡ K.failing hooks.old }
+{
+    hooks.abandon();
+}
+
 impl<L: Link, S: Store, H: Host, K: Hooks> Outside for Devices<L, S, H, K> {
     ghost seen = { λ d. record {
       link = record { told = L.told d.link; failing = L.failing_sends d.link; faults = L.send_faults d.link };
       host = record { told = H.told d.host; failing = H.failing d.host; faults = H.faults d.host };
       store = record { told = S.told d.store; failing = S.failing d.store; faults = S.faults d.store };
       hooks = record { told = K.told d.hooks; failing = K.failing d.hooks; faults = K.faults d.hooks };
-      waiting = record { begins = L.begins d.link; faults = L.faults d.link; failing = L.failing_waits d.link };
+      waiting = record { begins = L.begins d.link; faults = L.faults d.link; failing = L.failing_waits d.link; child = K.running d.hooks };
     } };
 
     fn begin(&mut self) -> Result<Begin, Failed> {
@@ -233,5 +274,20 @@ impl<L: Link, S: Store, H: Host, K: Hooks> Outside for Devices<L, S, H, K> {
     #[tactic(auto, using(crate::proofs::Ones::one_settle, crate::proofs::Ones::store_stays))]
     fn settle(&mut self) -> Result<bool, NoMemory> {
         settle_in(&mut self.store)
+    }
+
+    #[tactic(auto, using(crate::proofs::Ones::one_start, crate::proofs::Ones::hooks_stay))]
+    fn start(&mut self, job: &HookJob) -> Result<bool, NoMemory> {
+        start_of(&mut self.hooks, job)
+    }
+
+    #[tactic(auto, using(crate::proofs::Ones::one_poll))]
+    fn poll(&mut self, _number: u64) -> Option<Poll> {
+        poll_of(&mut self.hooks)
+    }
+
+    #[tactic(auto, using(crate::proofs::Ones::one_abandon))]
+    fn abandon(&mut self, _number: u64) {
+        abandon_of(&mut self.hooks);
     }
 }

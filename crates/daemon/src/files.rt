@@ -6,15 +6,12 @@ ghost use Rattle.lease_file.specs.FileReads.{got_reading};
 ghost use Rattle.settings.specs.Fitting.{AreManaged, FitsManaged};
 ghost use Rattle.client_model.specs.Fitting.{AreBeginnings, FitsBeginning};
 ghost use Rattle.iface_core.specs.Beginnings.{beginning_of};
-ghost use Rattle.device_calls.specs.Calls.{Read};
-ghost use Rattle.device_calls.specs.Programs.{Then, Done};
 ghost use Rattle.device_calls.specs.Does.{Does};
 ghost use Rattle.turn_model.specs.KeptFiles as model;
 ghost use Rattle.turn_model.specs.Loading as loading;
 ghost use Rattle.turn_model.specs.Loading.{known_by, file_with, reading_if};
-ghost use Rattle.turn_model.specs.Opening.{resolver_file};
 ghost use Rattle.daemon.specs.Files.{known_of, keeps_of};
-ghost use Rattle.daemon.specs.Loading.{LoadsOne, LoadsLeases, LoadsAll};
+ghost use Rattle.daemon.specs.Loading.{LoadsOne, LoadsLeases, LoadsOwn, LoadsAll};
 
 use crate::duids::{duid_copied, host_duid, some_need_duid};
 use crate::keeping::{Keeps, KeptFile, Known};
@@ -194,7 +191,7 @@ fn load_with<W: Outside>(
 ) -> Result<Found, NoMemory>
     requires managed { AreManaged managed.now }
     requires first { slice_get managed.now 0 ≡ Some first.now }
-    ensures loads { IfOk result (λ found. LoadsAll managed.now (map beginning_of found.beginnings.items) found.files.items (W.seen outside.old) (W.seen outside.new) text.old.items text.new.items) }
+    ensures loads { IfOk result (λ found. LoadsOwn managed.now (map beginning_of found.beginnings.items) found.files.items (W.seen outside.old) (W.seen outside.new) text.old.items text.new.items) }
     ensures fit { IfOk result (λ found. AreBeginnings (map beginning_of found.beginnings.items)) }
     ensures waiting { (W.seen outside.new).waiting ≡ (W.seen outside.old).waiting }
 {
@@ -205,15 +202,15 @@ fn load_with<W: Outside>(
     load_leases(alloc, outside, managed, &duid, files, text)
 }
 
-/// Reads the files that a life keeps. Where no interface is managed there are none.
-pub fn load_all<W: Outside>(
+/// The same; where no interface is managed there are none.
+fn load_own<W: Outside>(
     alloc: Global,
     outside: &mut W,
     managed: &[Managed],
     text: &mut Vec<u8>,
 ) -> Result<Found, NoMemory>
     requires { AreManaged managed.now }
-    ensures loads { IfOk result (λ found. LoadsAll managed.now (map beginning_of found.beginnings.items) found.files.items (W.seen outside.old) (W.seen outside.new) text.old.items text.new.items) }
+    ensures loads { IfOk result (λ found. LoadsOwn managed.now (map beginning_of found.beginnings.items) found.files.items (W.seen outside.old) (W.seen outside.new) text.old.items text.new.items) }
     ensures fit { IfOk result (λ found. AreBeginnings (map beginning_of found.beginnings.items)) }
     ensures waiting { (W.seen outside.new).waiting ≡ (W.seen outside.old).waiting }
 {
@@ -226,14 +223,29 @@ pub fn load_all<W: Outside>(
     }
 }
 
-/// Reads the file of the resolver.
-pub fn read_resolver<W: Outside>(
+/// The file of the resolver.
+fn resolver_kept(alloc: Global, got: Got) -> Result<Option<KeptFile>, NoMemory>
+    ensures { IfOk result (λ file. option_to_list file ≡ file_with model.Resolver loading.resolver_file (Some (got_reading got))) }
+{
+    let name = String::from_str(alloc, RESOLVER_FILE)?;
+    Ok(file_with(Keeps::Resolver, name, Some(got)))
+}
+
+/// Reads the files that a life keeps. That of the resolver is the last.
+pub fn load_all<W: Outside>(
     alloc: Global,
     outside: &mut W,
+    managed: &[Managed],
     text: &mut Vec<u8>,
-) -> Result<Got, NoMemory>
-    ensures does { IfOk result (λ got. Does (Then (Read resolver_file) Done) (got_reading got) (W.seen outside.old) (W.seen outside.new) text.old.items text.new.items) }
+) -> Result<Found, NoMemory>
+    requires { AreManaged managed.now }
+    ensures loads { IfOk result (λ found. LoadsAll managed.now (map beginning_of found.beginnings.items) found.files.items (W.seen outside.old) (W.seen outside.new) text.old.items text.new.items) }
+    ensures fit { IfOk result (λ found. AreBeginnings (map beginning_of found.beginnings.items)) }
     ensures waiting { (W.seen outside.new).waiting ≡ (W.seen outside.old).waiting }
 {
-    read(alloc, outside, RESOLVER_FILE, text)
+    let mut found = load_own(alloc, outside, managed, text)?;
+    let got = read(alloc, outside, RESOLVER_FILE, text)?;
+    let file = resolver_kept(alloc, got)?;
+    push_file(&mut found.files, file)?;
+    Ok(found)
 }

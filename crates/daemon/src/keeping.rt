@@ -7,15 +7,16 @@ ghost use Rattle.lease_text.specs.Leases.{lease_content};
 ghost use Rattle.lease_text.specs.LeaseLines.{lease4_text};
 ghost use Rattle.lease6_text.specs.Leases.{lease6_content};
 ghost use Rattle.lease6_text.specs.LeaseLines.{lease6_text};
+ghost use Rattle.client_model.specs.ResolverParts.{resolver_wanted};
 ghost use Rattle.client_core.specs.Touched.{is_touched};
 ghost use Rattle.device_calls.specs.Does.{Does};
 ghost use Rattle.turn_model.specs.KeptFiles.{wanted_in, same_content, is_left, is_settled, bringing, known_after, keeping, is_unknown};
 ghost use Rattle.daemon.specs.Files.{content_of, known_of, keeps_of};
-ghost use Rattle.daemon.specs.Keeping.{are_all, is_among, may_differ, IsKept, AreKept, AreKeptBut, KeepsFile};
+ghost use Rattle.daemon.specs.Keeping.{are_all, are_some, is_among, may_differ, IsKept, AreKept, AreKeptBut, KeepsFile};
 
 use crate::outside::Outside;
 use crate::stores::{remove, rename, settle, sync, write};
-use client_core::{Core, kept4, kept6};
+use client_core::{Core, kept4, kept6, resolver_wanted};
 use duid_text::print_duid;
 use lease_text::{Lease4, print4};
 use lease6_text::{Lease6, print6};
@@ -36,7 +37,7 @@ pub enum Known {
     Unread,
 }
 
-/// The interfaces whose kept leases may have changed.
+/// The interfaces whose kept leases, or what they tell the resolver, may have changed.
 #[derive(Clone, Copy)]
 pub enum Touched<'a> {
     All,
@@ -61,6 +62,16 @@ impl Touched<'_> {
         }
     }
 
+    /// Whether some interface is one of them.
+    fn are_some(self) -> bool
+        ensures { result ≡ are_some self.entry }
+    {
+        match self {
+            Touched::All => true,
+            Touched::These(these) => !these.is_empty(),
+        }
+    }
+
     /// Whether an interface is one of them.
     fn has(self, iface: IfIndex) -> bool
         ensures { result ≡ is_among iface.number self.entry }
@@ -81,6 +92,8 @@ pub enum Keeps {
     Lease4(IfIndex),
     /// The DHCPv6 lease of an interface.
     Lease6(IfIndex),
+    /// What the resolver is told.
+    Resolver,
 }
 
 impl Keeps {
@@ -92,6 +105,7 @@ impl Keeps {
             Keeps::Duid(_) => touched.are_all(),
             Keeps::Lease4(iface) => touched.has(*iface),
             Keeps::Lease6(iface) => touched.has(*iface),
+            Keeps::Resolver => touched.are_some(),
         }
     }
 }
@@ -128,7 +142,8 @@ fn same_content(held: &Option<Vec<u8>>, wanted: &Option<Vec<u8>>) -> bool
     }
 }
 
-/// Whether a file that couldn't be read is left alone: that of a lease until one is kept, that of the DUID for good.
+/// Whether a file that couldn't be read is left alone: that of a lease until one is kept, that of the DUID for good. That of
+/// the resolver isn't.
 fn is_left(keeps: &Keeps, wanted: &Option<Vec<u8>>) -> bool
     ensures { result ≡ is_left (keeps_of keeps.now) (content_of wanted.now) }
 {
@@ -136,6 +151,7 @@ fn is_left(keeps: &Keeps, wanted: &Option<Vec<u8>>) -> bool
         Keeps::Duid(_) => true,
         Keeps::Lease4(_) => wanted.is_none(),
         Keeps::Lease6(_) => wanted.is_none(),
+        Keeps::Resolver => false,
     }
 }
 
@@ -181,6 +197,16 @@ fn text6(alloc: Global, lease: Option<&Lease6>) -> Result<Option<Vec<u8>>, NoMem
     }
 }
 
+/// The text that the resolver is told; where it is told nothing there is to be no file.
+fn resolver_bytes(alloc: Global, core: &Core) -> Result<Option<Vec<u8>>, NoMemory>
+    ensures { IfOk result (λ wanted. content_of wanted ≡ resolver_wanted core.now.ifaces) }
+{
+    match resolver_wanted(alloc, core)? {
+        None => Ok(None),
+        Some(text) => Ok(Some(text.into_bytes())),
+    }
+}
+
 /// What a file that keeps this is to hold.
 fn wanted_in(alloc: Global, core: &Core, keeps: &Keeps) -> Result<Option<Vec<u8>>, NoMemory>
     ensures { IfOk result (λ wanted. content_of wanted ≡ wanted_in core.now.ifaces (keeps_of keeps.now)) }
@@ -189,6 +215,7 @@ fn wanted_in(alloc: Global, core: &Core, keeps: &Keeps) -> Result<Option<Vec<u8>
         Keeps::Duid(duid) => Ok(Some(print_duid(alloc, duid)?)),
         Keeps::Lease4(iface) => text4(alloc, kept4(core, *iface)),
         Keeps::Lease6(iface) => text6(alloc, kept6(core, *iface)),
+        Keeps::Resolver => resolver_bytes(alloc, core),
     }
 }
 

@@ -1,11 +1,13 @@
 //! One life over the devices: its opening, its turns and its end.
 #![tactic(auto)]
 
+mod acts;
 mod changes;
 mod closing;
 mod devices;
 mod duids;
 mod files;
+mod hooks;
 mod hosts;
 mod keeping;
 mod leases4;

@@ -4,8 +4,10 @@ ghost use Rattle.machine.specs.Moment.{moment_of};
 ghost use Rattle.turn_model.specs.Turns.{stop_after, retry_at, end_at, is_past, until, is_over};
 ghost use Rattle.daemon.specs.Lives.{life_of, IsBelowEnd, IsTimely, retry_unless};
 
+use crate::hooks::hooks_due;
 use crate::keeping::{KeptFile, any_unknown};
 use client_core::{Core, core_due, earlier_of};
+use hook_child::Supervisor;
 use std::collections::BTreeSet;
 use world::{Event, HostRow};
 
@@ -26,6 +28,8 @@ pub struct Life {
     pub known: Option<BTreeSet<HostRow>>,
     /// The files that it keeps.
     pub files: Vec<KeptFile>,
+    /// The jobs of hooks that wait, and the child that runs.
+    pub hooks: Supervisor,
     /// The moment of the last turn, in milliseconds since 1970.
     pub moment: u64,
     /// The moment of the stop, once it came.
@@ -93,8 +97,9 @@ impl Life {
     {
         let files = retry(!any_unknown(&self.files), self.moment);
         let files_or_end = earlier_of(files, last_moment(self.stop));
+        let hooks_or_later = earlier_of(hooks_due(&self.hooks, self.moment), files_or_end);
         let table = retry(self.known.is_some(), self.moment);
-        earlier_of(core_due(&self.core), earlier_of(table, files_or_end))
+        earlier_of(core_due(&self.core), earlier_of(table, hooks_or_later))
     }
 
     /// Whether the life is over.

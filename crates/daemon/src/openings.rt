@@ -9,16 +9,17 @@ ghost use Rattle.turn_model.specs.Turns.{is_over};
 ghost use Rattle.turn_model.specs.Opening.{clearing_listed, clearing};
 ghost use Rattle.daemon.specs.Lives.{life_of, IsOrderly};
 ghost use Rattle.daemon.specs.Serving.{MakesOpening};
+ghost use Rattle.daemon.specs.Waits.{KnowsChild, OnlyChild};
 
-use crate::files::{load_all, read_resolver};
-use crate::hosts::host_turn;
-use crate::keeping::{Touched, keep_all};
+use crate::acts::{Outlook, Step, act};
+use crate::files::load_all;
+use crate::keeping::Touched;
 use crate::lives::{Life, cut};
 use crate::outside::Outside;
 use crate::saying::say;
-use crate::sends::offer_all;
 use crate::stores::{list, remove, settle};
-use client_core::{core_open, rows};
+use client_core::core_open;
+use hook_child::supervisor_new;
 use net_types::IfSpec;
 use settings::Managed;
 use std::alloc::Global;
@@ -66,8 +67,10 @@ pub fn open<W: Outside>(
     outside: &mut W,
     text: &mut Vec<u8>,
 ) -> Result<Life, NoMemory>
-    requires { AreManaged managed.now }
-    ensures waiting { (W.seen outside.new).waiting ≡ (W.seen outside.old).waiting }
+    requires managed { AreManaged managed.now }
+    requires child { (W.seen outside.old).waiting.child ≡ false }
+    ensures waiting { OnlyChild (W.seen outside.old).waiting (W.seen outside.new).waiting }
+    ensures child { IfOk result (λ life. KnowsChild life.hooks (W.seen outside.new)) }
     ensures orderly { IfOk result IsOrderly }
     ensures going { IfOk result (λ life. is_over (life_of life) ≡ false) }
     ensures made { IfOk result (λ life. MakesOpening managed.now specs.now begin (life_of life) (W.seen outside.old) (W.seen outside.new) text.old.items text.new.items) }
@@ -75,19 +78,20 @@ pub fn open<W: Outside>(
     say(&TranscriptLine::Start(begin), text)?;
     clear(alloc, outside, text)?;
     let found = load_all(alloc, outside, managed, text)?;
-    let _resolver = read_resolver(alloc, outside, text)?;
-    let (core, outs) = core_open(alloc, found.beginnings, specs, begin)?;
-    let unsent = offer_all(outside, &outs.sends, 0, text)?;
-    let known = host_turn(alloc, outside, managed, None, rows(&core), text)?;
-    let files = keep_all(alloc, &core, Touched::All, found.files, outside, text)?;
-    let life = Life {
-        core,
-        known,
-        files,
+    let opened = core_open(alloc, found.beginnings, specs, begin)?;
+    let step = Step {
+        core: opened.core,
+        outs: opened.outs,
+        jobs: opened.jobs,
+    };
+    let outlook = Outlook {
+        known: None,
+        files: found.files,
+        hooks: supervisor_new(alloc)?,
         moment: cut(begin.at),
         stop: None,
-        unsent,
     };
+    let life = act(alloc, managed, outlook, step, Touched::All, outside, text)?;
     say(&TranscriptLine::Until(life.until()), text)?;
     Ok(life)
 }

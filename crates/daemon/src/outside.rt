@@ -1,21 +1,23 @@
-ghost use Rattle.std.specs.Prelude.{◌≡◌, ◌≤◌, IfOk, IfErr, IfSome, IsOk, length};
+ghost use Rattle.std.specs.Prelude.{◌≡◌, ◌≤◌, true, false, IfOk, IfErr, IfSome, IsOk, length};
 ghost use Rattle.std.specs.List.{AllByRecursion};
 ghost use Rattle.std.specs.String.{string_bytes};
 ghost use Rattle.world.specs.Causes.{HasCause, HasDeviceCause, Foretold};
 ghost use Rattle.world.specs.FileNames.{IsFileName};
 ghost use Rattle.world.specs.LinkCalls.{frame_len, wait_number};
+ghost use Rattle.world.specs.HookCalls.{job_of};
 ghost use Rattle.lease_file.specs.FileReads.{got_reading};
-ghost use Rattle.device_calls.specs.Calls.{Offer, ListRows, Change, ListAsides, Read, WriteAside, SyncAside, RenameAside, RemoveFile, Settle};
+ghost use Rattle.device_calls.specs.Calls.{Offer, ListRows, Change, ListAsides, Read, WriteAside, SyncAside, RenameAside, RemoveFile, Settle, Start, Abandon};
+ghost use Rattle.device_calls.specs.Calls as asks;
 ghost use Rattle.device_calls.specs.Worlds.{Seen};
 ghost use Rattle.device_calls.specs.Does.{One};
-ghost use Rattle.daemon.specs.Answered.{rows_listed, names_of, FitsChange};
+ghost use Rattle.daemon.specs.Answered.{rows_listed, names_of, FitsChange, runs_on};
 ghost use Rattle.daemon.specs.Waits.{WaitsThere, BeginsThere};
 
 use host_model::HostChange;
 use lease_file::Got;
 use net_types::{Failed, IfIndex};
 use std::alloc::Global;
-use world::{Begin, DeviceAnswer, HostRow, NoMemory, Wake};
+use world::{Begin, DeviceAnswer, HookJob, HostRow, NoMemory, Poll, Wake};
 
 /// All that a life runs over: each call asks one device once. For want of memory alone nothing changes, nor do the counts of faults.
 pub trait Outside {
@@ -102,4 +104,23 @@ pub trait Outside {
         ensures one { IfOk result (λ done. One Settle done (seen self.old) (seen self.new)) }
         ensures waiting { (seen self.new).waiting ≡ (seen self.old).waiting }
         ensures memory { IfErr result (λ _. seen self.new ≡ seen self.old) };
+
+    /// Starts a hook's job where no child runs, and says whether that was done. Then its child runs.
+    fn start(&mut self, job: &HookJob) -> Result<bool, NoMemory>
+        requires { (seen self.old).waiting.child ≡ false }
+        ensures one { IfOk result (λ done. One (Start (job_of job.now)) done (seen self.old) (seen self.new)) }
+        ensures child { IfOk result (λ done. (seen self.new).waiting ≡ record (seen self.old).waiting { child = done }) }
+        ensures memory { IfErr result (λ _. seen self.new ≡ seen self.old) };
+
+    /// Asks whether the child still runs, which is that of the job of a number; `None` where that failed.
+    fn poll(&mut self, number: u64) -> Option<Poll>
+        requires { (seen self.old).waiting.child ≡ true }
+        ensures one { One (asks.Poll number) result (seen self.old) (seen self.new) }
+        ensures child { (seen self.new).waiting ≡ record (seen self.old).waiting { child = runs_on result } };
+
+    /// Forgets the child, which is that of the job of a number.
+    fn abandon(&mut self, number: u64)
+        requires { (seen self.old).waiting.child ≡ true }
+        ensures one { One (Abandon number) tt (seen self.old) (seen self.new) }
+        ensures child { (seen self.new).waiting ≡ record (seen self.old).waiting { child = false } };
 }

@@ -3,7 +3,7 @@ ghost use Rattle.settings.specs.Fitting.{AreManaged};
 ghost use Rattle.turn_model.specs.Turns.{is_over};
 ghost use Rattle.daemon.specs.declared.serving.ServeEnd.TheVariants.{NoMemory as no_memory};
 ghost use Rattle.daemon.specs.Lives.{life_of, IsOrderly};
-ghost use Rattle.daemon.specs.Waits.{BeginsThere};
+ghost use Rattle.daemon.specs.Waits.{BeginsThere, KnowsChild};
 ghost use Rattle.daemon.specs.Serving.{HasServeCause, HasLifeCause, HasEndCause, AreManyTurns, Ends};
 ghost use Rattle.daemon.specs.Served.{Served};
 ghost use Rattle.daemon.specs.Cuts.{BreaksOff, BeginFails, Leaves};
@@ -59,7 +59,9 @@ fn take_turns<O: Sink, W: Outside>(
     text: &mut Vec<u8>,
 ) -> Result<Life, ServeEnd>
     requires orderly { IsOrderly life }
+    requires child { KnowsChild life.hooks (W.seen outside.old) }
     requires going { is_over (life_of life) ≡ false }
+    ensures child { IfOk result (λ last. KnowsChild last.hooks (W.seen outside.new)) }
     ensures ok { IfOk result (λ last. Ends managed.now (life_of life) (W.seen outside.old) (O.written out.old) (life_of last) (W.seen outside.new) (O.written out.new)) }
     ensures cut { IfErr result (λ end. BreaksOff end managed.now (life_of life) (W.seen outside.old) (W.seen outside.new) (O.written out.old) (O.written out.new)) }
     ensures later { IfOk result (λ _. (O.faults out.old ≤ O.faults out.new) × ((W.seen outside.old).waiting.faults ≤ (W.seen outside.new).waiting.faults)) }
@@ -81,6 +83,7 @@ fn take_turns<O: Sink, W: Outside>(
 }
 
 fn begin<W: Outside>(outside: &mut W) -> Result<Begin, ServeEnd>
+    ensures child { IfOk result (λ _. (W.seen outside.new).waiting.child ≡ (W.seen outside.old).waiting.child) }
     ensures ok { IfOk result (λ begin. ((W.seen outside.old).waiting.faults ≤ (W.seen outside.new).waiting.faults) × BeginsThere (W.seen outside.old) (W.seen outside.new) (Ok begin)) }
     ensures failed { IfErr result (λ end. BeginFails end (W.seen outside.old) (W.seen outside.new)) }
     ensures cause { IfErr result (λ end. HasServeCause end 0 0 (W.seen outside.old).waiting.faults (W.seen outside.new).waiting.faults) }
@@ -101,7 +104,8 @@ fn live_on<O: Sink, W: Outside>(
     out: &mut O,
     turns: u64,
 ) -> Result<(), ServeEnd>
-    requires { AreManaged managed.now }
+    requires managed { AreManaged managed.now }
+    requires child { (W.seen outside.old).waiting.child ≡ false }
     ensures ok { IfOk result (λ _. Served managed.now specs.now (W.seen outside.old) (W.seen outside.new) (O.written out.old) (O.written out.new)) }
     ensures cut { IfErr result (λ end. Leaves end managed.now specs.now (W.seen outside.old) (W.seen outside.new) (O.written out.old) (O.written out.new)) }
     ensures later { IfOk result (λ _. (O.faults out.old ≤ O.faults out.new) × ((W.seen outside.old).waiting.faults ≤ (W.seen outside.new).waiting.faults)) }
@@ -121,7 +125,7 @@ fn live_on<O: Sink, W: Outside>(
 }
 
 /// Runs one life over the devices, from its start line to its end line, with at most so many wakes.
-/// `specs` are all interfaces of the host, managed or not.
+/// `specs` are all interfaces of the host, managed or not. No hook's child may run yet.
 pub fn serve<O: Sink, W: Outside>(
     alloc: Global,
     managed: &[Managed],
@@ -130,7 +134,8 @@ pub fn serve<O: Sink, W: Outside>(
     out: &mut O,
     turns: u64,
 ) -> ServeEnd
-    requires { AreManaged managed.now }
+    requires managed { AreManaged managed.now }
+    requires child { (W.seen live.old).waiting.child ≡ false }
     ensures served { result ≡ ServeEnd.End → Served managed.now specs.now (W.seen live.old) (W.seen live.new) (O.written out.old) (O.written out.new) }
     ensures cut { Leaves result managed.now specs.now (W.seen live.old) (W.seen live.new) (O.written out.old) (O.written out.new) }
     ensures cause { HasEndCause result (O.faults out.old) (O.faults out.new) (W.seen live.old).waiting.faults (W.seen live.new).waiting.faults }

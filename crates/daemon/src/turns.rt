@@ -1,17 +1,20 @@
-ghost use Rattle.std.specs.Prelude.{◌≡◌, false, IfOk, length};
+ghost use Rattle.std.specs.Prelude.{◌≡◌, false, [], ◌∷◌, IfOk, OnOk, length};
 ghost use Rattle.world.specs.LinkCalls.{frame_len};
+ghost use Rattle.script_model.specs.Lines as lines;
 ghost use Rattle.iface_core.specs.Inputs.{event_of, bytes_of};
+ghost use Rattle.device_calls.specs.Printing.{Prints};
 ghost use Rattle.turn_model.specs.Turns.{is_end};
 ghost use Rattle.daemon.specs.Lives.{life_of, IsOrderly};
 ghost use Rattle.daemon.specs.Serving.{MakesTurn};
+ghost use Rattle.daemon.specs.Waits.{KnowsChild, OnlyChild};
 
-use crate::hosts::host_turn;
-use crate::keeping::{Touched, keep_all};
+use crate::acts::{Outlook, Step, act};
+use crate::hooks::poll_child;
+use crate::keeping::Touched;
 use crate::lives::{Life, raised, stop_moment};
 use crate::outside::Outside;
 use crate::saying::say;
-use crate::sends::offer_all;
-use client_core::{Turn, TurnInput, rows, step};
+use client_core::{Turn, TurnInput, step};
 use settings::Managed;
 use std::alloc::Global;
 use transcript_text::TranscriptLine;
@@ -36,7 +39,20 @@ fn input(event: Event, bytes: &[u8]) -> TurnInput<'_>
     }
 }
 
-/// Handles a wake: the client's step, its frames, the host calls, then the files. Appends the turn's lines to `text`.
+fn say_turn(moment: u64, wake: Wake, bytes: &[u8], text: &mut Vec<u8>) -> Result<(), NoMemory>
+    ensures { OnOk result (Prints text.old.items text.new.items (lines.Turn moment wake.salt wake.event bytes.now ∷ [])) }
+{
+    let line = TranscriptLine::Turn {
+        at: moment,
+        salt: wake.salt,
+        event: wake.event,
+        bytes,
+    };
+    say(&line, text)
+}
+
+/// Handles a wake: the hook's child is polled, then the client makes its step, then what that asks is done.
+/// Appends the turn's lines to `text`.
 pub fn turn<W: Outside>(
     alloc: Global,
     managed: &[Managed],
@@ -47,9 +63,11 @@ pub fn turn<W: Outside>(
     text: &mut Vec<u8>,
 ) -> Result<Life, NoMemory>
     requires orderly { IsOrderly life }
+    requires child { KnowsChild life.hooks (W.seen outside.old) }
     requires more { is_end wake.event ≡ false }
     requires whole { frame_len wake.event ≡ length bytes.now }
-    ensures waiting { (W.seen outside.new).waiting ≡ (W.seen outside.old).waiting }
+    ensures waiting { OnlyChild (W.seen outside.old).waiting (W.seen outside.new).waiting }
+    ensures child { IfOk result (λ next. KnowsChild next.hooks (W.seen outside.new)) }
     ensures orderly { IfOk result IsOrderly }
     ensures made { IfOk result (λ next. MakesTurn managed.now (life_of life) wake bytes.now (life_of next) (W.seen outside.old) (W.seen outside.new) text.old.items text.new.items) }
 {
@@ -57,6 +75,7 @@ pub fn turn<W: Outside>(
         core,
         known,
         files,
+        mut hooks,
         moment,
         stop,
         unsent,
@@ -68,26 +87,23 @@ pub fn turn<W: Outside>(
         unsent,
         input: input(wake.event, bytes),
     };
-    let line = TranscriptLine::Turn {
-        at: moment,
-        salt: wake.salt,
-        event: wake.event,
-        bytes,
-    };
-    say(&line, text)?;
+    say_turn(moment, wake, bytes, text)?;
+    poll_child(outside, &mut hooks, moment, text)?;
     let stepped = step(core, turn)?;
-    let unsent = offer_all(outside, &stepped.outs.sends, 0, text)?;
-    let known = host_turn(alloc, outside, managed, known, rows(&stepped.core), text)?;
-    let touched = Touched::These(&stepped.touched);
-    let files = keep_all(alloc, &stepped.core, touched, files, outside, text)?;
-    let life = Life {
+    let step = Step {
         core: stepped.core,
+        outs: stepped.outs,
+        jobs: stepped.jobs,
+    };
+    let outlook = Outlook {
         known,
         files,
+        hooks,
         moment,
         stop: stop_moment(stop, wake.event, moment),
-        unsent,
     };
+    let touched = Touched::These(&stepped.touched);
+    let life = act(alloc, managed, outlook, step, touched, outside, text)?;
     say(&TranscriptLine::Until(life.until()), text)?;
     Ok(life)
 }

@@ -5,7 +5,7 @@ ghost use Rattle.daemon.specs.Lives.{life_of, IsOrderly};
 ghost use Rattle.daemon.specs.Serving.{HasServeCause};
 ghost use Rattle.daemon.specs.Streams.{WritesBytes, WritesSome};
 ghost use Rattle.daemon.specs.Waking.{IsOneTurn};
-ghost use Rattle.daemon.specs.Waits.{WaitsThere};
+ghost use Rattle.daemon.specs.Waits.{KnowsChild, WaitsThere};
 ghost use Rattle.daemon.specs.Cuts.{WaitFails, BreaksOff};
 
 use crate::lives::Life;
@@ -42,6 +42,7 @@ fn wait<W: Outside>(outside: &mut W, until: Option<u64>, buf: &mut [u8]) -> Resu
     ensures memory { result ≡ Err ServeEnd.NoMemory → (W.seen outside.new).waiting.faults ≡ (W.seen outside.old).waiting.faults }
     ensures foretold { (W.seen outside.old).waiting.failing ≡ Some [] → result ≢ Err ServeEnd.LinkFault }
     ensures failing { (W.seen outside.new).waiting.failing ≡ (W.seen outside.old).waiting.failing }
+    ensures child { IfOk result (λ _. (W.seen outside.new).waiting.child ≡ (W.seen outside.old).waiting.child) }
 {
     match outside.wait(until, buf) {
         Ok(wake) => Ok(wake),
@@ -109,6 +110,7 @@ pub fn one_turn<O: Sink, W: Outside>(
     text: &mut Vec<u8>,
 ) -> Result<Woken, ServeEnd>
     requires orderly { IsOrderly life }
+    requires child { KnowsChild life.hooks (W.seen outside.old) }
     requires going { is_over (life_of life) ≡ false }
     requires room { length buf.old ≡ 2048 }
     ensures ok { IfOk result (λ woken. IsOneTurn managed.now (life_of life) (W.seen outside.old) (O.written out.old) woken (W.seen outside.new) (O.written out.new)) }

@@ -1,5 +1,5 @@
 -- What was asked, one after another.
-use Rattle.std.proofs.Common.{ℕ, ◌≡◌, ◌+◌, ◌<◌, ◌≤◌, List, [], ◌∷◌, ◌++◌, Option, Some, None, refl, sym, ap, subst, ◌∙◌, append_assoc, append-nil}
+use Rattle.std.proofs.Common.{ℕ, ◌≡◌, List, [], ◌∷◌, ◌++◌, Option, Some, None, refl, sym, ap, subst, ◌∙◌, append_assoc, append-nil}
 use Rattle.std.specs.Prelude.{flat_map, IfSome, option_map}
 use Rattle.std.proofs.lemmas.List.Concat.{flat_map-append}
 use Rattle.device_calls.specs.Calls.{Ask, AnswerTo, Call, made, link_call, host_call, store_call, hook_call}

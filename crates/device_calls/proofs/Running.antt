@@ -1,6 +1,6 @@
 -- What a run makes, and what it leaves.
 use Rattle.std.proofs.Common.{◌≡◌, refl, ◌∙◌}
-use Rattle.device_calls.specs.Calls.{Ask, AnswerTo, made, Offer, ListRows, Change, ListAsides, Read, WriteAside, SyncAside, RenameAside, RemoveFile, Settle}
+use Rattle.device_calls.specs.Calls.{Ask, AnswerTo, Offer, ListRows, Change, ListAsides, Read, WriteAside, SyncAside, RenameAside, RemoveFile, Settle, Start, Poll, Abandon, Drop}
 use Rattle.device_calls.specs.Programs.{Asks, Done, Then, Makes}
 use Rattle.device_calls.specs.Worlds.{World, run, answer_to, world_with}
 use Rattle.device_calls.proofs.Programs.{makes_done, makes_then}
@@ -23,6 +23,10 @@ coming_stays (SyncAside name) done world = refl
 coming_stays (RenameAside name) done world = refl
 coming_stays (RemoveFile name) done world = refl
 coming_stays Settle done world = refl
+coming_stays (Start job) done world = refl
+coming_stays (Poll number) answer world = refl
+coming_stays (Abandon number) answer world = refl
+coming_stays (Drop job) answer world = refl
 
 pub run_coming : {A : Type 0} (asks : Asks A) (world : World) → (run asks world).world.link.told.coming ≡ world.link.told.coming
 run_coming (Done x) world = refl
@@ -39,6 +43,10 @@ host_failing_stays (SyncAside name) done world = refl
 host_failing_stays (RenameAside name) done world = refl
 host_failing_stays (RemoveFile name) done world = refl
 host_failing_stays Settle done world = refl
+host_failing_stays (Start job) done world = refl
+host_failing_stays (Poll number) answer world = refl
+host_failing_stays (Abandon number) answer world = refl
+host_failing_stays (Drop job) answer world = refl
 
 pub run_host_failing : {A : Type 0} (asks : Asks A) (world : World) → (run asks world).world.host.failing ≡ world.host.failing
 run_host_failing (Done x) world = refl
@@ -56,6 +64,10 @@ store_failing_stays (SyncAside name) done world = refl
 store_failing_stays (RenameAside name) done world = refl
 store_failing_stays (RemoveFile name) done world = refl
 store_failing_stays Settle done world = refl
+store_failing_stays (Start job) done world = refl
+store_failing_stays (Poll number) answer world = refl
+store_failing_stays (Abandon number) answer world = refl
+store_failing_stays (Drop job) answer world = refl
 
 pub run_store_failing : {A : Type 0} (asks : Asks A) (world : World) → (run asks world).world.store.failing ≡ world.store.failing
 run_store_failing (Done x) world = refl

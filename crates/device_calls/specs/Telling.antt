@@ -1,5 +1,5 @@
 -- What devices that tell their calls tell of those that were made.
-use Rattle.std.specs.Prelude.{ℕ, ◌≡◌, List, ◌++◌, flat_map, Option, Some, None, option_map}
+use Rattle.std.specs.Prelude.{◌≡◌, List, ◌++◌, flat_map, Option, Some, None, option_map}
 use Rattle.device_calls.specs.Calls.{Call, link_call, host_call, store_call, hook_call}
 use Rattle.device_calls.specs.Worlds.{Device, Seen}
 

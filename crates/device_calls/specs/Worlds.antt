@@ -3,15 +3,14 @@ use Rattle.std.specs.Prelude.{ℕ, ◌+◌, Bool, not, if◌then◌else◌, List
 use Rattle.world.specs.Causes.{has_number}
 use Rattle.world.specs.LinkCalls.{LinkTold, offered}
 use Rattle.world.specs.HostCalls.{HostTold, Listed, host_answered}
-use Rattle.world.specs.StoreCalls.{StoreTold, StoreCall, Reading, Unread, ListedAsides, ReadFile, WroteAside, SyncedAside, RenamedAside, RemovedFile, SettledFiles, fails_rename, reading_of, store_answered}
+use Rattle.world.specs.StoreCalls.{StoreTold, StoreCall, Unread, ListedAsides, ReadFile, WroteAside, SyncedAside, RenamedAside, RemovedFile, SettledFiles, fails_rename, reading_of, store_answered}
 use Rattle.world.specs.StoreFails.{StoreFails, fails_at}
 use Rattle.world.specs.FileLists.{StoreFile, asides, file_at, put_file, drop_file, rename_file}
 use Rattle.world.specs.FileNames.{aside_of}
-use Rattle.world.specs.HookCalls.{HooksTold}
-use Rattle.world.specs.declared.rows.HostRow.{HostRow}
+use Rattle.world.specs.HookCalls.{HooksTold, Started, Abandoned, start_number, next_answer, polled, hooks_answered}
 use Rattle.host_model.specs.declared.changes.HostChange.{HostChange}
 use Rattle.host_model.specs.HostTurn.{change_call, applied}
-use Rattle.device_calls.specs.Calls.{Call, Ask, Offer, ListRows, Change, ListAsides, Read, WriteAside, SyncAside, RenameAside, RemoveFile, Settle, AnswerTo, made}
+use Rattle.device_calls.specs.Calls.{Call, Ask, Offer, ListRows, Change, ListAsides, Read, WriteAside, SyncAside, RenameAside, RemoveFile, Settle, Start, Poll, Abandon, Drop, AnswerTo, made}
 use Rattle.device_calls.specs.Programs.{Asks, Done, Then}
 
 -- what a device tells, where it does, which of its calls fail, where that is told, and how many failed so far
@@ -20,11 +19,13 @@ pub record Device (T F : Type 0) : Type 0 where
   pub failing : Option F
   pub faults : ℕ
 
--- how often a life was to begin, how many calls of `begin` and `wait` failed, and which waits fail, where that is told
+-- how often a life was to begin, how many calls of `begin` and `wait` failed, which waits fail, where that is told, and whether a
+-- hook's child runs
 pub record Waiting : Type 0 where
   pub begins : ℕ
   pub faults : ℕ
   pub failing : Option (List ℕ)
+  pub child : Bool
 
 -- all devices; the link's own failing calls are its sends
 pub record Seen : Type 0 where
@@ -43,6 +44,7 @@ pub record World : Type 0 where
   pub link : Told LinkTold (List ℕ)
   pub host : Told HostTold (List ℕ)
   pub store : Told StoreTold StoreFails
+  pub hooks : Told HooksTold (List ℕ)
 
 abbrev pub told_from : {T F : Type 0} → Option T → Option F → Option (Told T F)
 told_from None failing = None
@@ -52,14 +54,15 @@ told_from (Some told) (Some failing) = Some (record { told = told; failing = fai
 abbrev pub told_of : {T F : Type 0} → Device T F → Option (Told T F)
 told_of device = told_from device.told device.failing
 
-abbrev pub world_from : Option (Told LinkTold (List ℕ)) → Option (Told HostTold (List ℕ)) → Option (Told StoreTold StoreFails) → Option World
-world_from None host store = None
-world_from (Some link) None store = None
-world_from (Some link) (Some host) None = None
-world_from (Some link) (Some host) (Some store) = Some (record { link = link; host = host; store = store })
+abbrev pub world_from : Option (Told LinkTold (List ℕ)) → Option (Told HostTold (List ℕ)) → Option (Told StoreTold StoreFails) → Option (Told HooksTold (List ℕ)) → Option World
+world_from (Some link) (Some host) (Some store) (Some hooks) = Some (record { link = link; host = host; store = store; hooks = hooks })
+world_from None host store hooks = None
+world_from (Some link) None store hooks = None
+world_from (Some link) (Some host) None hooks = None
+world_from (Some link) (Some host) (Some store) None = None
 
 abbrev pub world_of : Seen → Option World
-world_of seen = world_from (told_of seen.link) (told_of seen.host) (told_of seen.store)
+world_of seen = world_from (told_of seen.link) (told_of seen.host) (told_of seen.store) (told_of seen.hooks)
 
 -- ---- one question
 
@@ -76,6 +79,9 @@ fails_store store = fails_at store.failing (length store.told.calls + 1)
 abbrev pub fails_renaming : List ℕ → Told StoreTold StoreFails → Bool
 fails_renaming name store = fails_rename name store.told store.failing
 
+abbrev pub fails_start : Told HooksTold (List ℕ) → Bool
+fails_start hooks = has_number hooks.failing (start_number (Some hooks.told))
+
 abbrev pub answer_to : (ask : Ask) → World → AnswerTo ask
 answer_to (Offer iface frame) world = not (fails_send world.link)
 answer_to ListRows world = if fails_host world.host then None else Some world.host.told.rows
@@ -87,6 +93,10 @@ answer_to (SyncAside name) world = not (fails_store world.store)
 answer_to (RenameAside name) world = not (fails_renaming name world.store)
 answer_to (RemoveFile name) world = not (fails_store world.store)
 answer_to Settle world = not (fails_store world.store)
+answer_to (Start job) world = not (fails_start world.hooks)
+answer_to (Poll number) world = next_answer world.hooks.told.polls
+answer_to (Abandon number) world = tt
+answer_to (Drop job) world = tt
 
 -- a device after a call that was answered so
 abbrev pub host_with : HostChange → Bool → HostTold → HostTold
@@ -117,6 +127,9 @@ with_host told world = record world { host = record world.host { told = told } }
 abbrev pub with_store : StoreTold → World → World
 with_store told world = record world { store = record world.store { told = told } }
 
+abbrev pub with_hooks : HooksTold → World → World
+with_hooks told world = record world { hooks = record world.hooks { told = told } }
+
 abbrev pub world_with : (ask : Ask) → AnswerTo ask → World → World
 world_with (Offer iface frame) taken world = with_link (offered iface frame taken world.link.told) world
 world_with ListRows rows world = with_host (host_answered (Listed rows) world.host.told.rows world.host.told) world
@@ -128,6 +141,10 @@ world_with (SyncAside name) done world = with_store (store_synced name done worl
 world_with (RenameAside name) done world = with_store (store_renamed name done world.store.told) world
 world_with (RemoveFile name) done world = with_store (store_without name done world.store.told) world
 world_with Settle done world = with_store (store_answered (SettledFiles done) world.store.told.files world.store.told) world
+world_with (Start job) done world = with_hooks (hooks_answered (Started job done) world.hooks.told) world
+world_with (Poll number) answer world = with_hooks (polled world.hooks.told) world
+world_with (Abandon number) answer world = with_hooks (hooks_answered Abandoned world.hooks.told) world
+world_with (Drop job) answer world = world
 
 -- ---- one after another
 

@@ -74,5 +74,5 @@ module _ (bytes : List ℕ) (script : ScriptLines) (conf : Configuration) (is : 
         (files_left_in_order managed script.ifaces (world_in failing between life) order)) lives,
   )
 
-  pub keeps_rightly : AllKeepRightly managed script.ifaces (failing_in script.fails) (at_first script.rows script.files) script.lives
-  keeps_rightly = keeps_on (failing_in script.fails) (at_first script.rows script.files) (put_in_turn [] script.files tt) script.lives
+  pub keeps_rightly : AllKeepRightly managed script.ifaces (failing_in script.fails) (at_first script.rows script.files script.polls) script.lives
+  keeps_rightly = keeps_on (failing_in script.fails) (at_first script.rows script.files script.polls) (put_in_turn [] script.files tt) script.lives

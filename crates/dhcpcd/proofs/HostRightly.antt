@@ -7,6 +7,7 @@ use Rattle.net_types.specs.Marks.{AreBytes}
 use Rattle.world.specs.declared.wakes.Event.{Event}
 use Rattle.world.specs.declared.wakes.Event.TheVariants.{Frame, Carrier, Duplicate, Release, Rebind, Stop, Quiet, End}
 use Rattle.settings.specs.Fitting.{AreManaged}
+use Rattle.settings.specs.ManagedRows.{SharesAreManaged}
 use Rattle.std.proofs.Math.Seq.{take-append_seam}
 use Rattle.std.proofs.lemmas.List.{length-append}
 use Rattle.world.specs.LinkCalls.{Given}
@@ -33,7 +34,7 @@ use Rattle.evidence.proofs.Foretold.{foretold}
 use Rattle.dhcpcd.specs.Replays.{IsScript, managed_in, failing_in, at_first, opening_in, opened_in, mets_in, Failing, Between, world_in, after_life}
 use Rattle.dhcpcd.proofs.LifeLeft.{left_in_order}
 use Rattle.dhcpcd.proofs.ManagedApart.{managed_numbered}
-use Rattle.dhcpcd.proofs.Refusals.{spelled_fits, managed_fit}
+use Rattle.dhcpcd.proofs.Refusals.{spelled_fits, managed_fit, shares_managed}
 use Rattle.dhcpcd.specs.HostHeld.{lived_on, IsTurn, HoldsRightly, AllHoldRightly}
 
 -- ---- what came in is octets
@@ -82,6 +83,9 @@ module _ (bytes : List ℕ) (script : ScriptLines) (conf : Configuration) (is : 
   fit : AreManaged managed
   fit = managed_fit bytes script conf is
 
+  shares : SharesAreManaged managed
+  shares = shares_managed bytes script conf is
+
   module _ (failing : Failing) (between : Between) (sorted : InRowOrder between.host.rows) (life : LifeScript) (life_fits : FitsLife (length script.ifaces) life) where
     abbrev world : World
     world = world_in failing between life
@@ -113,12 +117,12 @@ module _ (bytes : List ℕ) (script : ScriptLines) (conf : Configuration) (is : 
 
     life_holds : HoldsRightly managed script.ifaces failing between life
     life_holds = record {
-      opening_holds = opening_holds managed script.ifaces (world_in failing between life) sorted;
-      turns_hold = λ earlier given. turn_in_life managed script.ifaces (world_in failing between life) sorted earlier given;
-      opening_rests = λ well. opening_rests LeaseRelation leases_based items_have_basis managed script.ifaces (world_in failing between life) fit numbered sorted well;
+      opening_holds = opening_holds managed script.ifaces (world_in failing between life) shares sorted;
+      turns_hold = λ earlier given. turn_in_life managed script.ifaces (world_in failing between life) shares sorted earlier given;
+      opening_rests = λ well. opening_rests LeaseRelation leases_based items_have_basis managed script.ifaces (world_in failing between life) fit shares numbered sorted well;
       turns_rest = λ earlier given coming turn well.
           subst (λ (ms : List Met). RestOnEvidence managed script.ifaces (opening_in managed script.ifaces failing between life) ms (lived_on managed script.ifaces failing between life earlier given).world.host.told.rows) (handled_mets earlier given coming turn)
-          (turns_rest LeaseRelation leases_based items_have_basis managed script.ifaces (world_in failing between life) earlier given fit numbered
+          (turns_rest LeaseRelation leases_based items_have_basis managed script.ifaces (world_in failing between life) earlier given fit shares numbered
           (up_to earlier given coming (subst (AllByRecursion IsOctets) turn.stands (life_octets (length script.ifaces) life life_fits))) sorted well);
     }
 
@@ -128,10 +132,10 @@ module _ (bytes : List ℕ) (script : ScriptLines) (conf : Configuration) (is : 
   holds_on failing between sorted [] fits = tt
   holds_on failing between sorted (life ∷ lives) fits = (
     life_holds failing between sorted life fits.0,
-    holds_on failing (after_life managed script.ifaces failing between life) (left_in_order managed script.ifaces (world_in failing between life) sorted) lives fits.1,
+    holds_on failing (after_life managed script.ifaces failing between life) (left_in_order managed script.ifaces (world_in failing between life) shares sorted) lives fits.1,
   )
 
-  pub holds_rightly : AllHoldRightly managed script.ifaces (failing_in script.fails) (at_first script.rows script.files) script.lives
+  pub holds_rightly : AllHoldRightly managed script.ifaces (failing_in script.fails) (at_first script.rows script.files script.polls) script.lives
   holds_rightly =
       let fits = script_fits in
-      holds_on (failing_in script.fails) (at_first script.rows script.files) (in_order_sorted script.rows) script.lives (recursion_from_All (FitsLife (length script.ifaces)) script.lives fits.lives)
+      holds_on (failing_in script.fails) (at_first script.rows script.files script.polls) (in_order_sorted script.rows) script.lives (recursion_from_All (FitsLife (length script.ifaces)) script.lives fits.lives)

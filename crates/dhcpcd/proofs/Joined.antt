@@ -13,11 +13,12 @@ use Rattle.daemon.proofs.Fronts.{front_then, front_wider}
 use Rattle.dhcpcd.specs.declared.memory.Between as code
 use Rattle.dhcpcd.specs.Carried.{between_in, failing_with}
 use Rattle.world.specs.FileLists.{StoreFile}
+use Rattle.world.specs.declared.hooking.Poll.{Poll}
 use Rattle.world.specs.declared.rows.HostRow.{HostRow}
 use Rattle.script_model.specs.declared.failing.FailLine.{FailLine}
 use Rattle.script_model.specs.declared.failing.FailDevice.TheVariants.{Link}
 use Rattle.script_model.specs.FailingCalls.{failing_calls}
-use Rattle.dhcpcd.specs.Memory.{store_of, host_of}
+use Rattle.dhcpcd.specs.Memory.{store_of, host_of, hooks_of}
 use Rattle.dhcpcd.specs.Replays.{Failing, Between, failing_in, at_first, life_in, after_life, lives_lines}
 
 module _ (managed : List Managed) (specs : List IfSpec) (failing : Failing) where
@@ -52,13 +53,15 @@ pub lived_none : (managed : List Managed) (specs : List IfSpec) (failing : Faili
 lived_none managed specs failing start first out begins fails = record { left = begins; fails = fails; written = lines_none out }
 
 -- what the first life finds
-pub finds_first : (rows : List HostRow) (files : List StoreFile) (fails : List FailLine) (first : code.Between)
-    → (first.lives ≡ 0) × (first.sent ≡ 0) → first.store ≡ store_of files fails → first.host ≡ host_of rows fails → between_in first ≡ at_first rows files
-finds_first rows files fails first counts store host = λ i. record { lives = counts.0 i; sent = counts.1 i; host = (host i).told; store = (store i).told }
+module _ (rows : List HostRow) (files : List StoreFile) (polls : List (Option Poll)) (fails : List FailLine) (first : code.Between) where
+  pub finds_first : (first.lives ≡ 0) × (first.sent ≡ 0) → first.store ≡ store_of files fails → first.host ≡ host_of rows fails → first.hooks ≡ hooks_of polls fails
+      → between_in first ≡ at_first rows files polls
+  finds_first counts store host hooks = λ i. record { lives = counts.0 i; sent = counts.1 i; host = (host i).told; store = (store i).told; hooks = (hooks i).told }
 
-pub fails_first : (rows : List HostRow) (files : List StoreFile) (fails : List FailLine) (first : code.Between)
-    → first.store ≡ store_of files fails → first.host ≡ host_of rows fails → failing_with (failing_calls Link fails) first ≡ failing_in fails
-fails_first rows files fails first store host = λ i. record { sends = failing_calls Link fails; host = (host i).failing; store = (store i).failing.numbers }
+  pub fails_first : first.store ≡ store_of files fails → first.host ≡ host_of rows fails → first.hooks ≡ hooks_of polls fails
+      → failing_with (failing_calls Link fails) first ≡ failing_in fails
+  fails_first store host hooks =
+      λ i. record { sends = failing_calls Link fails; host = (host i).failing; store = (store i).failing.numbers; hooks = (hooks i).failing }
 
 module _ (managed : List Managed) (specs : List IfSpec) (failing : Failing) (start : Between) (lives : List LifeLines) (between : code.Between) (old mid new : Option (List ℕ)) (so_far : LivedSoFar managed specs failing start lives between old mid) (life : LifeLines) where
   module _ (given : List IfSpec) (specs_same : given ≡ specs) (sends : List ℕ) (sends_same : sends ≡ failing.sends) where

@@ -4,7 +4,6 @@ pub mod HeadLines
 pub mod Inputs
 pub mod OneWord
 pub mod AskedApart
-pub mod LineCounts
 pub mod CheckTexts
 pub mod Refusals
 pub mod ManagedApart
@@ -12,6 +11,8 @@ pub mod WholeLife
 pub mod LifeLeft
 pub mod Joined
 pub mod FirstNames
+pub mod Forgetting
 pub mod HostRightly
 pub mod FilesRightly
 pub mod Replayed
+pub mod LinesApart

@@ -7,7 +7,8 @@ use Rattle.net_types.specs.declared.interface.IfSpec.{IfSpec}
 use Rattle.settings.specs.declared.interfaces.Managed.{Managed}
 use Rattle.script_model.specs.Scripts.{CountsFrom, Unlike}
 use Rattle.conf_text.specs.Configurations.{Configuration}
-use Rattle.conf_text.specs.Settings.{is_managed, settings_for, managed_with, managed_of}
+use Rattle.conf_text.specs.Choosing.{is_managed}
+use Rattle.conf_text.specs.Settings.{settings_for, managed_with, managed_among, managed_of}
 use Rattle.evidence.specs.Laws.{AreNumbered}
 use Rattle.evidence.proofs.Numbered.{counted}
 
@@ -43,34 +44,36 @@ each_number : (managed : List Managed) → map (λ (m : Managed). m.spec.index.n
 each_number [] = refl
 each_number (m ∷ managed) = ap (λ others. m.spec.index.number ∷ others) (each_number managed)
 
-module _ (conf : Configuration) where
+module _ (conf : Configuration) (all : List IfSpec) where
   abbrev keeps : IfSpec → Bool
   keeps spec = is_managed conf spec.name
 
-  managed_specs : (specs : List IfSpec) → map spec_of (managed_of conf specs) ≡ filter keeps specs
+  managed_specs : (specs : List IfSpec) → map spec_of (managed_among conf all specs) ≡ filter keeps specs
   managed_specs [] = refl
   managed_specs (spec ∷ specs) =
       elim (keeps spec) as (λ kept.
-      map spec_of (cons_option (managed_with spec (if kept then Some (settings_for conf spec) else None)) (managed_of conf specs))
+      map spec_of (cons_option (managed_with spec (if kept then Some (settings_for conf all spec) else None)) (managed_among conf all specs))
       ≡ (if kept then spec ∷ filter keeps specs else filter keeps specs)) [
         | true ↦ ap (λ others. spec ∷ others) (managed_specs specs)
         | false ↦ managed_specs specs
       ]
 
-  pub managed_unlike : (specs : List IfSpec) → AllPairs Unlike specs → AllPairs Unlike (map (λ (m : Managed). m.spec) (managed_of conf specs))
-  managed_unlike specs pairs = subst (AllPairs Unlike) (sym (managed_specs specs)) (AllPairs-filter Unlike keeps specs pairs)
-
   -- as if all were managed
   abbrev all_of : List IfSpec → List Managed
-  all_of specs = map (λ (spec : IfSpec). record { spec = spec; conf = settings_for conf spec }) specs
+  all_of specs = map (λ (spec : IfSpec). record { spec = spec; conf = settings_for conf all spec }) specs
 
   all_specs : (specs : List IfSpec) → map spec_of (all_of specs) ≡ specs
   all_specs [] = refl
   all_specs (spec ∷ specs) = ap (λ others. spec ∷ others) (all_specs specs)
 
-  -- those that count from 1 have unlike numbers, and so have some of them
-  pub managed_numbered : (specs : List IfSpec) → CountsFrom 1 specs → AreNumbered (managed_of conf specs)
-  managed_numbered specs counts =
-      let all : AreNumbered (all_of specs) = counted 1 (all_of specs) (subst (CountsFrom 1) (sym (all_specs specs)) counts) in
-      let apart : IsDistinct nat_eq (map number_in specs) = subst (IsDistinct nat_eq) (each_number (all_of specs) ∙ ap (map number_in) (all_specs specs)) all in
-      subst (IsDistinct nat_eq) (sym (each_number (managed_of conf specs) ∙ ap (map number_in) (managed_specs specs))) (distinct_kept number_in keeps nat_eq specs apart)
+pub managed_unlike : (conf : Configuration) (specs : List IfSpec) → AllPairs Unlike specs → AllPairs Unlike (map (λ (m : Managed). m.spec) (managed_of conf specs))
+managed_unlike conf specs pairs = subst (AllPairs Unlike) (sym (managed_specs conf specs specs)) (AllPairs-filter Unlike (keeps conf specs) specs pairs)
+
+-- those that count from 1 have unlike numbers, and so have some of them
+pub managed_numbered : (conf : Configuration) (specs : List IfSpec) → CountsFrom 1 specs → AreNumbered (managed_of conf specs)
+managed_numbered conf specs counts =
+    let together : List Managed = all_of conf specs specs in
+    let all : AreNumbered together = counted 1 together (subst (CountsFrom 1) (sym (all_specs conf specs specs)) counts) in
+    let apart : IsDistinct nat_eq (map number_in specs) = subst (IsDistinct nat_eq) (each_number together ∙ ap (map number_in) (all_specs conf specs specs)) all in
+    subst (IsDistinct nat_eq) (sym (each_number (managed_of conf specs) ∙ ap (map number_in) (managed_specs conf specs specs)))
+    (distinct_kept number_in (keeps conf specs) nat_eq specs apart)

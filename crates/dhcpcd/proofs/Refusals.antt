@@ -1,24 +1,22 @@
 -- Why bytes aren't replayed.
-use Rattle.std.proofs.Common.{ℕ, ◌≡◌, ◌≤◌, ◌+◌, List, [], ◌∷◌, length, arith, Option, Some, None, Ok, Err, inl, inr, refl, sym, ap, subst, ◌∙◌}
-use Rattle.std.specs.Prelude.{option_map}
+use Rattle.std.proofs.Common.{ℕ, ◌≡◌, ◌≤◌, ◌+◌, List, [], ◌∷◌, length, arith, Option, Some, None, Ok, Err, refl, sym, ap, subst, ◌∙◌}
 use Rattle.std.specs.List.{AllByRecursion}
-use Rattle.std.specs.Option.{option_or}
 use Rattle.net_types.specs.declared.interface.IfSpec.{IfSpec}
 use Rattle.settings.specs.Fitting.{AreManaged}
+use Rattle.settings.specs.ManagedRows.{SharesAreManaged}
 use Rattle.script_model.specs.ScriptTexts.{ScriptLines}
 use Rattle.script_model.specs.Scripts.{CountsFrom, FitsScript}
 use Rattle.replay_text.specs.declared.script.Script.{Script}
-use Rattle.replay_text.specs.declared.script.ScriptCause.TheVariants.{NotBuilt}
 use Rattle.replay_text.specs.ScriptContent.{script_of, HoldsLines}
 use Rattle.conf_text.specs.Configurations.{Configuration, IsConfOf}
 use Rattle.conf_text.specs.Contents.{configuration}
-use Rattle.conf_text.specs.Fits.{FitsSpec}
+use Rattle.conf_text.specs.Fits.{AreInForce, FitsSpec}
 use Rattle.conf_text.proofs.ConfFits.{settings_fit}
 use Rattle.dhcpcd.specs.declared.settling.Settled.{Settled}
 use Rattle.dhcpcd.specs.declared.status.Status.{Status}
 use Rattle.dhcpcd.specs.declared.status.Status.TheVariants as status
-use Rattle.dhcpcd.specs.Refusals.{AsksUnbuilt, IsReadRefused, IsConfRefused, IsUnbuiltRefused, IsRefused}
-use Rattle.dhcpcd.specs.Replays.{IsScript, Spells, managed_in, configuration_text, script_line, unbuilt_hooks, unbuilt_line}
+use Rattle.dhcpcd.specs.Refusals.{IsReadRefused, IsConfRefused, IsRefused}
+use Rattle.dhcpcd.specs.Replays.{IsScript, Spells, managed_in, configuration_text}
 use Rattle.dhcpcd.specs.Settling.{IsRead, IsSettled}
 
 pub spelled_fits : (bytes : List ℕ) (script : ScriptLines) → Spells bytes script → FitsScript script
@@ -35,21 +33,12 @@ text_of script holds = holds
 pub configured_by : (bytes : List ℕ) (script : Script) (conf : Configuration) → IsRead bytes script → IsConfOf script.conf.items (Ok conf) → IsConfOf (configuration_text (script_of script)) (Ok conf)
 configured_by bytes script conf read is = subst (λ (text : List ℕ). IsConfOf text (Ok conf)) (text_of script read.lines) is
 
--- ---- which line isn't built
-
-pub configuration_unbuilt : (script : ScriptLines) (conf : Configuration) (line : ℕ) → conf.not_built ≡ Some line → AsksUnbuilt script conf (record { line = line + 1; cause = NotBuilt })
-configuration_unbuilt script conf line marked =
-    record { line = ap (λ (mark : Option ℕ). option_or (option_map script_line mark) (unbuilt_hooks script conf)) marked; cause = refl }
-
-hooks_alone : (script : ScriptLines) (conf : Configuration) → conf.not_built ≡ None → unbuilt_line script conf ≡ unbuilt_hooks script conf
-hooks_alone script conf none = ap (λ (mark : Option ℕ). option_or (option_map script_line mark) (unbuilt_hooks script conf)) none
-
 -- ---- refusals
 
 pub refused_unread : (answer : Status) (bytes : List ℕ) → IsReadRefused bytes answer → IsRefused bytes answer
 refused_unread status.Done bytes refused = absurd refused
 refused_unread status.Usage bytes refused = absurd refused
-refused_unread (status.Script fault) bytes refused = inl refused
+refused_unread (status.Script fault) bytes refused = refused
 refused_unread (status.Conf fault) bytes refused = absurd refused
 refused_unread status.ReadFault bytes refused = absurd refused
 refused_unread status.WriteFault bytes refused = absurd refused
@@ -70,36 +59,14 @@ refused_conf status.WriteFault bytes script read refused = absurd refused
 refused_conf status.TooLong bytes script read refused = absurd refused
 refused_conf status.NoMemory bytes script read refused = tt
 
-pub refused_unbuilt : (answer : Status) (bytes : List ℕ) (script : Script) (conf : Configuration) → IsRead bytes script → IsConfOf script.conf.items (Ok conf) → IsUnbuiltRefused (script_of script) conf answer → IsRefused bytes answer
-refused_unbuilt status.Done bytes script conf read is refused = absurd refused
-refused_unbuilt status.Usage bytes script conf read is refused = absurd refused
-refused_unbuilt (status.Script fault) bytes script conf read is refused = inr (record {
-  script = script_of script;
-  conf = conf;
-  spelled = read.spelled;
-  configured = configured_by bytes script conf read is;
-  asks = refused;
-})
-refused_unbuilt (status.Conf fault) bytes script conf read is refused = absurd refused
-refused_unbuilt status.ReadFault bytes script conf read is refused = absurd refused
-refused_unbuilt status.WriteFault bytes script conf read is refused = absurd refused
-refused_unbuilt status.TooLong bytes script conf read is refused = absurd refused
-refused_unbuilt status.NoMemory bytes script conf read is refused = tt
-
-pub refused_hooks : (bytes : List ℕ) (script : Script) (conf : Configuration) (line : ℕ) → IsRead bytes script → IsConfOf script.conf.items (Ok conf) → conf.not_built ≡ None
-    → unbuilt_hooks (script_of script) conf ≡ Some line → IsRefused bytes (status.Script (record { line = line; cause = NotBuilt }))
-refused_hooks bytes script conf line read is none hooks =
-    refused_unbuilt (status.Script (record { line = line; cause = NotBuilt })) bytes script conf read is (record { line = hooks_alone (script_of script) conf none ∙ hooks; cause = refl })
-
 -- ---- nothing is refused
 
-pub settled : (bytes : List ℕ) (s : Settled) → IsRead bytes s.script → IsConfOf s.script.conf.items (Ok (configuration s.conf)) → (configuration s.conf).not_built ≡ None
-    → unbuilt_hooks (script_of s.script) (configuration s.conf) ≡ None → s.managed.items ≡ managed_in (script_of s.script) (configuration s.conf) → IsSettled bytes s
-settled bytes s read is none no_hooks manages = record {
+pub settled : (bytes : List ℕ) (s : Settled) → IsRead bytes s.script → IsConfOf s.script.conf.items (Ok (configuration s.conf))
+    → s.managed.items ≡ managed_in (script_of s.script) (configuration s.conf) → IsSettled bytes s
+settled bytes s read is manages = record {
   is_script = record {
     spelled = read.spelled;
     configured = configured_by bytes s.script (configuration s.conf) read is;
-    built = hooks_alone (script_of s.script) (configuration s.conf) none ∙ no_hooks;
   };
   managed = manages;
 }
@@ -112,11 +79,17 @@ specs_fit index (spec ∷ specs) low high counts =
     let number : spec.index.number ≡ index = counts.0 in
     (record { index = (omega arith, omega arith); name = counts.1; mac = counts.2 }, specs_fit (index + 1) specs (omega arith) (omega arith) counts.3)
 
-pub managed_fit : (bytes : List ℕ) (script : ScriptLines) (conf : Configuration) → IsScript bytes script conf → AreManaged (managed_in script conf)
-managed_fit bytes script conf is =
+in_force : (bytes : List ℕ) (script : ScriptLines) (conf : Configuration) → IsScript bytes script conf → AreInForce (managed_in script conf)
+in_force bytes script conf is =
     let fits = spelled_fits bytes script is.spelled in
     let ifaces = fits.ifaces in
     settings_fit (configuration_text script) conf is.configured script.ifaces (specs_fit 1 script.ifaces (omega arith) (omega (arith, ifaces.few)) ifaces.counted)
+
+pub managed_fit : (bytes : List ℕ) (script : ScriptLines) (conf : Configuration) → IsScript bytes script conf → AreManaged (managed_in script conf)
+managed_fit bytes script conf is = let all = in_force bytes script conf is in all.fit
+
+pub shares_managed : (bytes : List ℕ) (script : ScriptLines) (conf : Configuration) → IsScript bytes script conf → SharesAreManaged (managed_in script conf)
+shares_managed bytes script conf is = let all = in_force bytes script conf is in all.shares
 
 pub settled_fit : (bytes : List ℕ) (s : Settled) → IsSettled bytes s → AreManaged s.managed.items
 settled_fit bytes s is = subst AreManaged (sym is.managed) (managed_fit bytes (script_of s.script) (configuration s.conf) is.is_script)

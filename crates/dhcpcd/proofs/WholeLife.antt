@@ -20,20 +20,38 @@ use Rattle.daemon.proofs.Stretches.{lines_then}
 use Rattle.daemon.proofs.Fronts.{front_wider, front_then, front_of_life}
 use Rattle.world_mem.specs.LinkRecord.{LinkState}
 use Rattle.world_mem.specs.StoreRecord.{StoreState}
+use Rattle.world_mem.specs.HookRecord.{HooksState}
 use Rattle.world_mem.specs.HostRecord.{HostState}
 use Rattle.dhcpcd.specs.Memory.{link_of}
 use Rattle.dhcpcd.specs.Replays.{Failing, Between, store_fails, world_in, lines_in, life_in}
 
--- what devices in memory tell
-abbrev pub world_after : LinkState → StoreState → HostState → Option World
-world_after link store host = world_from (told_from (Some link.told) (Some link.failing_sends)) (told_from (Some host.told) (Some host.failing)) (told_from (Some store.told) (Some store.failing))
+-- devices in memory
+pub record Held : Type 0 where
+  pub link : LinkState
+  pub store : StoreState
+  pub host : HostState
+  pub hooks : HooksState
 
--- the devices of a life before their first call
-pub is_first : (failing : Failing) (between : Between) (life : LifeScript) (link : LinkState) (store : StoreState) (host : HostState) → link ≡ link_of life between.sent failing.sends
-    → store.told ≡ between.store → store.failing ≡ store_fails failing.store (length between.store.calls) life.crash → host.told ≡ between.host → host.failing ≡ failing.host
-    → world_after link store host ≡ Some (world_in failing between life)
-is_first failing between life link store host l s sf h hf =
-    λ i. world_from (told_from (Some (l i).told) (Some (l i).failing_sends)) (told_from (Some (h i)) (Some (hf i))) (told_from (Some (s i)) (Some (sf i)))
+-- what they tell
+abbrev pub world_after : Held → Option World
+world_after held =
+    world_from (told_from (Some held.link.told) (Some held.link.failing_sends)) (told_from (Some held.host.told) (Some held.host.failing))
+    (told_from (Some held.store.told) (Some held.store.failing)) (told_from (Some held.hooks.told) (Some held.hooks.failing))
+
+-- the devices of a life before their first call, made of what the life before left
+pub record AreMade (failing : Failing) (between : Between) (life : LifeScript) (held : Held) : Type 0 where
+  pub of_link : held.link ≡ link_of life between.sent failing.sends
+  pub of_store : held.store.told ≡ between.store
+  pub fails_store : held.store.failing ≡ store_fails failing.store (length between.store.calls) life.crash
+  pub of_host : held.host.told ≡ between.host
+  pub fails_host : held.host.failing ≡ failing.host
+  pub of_hooks : held.hooks.told ≡ between.hooks
+  pub fails_hooks : held.hooks.failing ≡ failing.hooks
+
+pub made_first : (failing : Failing) (between : Between) (life : LifeScript) (held : Held) → AreMade failing between life held → world_after held ≡ Some (world_in failing between life)
+made_first failing between life held made =
+    λ i. world_from (told_from (Some (made.of_link i).told) (Some (made.of_link i).failing_sends)) (told_from (Some (made.of_host i)) (Some (made.fails_host i)))
+    (told_from (Some (made.of_store i)) (Some (made.fails_store i))) (told_from (Some (made.of_hooks i)) (Some (made.fails_hooks i)))
 
 module _ (managed : List Managed) (specs : List IfSpec) (failing : Failing) (between : Between) (life : LifeScript) where
   abbrev its_lines : List Line
@@ -46,11 +64,15 @@ module _ (managed : List Managed) (specs : List IfSpec) (failing : Failing) (bet
   abbrev here : ForetoldLife
   here = foretold_life managed specs (world_in failing between life)
 
+  told_life : (seen : Seen) (opening : OpeningMet) (mets : List Met) → IsFirst seen → IsForetold managed specs seen opening mets → IsLifeOf opening mets here
+  told_life seen opening mets first told = subst (λ (w : Option World). IfSome w (λ world. IsLifeOf opening mets (foretold_life managed specs world))) first told
+
   told_lines : (seen : Seen) (opening : OpeningMet) (mets : List Met) → IsFirst seen → IsForetold managed specs seen opening mets → life_lines opening mets ≡ its_lines
   unfolding lines_in
-  told_lines seen opening mets first told =
-      let are : IsLifeOf opening mets here = subst (λ (w : Option World). IfSome w (λ world. IsLifeOf opening mets (foretold_life managed specs world))) first told in
-      sym (λ i. life_lines (are.opening_is i) (are.mets_are i))
+  told_lines seen opening mets first told = let are : IsLifeOf opening mets here = told_life seen opening mets first told in sym (λ i. life_lines (are.opening_is i) (are.mets_are i))
+
+  pub served_life : (seen new_seen : Seen) (old new : Option (List ℕ)) → IsFirst seen → (served : Served managed specs seen new_seen old new) → IsLifeOf served.opening served.mets here
+  served_life seen new_seen old new first served = told_life seen served.opening served.mets first served.foretold
 
   pub lived : (seen new_seen : Seen) (old new : Option (List ℕ)) → IsFirst seen → Served managed specs seen new_seen old new → WritesLines old new its_lines
   lived seen new_seen old new first served = subst (λ (l : List Line). WritesLines old new l) (told_lines seen served.opening served.mets first served.foretold) served.written

@@ -9,11 +9,22 @@ use Rattle.dhcpcd.specs.Replays as lives
 use Rattle.dhcpcd.specs.Replays.{Failing, life_in}
 
 abbrev pub between_in : Between → lives.Between
-between_in between = record { lives = between.lives; sent = between.sent; host = between.host.told; store = between.store.told }
+between_in between = record {
+  lives = between.lives;
+  sent = between.sent;
+  host = between.host.told;
+  store = between.store.told;
+  hooks = between.hooks.told;
+}
 
 -- the calls that fail, of which the sends are given beside
 abbrev pub failing_with : (sends : List ℕ) → Between → Failing
-failing_with sends between = record { sends = sends; host = between.host.failing; store = between.store.failing.numbers }
+failing_with sends between = record {
+  sends = sends;
+  host = between.host.failing;
+  store = between.store.failing.numbers;
+  hooks = between.hooks.failing;
+}
 
 -- a life over the devices that the life before it left
 abbrev pub life_over : List Managed → List IfSpec → (sends : List ℕ) → Between → LifeScript → List Line

@@ -1,6 +1,7 @@
 pub mod Input
 pub mod Memory
 pub mod Replays
+pub mod HooksApart
 pub mod Carried
 pub mod HostHeld
 pub mod FilesHeld

@@ -1,15 +1,18 @@
 -- What the devices of a script hold before their first call. Of the calls those fail that the script lists.
-use Rattle.std.specs.Prelude.{ℕ, List, [], None}
+use Rattle.std.specs.Prelude.{ℕ, false, List, [], Option, None}
+use Rattle.world.specs.declared.hooking.Poll.{Poll}
 use Rattle.world.specs.declared.rows.HostRow.{HostRow}
 use Rattle.world.specs.RowOrder.{in_row_order}
+use Rattle.world.specs.HookCalls.{HooksTold, abandoned}
 use Rattle.world.specs.HostCalls.{HostTold}
 use Rattle.world.specs.LinkCalls.{LinkTold}
 use Rattle.world.specs.StoreCalls.{StoreTold, store_holding}
 use Rattle.world_mem.specs.LinkRecord.{LinkState}
 use Rattle.world_mem.specs.StoreRecord.{StoreState, in_name_order}
 use Rattle.world.specs.FileLists.{StoreFile}
+use Rattle.world_mem.specs.HookRecord.{HooksState}
 use Rattle.world_mem.specs.HostRecord.{HostState}
-use Rattle.script_model.specs.declared.failing.FailDevice.TheVariants.{Store, Host}
+use Rattle.script_model.specs.declared.failing.FailDevice.TheVariants.{Store, Host, Hooks}
 use Rattle.script_model.specs.declared.failing.FailLine.{FailLine}
 use Rattle.script_model.specs.FailingCalls.{failing_calls}
 use Rattle.script_model.specs.ScriptTexts.{LifeScript}
@@ -34,3 +37,13 @@ first_host rows = record { rows = in_row_order rows; calls = [] }
 
 abbrev pub host_of : List HostRow → List FailLine → HostState
 host_of rows fails = record { told = first_host rows; failing = failing_calls Host fails }
+
+abbrev pub first_hooks : List (Option Poll) → HooksTold
+first_hooks polls = record { polls = polls; calls = [] }
+
+abbrev pub hooks_of : List (Option Poll) → List FailLine → HooksState
+hooks_of polls fails = record { told = first_hooks polls; running = false; failing = failing_calls Hooks fails }
+
+-- no child runs any more
+abbrev pub forgotten : HooksState → HooksState
+forgotten hooks = record { told = abandoned hooks.running hooks.told; running = false; failing = hooks.failing }

@@ -1,15 +1,16 @@
 -- The transcript of a script: its head, and its lives one after another.
-use Rattle.std.specs.Prelude.{ℕ, ◌≡◌, ◌+◌, Bool, not, ◌||◌, ◌==◌, if◌then◌else◌, List, [], ◌∷◌, ◌++◌, map, flat_map, length, Option, Some, None, option_map, Ok}
-use Rattle.std.specs.Option.{option_or}
+use Rattle.std.specs.Prelude.{ℕ, ◌+◌, List, [], ◌∷◌, ◌++◌, map, flat_map, length, Option, Some, None, is_some, Ok}
 use Rattle.net_types.specs.FirstBadLine.{IsSpelled}
 use Rattle.net_types.specs.declared.interface.IfSpec.{IfSpec}
 use Rattle.settings.specs.declared.interfaces.Managed.{Managed}
+use Rattle.world.specs.declared.hooking.Poll.{Poll}
+use Rattle.world.specs.HookCalls.{HooksTold, abandoned}
 use Rattle.world.specs.HostCalls.{HostTold}
 use Rattle.world.specs.StoreCalls.{StoreTold}
 use Rattle.world.specs.FileLists.{StoreFile}
 use Rattle.world.specs.StoreFails.{StoreFails}
 use Rattle.world.specs.declared.rows.HostRow.{HostRow}
-use Rattle.script_model.specs.declared.failing.FailDevice.TheVariants.{Link, Host, Store}
+use Rattle.script_model.specs.declared.failing.FailDevice.TheVariants.{Link, Host, Store, Hooks}
 use Rattle.script_model.specs.declared.failing.FailLine.{FailLine}
 use Rattle.script_model.specs.FailingCalls.{failing_calls}
 use Rattle.script_model.specs.declared.crashing.CrashKind.{CrashKind}
@@ -23,22 +24,29 @@ use Rattle.script_model.specs.ScriptTexts.{ScriptLines, LifeScript, ended}
 use Rattle.script_model.specs.Lines.{Line}
 use Rattle.script_model.specs.Lines as lines
 use Rattle.device_calls.specs.Worlds.{World}
-use Rattle.turn_model.specs.Lives.{OpeningMet, Met, life_lines}
-use Rattle.turn_model.specs.Foretold.{opening_of, foretold_life}
+use Rattle.turn_model.specs.Lives.{OpeningMet, Met, life_after, life_lines}
+use Rattle.turn_model.specs.Foretold.{ForetoldLife, opening_of, foretold_life}
 use Rattle.turn_model.specs.HostInLife.{Running, running_opened}
-use Rattle.dhcpcd.specs.Memory.{link_told, first_host, first_store}
+use Rattle.dhcpcd.specs.Memory.{link_told, first_hooks, first_host, first_store}
 use Rattle.replay_text.specs.LinesInOrder.{SpellsScript}
 use Rattle.conf_text.specs.Configurations.{Configuration, NoticeContent, IsConfOf}
-use Rattle.conf_text.specs.Settings.{managed_of, turns_hooks_off}
+use Rattle.conf_text.specs.Settings.{managed_of}
 
 -- the calls that fail, counted over all lives
 pub record Failing : Type 0 where
   pub sends : List ℕ
   pub host : List ℕ
   pub store : List ℕ
+  -- starts of hooks
+  pub hooks : List ℕ
 
 abbrev pub failing_in : List FailLine → Failing
-failing_in fails = record { sends = failing_calls Link fails; host = failing_calls Host fails; store = failing_calls Store fails }
+failing_in fails = record {
+  sends = failing_calls Link fails;
+  host = failing_calls Host fails;
+  store = failing_calls Store fails;
+  hooks = failing_calls Hooks fails;
+}
 
 -- ---- crashes
 
@@ -62,15 +70,17 @@ store_left (Some crash) told = after_crash (pick_of crash.kind) told
 
 -- ---- lives
 
--- what goes on from one life to the next: how many lives there were, how many frames were offered, the host and the store
+-- what goes on from one life to the next: how many lives there were, how many frames were offered, the host, the store and the
+-- answers of hooks
 pub record Between : Type 0 where
   pub lives : ℕ
   pub sent : ℕ
   pub host : HostTold
   pub store : StoreTold
+  pub hooks : HooksTold
 
-abbrev pub at_first : List HostRow → List StoreFile → Between
-at_first rows files = record { lives = 0; sent = 0; host = first_host rows; store = first_store files }
+abbrev pub at_first : List HostRow → List StoreFile → (polls : List (Option Poll)) → Between
+at_first rows files polls = record { lives = 0; sent = 0; host = first_host rows; store = first_store files; hooks = first_hooks polls }
 
 -- the devices of a life, as the life before left them
 abbrev pub world_in : Failing → Between → LifeScript → World
@@ -78,6 +88,7 @@ world_in failing between life = record {
   link = record { told = link_told life between.sent; failing = failing.sends };
   host = record { told = between.host; failing = failing.host };
   store = record { told = between.store; failing = store_fails failing.store (length between.store.calls) life.crash };
+  hooks = record { told = between.hooks; failing = failing.hooks };
 }
 
 -- the opening that the devices foretell
@@ -92,11 +103,21 @@ opened_in managed specs failing between life = running_opened managed specs (wor
 abbrev pub mets_in : List Managed → List IfSpec → Failing → Between → LifeScript → List Met
 mets_in managed specs failing between life = (foretold_life managed specs (world_in failing between life)).mets
 
+-- a child that runs at the end of a life is forgotten
+abbrev pub hooks_left : ForetoldLife → HooksTold
+hooks_left life = abandoned (is_some (life_after life.opening.life life.mets).hooks.child) life.left.hooks.told
+
 -- what a life leaves to the next one
 abbrev pub after_life : List Managed → List IfSpec → Failing → Between → LifeScript → Between
 after_life managed specs failing between life =
-    let left = (foretold_life managed specs (world_in failing between life)).left in
-    record { lives = between.lives + 1; sent = left.sent; host = left.host.told; store = store_left life.crash left.store.told }
+    let lived = foretold_life managed specs (world_in failing between life) in
+    record {
+      lives = between.lives + 1;
+      sent = lived.left.sent;
+      host = lived.left.host.told;
+      store = store_left life.crash lived.left.store.told;
+      hooks = hooks_left lived;
+    }
 
 -- the life of the abstract client over these devices
 unfoldable pub lines_in : List Managed → List IfSpec → Failing → Between → LifeScript → List Line
@@ -123,7 +144,7 @@ head_lines script notices = lines.Head ∷ (map lines.Conf script.conf ++ (map n
 
 -- the lives with these managed interfaces; others are told of, and left alone
 abbrev pub lives_of_script : List Managed → ScriptLines → List Line
-lives_of_script managed script = lives_lines managed script.ifaces (failing_in script.fails) (at_first script.rows script.files) script.lives
+lives_of_script managed script = lives_lines managed script.ifaces (failing_in script.fails) (at_first script.rows script.files script.polls) script.lives
 
 abbrev pub managed_in : ScriptLines → Configuration → List Managed
 managed_in script conf = managed_of conf script.ifaces
@@ -141,26 +162,7 @@ Spells bytes script = IsSpelled SpellsScript bytes script
 abbrev pub configuration_text : ScriptLines → List ℕ
 configuration_text script = flat_map ended script.conf
 
--- Lines of the configuration stand behind the first line of a script, and those of interfaces behind them.
-abbrev pub script_line : (line : ℕ) → ℕ
-script_line line = line + 1
-
-abbrev pub first_interface : ScriptLines → ℕ
-first_interface script = length script.conf + 2
-
--- an interface has hooks, which aren't built, unless they are turned off
-abbrev pub has_hooks : ScriptLines → Configuration → Bool
-has_hooks script conf = not (length script.ifaces == 0 || turns_hooks_off conf)
-
-abbrev pub unbuilt_hooks : ScriptLines → Configuration → Option ℕ
-unbuilt_hooks script conf = if has_hooks script conf then Some (first_interface script) else None
-
--- the line of the script that asks first for what isn't built: a line of its configuration, or that of its first interface
-abbrev pub unbuilt_line : ScriptLines → Configuration → Option ℕ
-unbuilt_line script conf = option_or (option_map script_line conf.not_built) (unbuilt_hooks script conf)
-
--- the bytes spell this script, it has this configuration, and all of it is built
+-- the bytes spell this script, and it has this configuration
 pub record IsScript (bytes : List ℕ) (script : ScriptLines) (conf : Configuration) : Type 0 where
   pub spelled : Spells bytes script
   pub configured : IsConfOf (configuration_text script) (Ok conf)
-  pub built : unbuilt_line script conf ≡ None

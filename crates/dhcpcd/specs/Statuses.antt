@@ -7,7 +7,8 @@ use Rattle.dhcpcd.specs.declared.status.Status.{Status}
 use Rattle.dhcpcd.specs.declared.status.Status.TheVariants as status
 use Rattle.dhcpcd.specs.Input.{limit, IsInput, IsTooLong}
 use Rattle.dhcpcd.specs.Replays.{IsScript, managed_in, failing_in, at_first, transcript}
-use Rattle.dhcpcd.specs.Refusals.{IsScriptFault, IsConfFault, IsRefusal}
+use Rattle.replay_text.specs.FirstFaults.{IsFault}
+use Rattle.dhcpcd.specs.Refusals.{IsConfFault, IsRefusal}
 use Rattle.dhcpcd.specs.HostHeld.{AllHoldRightly}
 use Rattle.dhcpcd.specs.FilesHeld.{AllKeepRightly}
 
@@ -31,8 +32,8 @@ pub record IsReplayed (input : Option (List ℕ)) (old new : Option (List ℕ)) 
   pub in_limit : length bytes ≤ limit
   pub is_script : IsScript bytes script conf
   pub written : WritesLines old new (transcript script conf)
-  pub host : AllHoldRightly (managed_in script conf) script.ifaces (failing_in script.fails) (at_first script.rows script.files) script.lives
-  pub files : AllKeepRightly (managed_in script conf) script.ifaces (failing_in script.fails) (at_first script.rows script.files) script.lives
+  pub host : AllHoldRightly (managed_in script conf) script.ifaces (failing_in script.fails) (at_first script.rows script.files script.polls) script.lives
+  pub files : AllKeepRightly (managed_in script conf) script.ifaces (failing_in script.fails) (at_first script.rows script.files script.polls) script.lives
 
 -- the input was a script, and a front of the bytes of its transcript was written
 pub record IsStopped (input : Option (List ℕ)) (old new : Option (List ℕ)) : Type 0 where
@@ -57,7 +58,7 @@ pub record TellsScript (input : Option (List ℕ)) : Type 0 where
 abbrev pub IsAnswer : Status → Option (List ℕ) → Option (List ℕ) → Option (List ℕ) → Type 0
 IsAnswer status.Done input old new = IsReplayed input old new
 IsAnswer status.Usage input old new = ⊥
-IsAnswer (status.Script fault) input old new = IsRefusal (λ bytes. IsScriptFault bytes fault) input old new
+IsAnswer (status.Script fault) input old new = IsRefusal (λ bytes. IsFault bytes fault) input old new
 IsAnswer (status.Conf fault) input old new = IsRefusal (λ bytes. IsConfFault bytes fault) input old new
 IsAnswer status.ReadFault input old new = new ≡ old
 IsAnswer status.WriteFault input old new = IsStopped input old new

@@ -4,6 +4,7 @@
 mod checking;
 mod heads;
 mod input;
+mod laws;
 mod lives;
 mod memory;
 mod replaying;
@@ -15,6 +16,7 @@ mod tests;
 mod words;
 mod writing;
 
+pub use laws::hooks_change_nothing;
 pub use running::run;
 pub use status::Status;
 pub use words::is_alone;

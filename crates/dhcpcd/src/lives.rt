@@ -1,5 +1,5 @@
 //! The lives of a script, one after another over the same host and store.
-ghost use Rattle.std.specs.Prelude.{◌≡◌, ◌≤◌, ◌<◌, ◌+◌, ◌^◌, [], ◌∷◌, true, IfOk, IfErr, All};
+ghost use Rattle.std.specs.Prelude.{◌≡◌, ◌≤◌, ◌<◌, ◌+◌, ◌^◌, [], ◌∷◌, true, false, IfOk, IfErr, All};
 ghost use Rattle.settings.specs.Fitting.{AreManaged};
 ghost use Rattle.script_model.specs.Scripts.{FitsScript};
 ghost use Rattle.replay_text.specs.ScriptContent as content;
@@ -32,9 +32,11 @@ fn replay_life<O: Sink>(
 ) -> Result<Between, Status>
     requires managed { AreManaged managed.now }
     requires few { between.lives + 1 < 2 ^ 64 }
+    requires childless { between.hooks.running ≡ false }
     ensures ok { IfOk result (λ _. (O.faults out.old ≤ O.faults out.new) × WritesLines (O.written out.old) (O.written out.new) (life_over managed.now specs.now sends.now between (content.life_of life))) }
     ensures left { IfOk result (λ next. between_in next ≡ after_life managed.now specs.now (failing_with sends.now between) (between_in between) (content.life_of life)) }
     ensures failing { IfOk result (λ next. failing_with sends.now next ≡ failing_with sends.now between) }
+    ensures childless { IfOk result (λ next. next.hooks.running ≡ false) }
     ensures front { IfErr result (λ _. WritesFront (O.written out.old) (O.written out.new) [] (life_over managed.now specs.now sends.now between (content.life_of life))) }
     ensures cause { IfErr result (λ status. HasStatusCause status 0 0 (O.faults out.old) (O.faults out.new) × StopsWriting status) }
     ensures steady { O.never_fails out.old ≡ true → O.faults out.new ≡ O.faults out.old }
@@ -75,10 +77,11 @@ pub fn replay_lives<O: Sink>(
         rows,
         files,
         fails,
+        polls,
         lives,
     } = script;
     let sends = numbers_of(alloc, FailDevice::Link, &fails)?;
-    let mut between = at_first(alloc, rows, files, &fails)?;
+    let mut between = at_first(alloc, rows, files, &polls, &fails)?;
     'lives: for life in lives {
         between = replay_life(alloc, managed, &ifaces, &sends, between, life, out)?;
     }

@@ -6,15 +6,16 @@ ghost use Rattle.world_mem.specs.StoreRecord as stores;
 ghost use Rattle.replay_text.specs.ScriptContent as content;
 ghost use Rattle.script_model.specs.FirstFiles.{FitsFile};
 ghost use Rattle.script_model.specs.FailingCalls.{failing_calls, is_same_device};
-ghost use Rattle.dhcpcd.specs.Memory.{link_of, store_of, host_of};
+ghost use Rattle.world_mem.specs.HookRecord.{poll_of};
+ghost use Rattle.dhcpcd.specs.Memory.{forgotten, hooks_of, link_of, store_of, host_of};
 ghost use Rattle.dhcpcd.specs.Replays.{fuse_of, pick_of, store_fails, store_left};
 
 use daemon::Devices;
 use replay_text::{CrashLine, FileLine, LifeLines, TurnLine};
 use script_model::{CrashKind, FailDevice, FailLine};
 use std::alloc::Global;
-use world::{HostRow, NoMemory};
-use world_mem::{MemFile, MemHooks, MemHost, MemLink, MemStore, MemWake, Pick};
+use world::{Hooks, HostRow, NoMemory, Poll};
+use world_mem::{MemFile, MemHooks, MemHost, MemLink, MemPoll, MemStore, MemWake, Pick};
 
 /// The devices of a life.
 pub type Memory = Devices<MemLink, MemStore, MemHost, MemHooks>;
@@ -82,11 +83,41 @@ fn host(alloc: Global, rows: Vec<HostRow>, fails: &[FailLine]) -> Result<MemHost
     MemHost::new(alloc, rows, calls)
 }
 
+/// What a poll is to answer.
+fn answer_of(poll: Option<Poll>) -> MemPoll
+    ensures { poll_of result ≡ poll }
+{
+    match poll {
+        Some(Poll::Running) => MemPoll::Run,
+        Some(Poll::Ended(status)) => MemPoll::Ended(status),
+        None => MemPoll::Failed,
+    }
+}
+
+fn answers_of(alloc: Global, polls: &[Option<Poll>]) -> Result<Vec<MemPoll>, NoMemory>
+    ensures { IfOk result (λ answers. map poll_of answers.items ≡ polls.now) }
+{
+    let mut answers = Vec::with_capacity(alloc, polls.len())?;
+    for poll in polls {
+        answers.push(answer_of(*poll))?;
+    }
+    Ok(answers)
+}
+
+fn hooks(alloc: Global, polls: &[Option<Poll>], fails: &[FailLine]) -> Result<MemHooks, NoMemory>
+    ensures { IfOk result (λ hooks. hooks ≡ hooks_of polls.now fails.now) }
+{
+    let starts = numbers_of(alloc, FailDevice::Hooks, fails)?;
+    let answers = answers_of(alloc, polls)?;
+    Ok(MemHooks::new(alloc, answers, starts))
+}
+
 /// What a script's first life finds.
 pub fn at_first(
     alloc: Global,
     rows: Vec<HostRow>,
     files: Vec<FileLine>,
+    polls: &[Option<Poll>],
     fails: &[FailLine],
 ) -> Result<Between, NoMemory>
     requires rows { All IsRow rows.items }
@@ -94,14 +125,14 @@ pub fn at_first(
     ensures counts { IfOk result (λ between. (between.lives ≡ 0) × (between.sent ≡ 0)) }
     ensures store { IfOk result (λ between. between.store ≡ store_of (map content.file_of files.items) fails.now) }
     ensures host { IfOk result (λ between. between.host ≡ host_of rows.items fails.now) }
+    ensures hooks { IfOk result (λ between. between.hooks ≡ hooks_of polls.now fails.now) }
 {
-    let starts = numbers_of(alloc, FailDevice::Hooks, fails)?;
     Ok(Between {
         lives: 0,
         sent: 0,
         store: store(alloc, files, fails)?,
         host: host(alloc, rows, fails)?,
-        hooks: MemHooks::new(alloc, Vec::new(alloc), starts),
+        hooks: hooks(alloc, polls, fails)?,
     })
 }
 
@@ -143,6 +174,7 @@ pub fn devices(
     ensures host { IfOk result (λ live. live.host ≡ between.host) }
     ensures told { IfOk result (λ live. live.store.told ≡ between.store.told) }
     ensures failing { IfOk result (λ live. live.store.failing ≡ store_fails between.store.failing.numbers (length between.store.told.calls) (content.life_of life).crash) }
+    ensures hooks { IfOk result (λ live. live.hooks ≡ between.hooks) }
 {
     let Between {
         lives: _,
@@ -180,19 +212,22 @@ fn left_store(store: MemStore, crash: Option<CrashLine>) -> Result<MemStore, NoM
     }
 }
 
-/// What the life with this number leaves to the next one.
+/// What the life with this number leaves to the next one. A hook's child that runs is forgotten.
+#[tactic(auto, using(crate::proofs::Forgetting::forgets))]
 pub fn left(number: u64, live: Memory, crash: Option<CrashLine>) -> Result<Between, NoMemory>
     ensures counts { IfOk result (λ next. (next.lives ≡ number) × (next.sent ≡ live.link.told.sends)) }
     ensures host { IfOk result (λ next. next.host ≡ live.host) }
     ensures told { IfOk result (λ next. next.store.told ≡ store_left (option_map content.crash_of crash) live.store.told) }
     ensures failing { IfOk result (λ next. next.store.failing ≡ live.store.failing) }
+    ensures hooks { IfOk result (λ next. next.hooks ≡ forgotten live.hooks) }
 {
     let Memory {
         link,
         store,
         host,
-        hooks,
+        mut hooks,
     } = live;
+    hooks.abandon();
     Ok(Between {
         lives: number,
         sent: link.sent(),

@@ -12,7 +12,7 @@ pub enum Status {
     Done,
     /// The words are of no form.
     Usage,
-    /// The input is no script, or asks for what isn't built.
+    /// The input is no script.
     Script(ScriptFault),
     /// The configuration has a bad line, counted within it.
     Conf(ConfFault),

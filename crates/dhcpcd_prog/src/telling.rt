@@ -21,7 +21,7 @@ The words `live PORT PEER DIR SCRIPT IFACE..` aren't built yet.
 exit status, with a line on standard error for each but 0:
    0  all was read and written
    2  the words are of no form
-   3  the input is no script, or asks for what isn't built; its line is told
+   3  the input is no script; its first bad line is told
    4  the configuration has a bad line; it is told, counted within it
    5  standard input can't be read
    6  standard output can't be written

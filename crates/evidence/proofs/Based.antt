@@ -4,8 +4,10 @@ use Rattle.std.specs.Prelude.{if◌then◌else◌}
 use Rattle.std.specs.List.{AllByRecursion, Contains}
 use Rattle.std.proofs.lemmas.List.Elements.{All-contains_itself, recursion_from_All}
 use Rattle.net_types.proofs.AllLaws.{all_both, all_mapped}
+use Rattle.net_types.proofs.CaseLaws.{split}
 use Rattle.net_types.specs.declared.address.Net.{Net}
 use Rattle.net_types.specs.declared.address.Net.TheVariants as Family
+use Rattle.net_types.specs.declared.interface.IfIndex.{IfIndex}
 use Rattle.net_types.specs.declared.interface.IfSpec.{IfSpec}
 use Rattle.net_types.specs.declared.address.Mac.{Mac}
 use Rattle.net_types.specs.Marks.{AreBytes}
@@ -35,14 +37,18 @@ use Rattle.turn_model.specs.Turns.{Life}
 use Rattle.turn_model.specs.Lives.{OpeningMet, Met, life_after}
 use Rattle.evidence_words.specs.Entries.{Entry, entry_of, opening_entry, shown_after, shown_of}
 use Rattle.evidence_words.specs.Inputs.{Site}
+use Rattle.evidence_words.specs.IfaceLives.{now_in}
 use Rattle.evidence_words.proofs.Offers.{number_of}
 use Rattle.local_evidence.specs.LinkLocalBasis.{LinkLocalBasis, StrongBasis}
 use Rattle.local_evidence.proofs.Weakening.{local_weaker}
+use Rattle.lease6_evidence.specs.HeldItems.{ItemHasBasis}
+use Rattle.lease6_evidence.specs.ItemBasis.{AddressBasis}
+use Rattle.evidence.specs.ShareBasis.{ShareBasis}
 use Rattle.evidence.specs.StaticBasis.{StaticBasis}
-use Rattle.evidence.specs.Laws.{AreOctets, Basis, BasisWithoutDhcp, LeasedBasis, LeasedBasis6, StrongestBasis, IsLife, AddressesHave, AddressesHaveBasis, OthersHaveBasis, site_of}
+use Rattle.evidence.specs.Laws.{AreOctets, Basis, BasisWithoutDhcp, LeasedBasis, LeasedBasis6, StrongestBasis, HasBasis, HasBasisOf, HasBasisWithoutDhcp, HasShareBasis, IsShared, IsLife, AddressesHave, AddressesHaveBasis, OthersHaveBasis, site_of}
 use Rattle.evidence_words.proofs.Carrying.{Relation, IsCarried}
 use Rattle.evidence.proofs.Turns.{site_by, KeptOne, KeptAfter, KeepsRelation, keeps_carried, turns_kept, own_stays, opening_kept, opened_own}
-use Rattle.evidence.proofs.Rows.{Giver, wanted_giver, iface_basis}
+use Rattle.evidence.proofs.Rows.{Delegates, Giver, wanted_giver, iface_basis}
 
 -- what holds of each managed interface holds of that of each interface
 pub each_managed : (P : Managed → Type 0) (ifaces : List Iface) (managed : List Managed) → managed_in ifaces ≡ managed → AllByRecursion P managed
@@ -68,16 +74,40 @@ pub record AreBased (Carries : Relation) : Type 1 where
       → HearsOctets past → Carries site clean iface past → (lease : LeaseContent) → held_of iface.dhcp4 ≡ Some lease
       → LeasedBasis site (Family.V4 lease.net) past
 
--- Each item of an interface's held DHCPv6 lease that is an address has its basis.
+-- Each item of an interface's held DHCPv6 lease has its basis.
 abbrev pub ItemsHave : List Managed → List IfSpec → OpeningMet → List Met → Iface → Type 0
 ItemsHave managed specs opening mets iface = (lease : Lease6Content) (ia : IaLeaseContent) (item : Item6) → dhcp6.held_of iface.dhcp6 ≡ Some lease
-    → Contains lease.ias ia → Contains ia.items item → ia.kind ≡ Na
-    → LeasedBasis6 (site_of managed specs opening iface.managed) (Family.V6 item.net) (shown_of opening mets)
+    → Contains lease.ias ia → Contains ia.items item
+    → ItemHasBasis (site_of managed specs opening iface.managed) ia item (shown_of opening mets)
 
 -- What items owe: this holds in every life.
 abbrev pub ItemsAreBased : Type 0
 ItemsAreBased = (managed : List Managed) (specs : List IfSpec) (opening : OpeningMet) (mets : List Met) → IsLife managed specs opening mets → AreManaged managed → AreOctets mets
     → AllByRecursion (ItemsHave managed specs opening mets) (life_after opening.life mets).client.ifaces
+
+-- an item that is an address
+address_basis : (site : Site) (ia : IaLeaseContent) (item : Item6) (past : List Entry) → ia.kind ≡ Na → ItemHasBasis site ia item past
+    → AddressBasis site (Family.V6 item.net) (now_in past) past
+address_basis site ia item past address h =
+    record { ask = h.ask; asked = h.asked; is_address = sym h.kind ∙ address; item = item.net; is_item = refl; basis = h.basis }
+
+-- one that is a prefix, with a share
+share_basis : (site : Site) (index : IfIndex) (net : Net) (iface : Iface) (past : List Entry) → iface.managed ≡ site.managed
+    → (d : Delegates index net iface) → ItemHasBasis site d.ia d.item past → ShareBasis site index net past
+share_basis site index net iface past same d h = record {
+  ask = h.ask;
+  asked = h.asked;
+  is_prefix = sym h.kind ∙ d.is_prefix;
+  prefix = d.item.net;
+  basis = h.basis;
+  share = d.share;
+  configured = subst (λ (m : Managed). Contains m.conf.dhcp6.shares d.share) same d.configured;
+  of_the_prefixes = d.of_the_prefixes ∙ h.iaid;
+  is_for = d.is_for;
+  subnet = d.subnet;
+  is_subnet = d.is_subnet;
+  gives = d.gives;
+}
 
 -- the DUID of the host is one where an interface is managed
 pub duid_fits : (managed : List Managed) (m : Managed) (read : Option Reading) → Contains managed m → AreManaged managed → IsDuid (host_duid managed read)
@@ -142,7 +172,19 @@ module _ (managed : List Managed) (specs : List IfSpec) (opening : OpeningMet) (
   without_lease site net Without Without6 it six (inr (inr (inl leased))) = absurd (leased it)
   without_lease site net Without Without6 it six (inr (inr (inr leased))) = absurd (leased six)
 
-  others_have : AddressesHave BasisWithoutDhcp managed specs opening mets
+  -- an interface that holds a DHCPv6 lease runs DHCPv6
+  shared : (index : IfIndex) (net : Net) (iface : Iface) → Other iface → Delegates index net iface → IsShared managed index
+  shared index net iface other d = record {
+    upstream = iface.managed;
+    among = other.among;
+    runs = split (runs_dhcp6 iface.managed.conf) (λ runs. runs)
+        (λ none. absurd (off_holds6 iface.dhcp6 d.lease (other.keeps.carries.sane.without6 none) d.held));
+    share = d.share;
+    configured = d.configured;
+    is_for = d.is_for;
+  }
+
+  others_have : AddressesHave (HasBasisWithoutDhcp managed specs opening mets) opening mets
   others_have index net has =
       let g : Giver Other (Addr index net) =
       wanted_giver Other (Addr index net) life.client (all_both _ _ Other (λ iface k c. record { keeps = k; among = c }) life.client.ifaces kept among) has in
@@ -150,12 +192,16 @@ module _ (managed : List Managed) (specs : List IfSpec) (opening : OpeningMet) (
       (start (number_of g.iface.managed)) duid _ g.iface shown g.is_such.keeps.carries
       (λ lease held none. off_holds g.iface.dhcp4 lease (g.is_such.keeps.carries.sane.without none) held)
       (λ lease ia item held among among_items address none. off_holds6 g.iface.dhcp6 lease (g.is_such.keeps.carries.sane.without6 none) held) g.gives in
-      record {
-        holder = g.iface.managed;
-        among = g.is_such.among;
-        is_here = found.0;
-        basis = at_life BasisWithoutDhcp net g.iface (λ none none6. without_lease (site_in life.client.own g.iface) net _ _ none none6 found.1);
-      }
+      elim found [
+        | inl here ↦
+            inl (record {
+              holder = g.iface.managed;
+              among = g.is_such.among;
+              is_here = here.0;
+              basis = at_life BasisWithoutDhcp net g.iface (λ none none6. without_lease (site_in life.client.own g.iface) net _ _ none none6 here.1);
+            })
+        | inr delegates ↦ inr (shared index net g.iface g.is_such delegates)
+      ]
 
   -- ---- with leases
 
@@ -178,8 +224,11 @@ module _ (managed : List Managed) (specs : List IfSpec) (opening : OpeningMet) (
         (all_both _ _ (λ iface. Of Carries leases.carried iface × FitsManaged iface.managed) (λ iface k f. (k, f)) life.client.ifaces
         (after_life Carries leases.carried).kept (each_managed FitsManaged life.client.ifaces managed (after_life Carries leases.carried).of_managed fit))
 
+    abbrev HasStrongest : IfIndex → Net → Type 0
+    HasStrongest index net = HasBasisOf StrongestBasis managed specs opening mets index net ⊎ HasShareBasis managed specs opening mets index net
+
     -- a link-local address was undisturbed from the turn of its first probe on
-    have_strong : AddressesHave StrongestBasis managed specs opening mets
+    have_strong : AddressesHave HasStrongest opening mets
     have_strong index net has =
         let g : Giver Both (Addr index net) = wanted_giver Both (Addr index net) life.client both has in
         let site : Site = site_in life.client.own g.iface in
@@ -190,28 +239,45 @@ module _ (managed : List Managed) (specs : List IfSpec) (opening : OpeningMet) (
         g.iface shown g.is_such.other.keeps.carries (leases.based site _ g.iface shown refl g.is_such.fits fits_duid heard g.is_such.leased.carries)
         (λ lease ia item held among among_items address.
         subst (λ (own : List Mac). LeasedBasis6 (site_in own g.iface) (Family.V6 item.net) shown) (sym same_own)
-        (g.is_such.items_so lease ia item held among among_items address)) g.gives in
-        record {
-          holder = g.iface.managed;
-          among = g.is_such.other.among;
-          is_here = found.0;
-          basis = at_life StrongestBasis net g.iface found.1;
-        }
+        (address_basis (site_of managed specs opening g.iface.managed) ia item shown address
+        (g.is_such.items_so lease ia item held among among_items))) g.gives in
+        elim found [
+          | inl here ↦
+              inl (record {
+                holder = g.iface.managed;
+                among = g.is_such.other.among;
+                is_here = here.0;
+                basis = at_life StrongestBasis net g.iface here.1;
+              })
+          | inr d ↦
+              inr (record {
+                upstream = g.iface.managed;
+                among = g.is_such.other.among;
+                basis = share_basis (site_of managed specs opening g.iface.managed) index net g.iface shown refl d
+                    (g.is_such.items_so d.lease d.ia d.item d.held d.among_ias d.among_items);
+              })
+        ]
 
 weaker : (site : Site) (net : Net) (past : List Entry) → StrongestBasis site net past → Basis site net past
 weaker site net past (inl line) = inl line
 weaker site net past (inr (inl choice)) = inr (inl (local_weaker site net past choice))
 weaker site net past (inr (inr leased)) = inr (inr leased)
 
-pub have_basis : (Carries : Relation) → AreBased Carries → ItemsAreBased → AddressesHaveBasis
-have_basis Carries leases items managed specs opening mets is fit octets index net has =
-    let strong = have_strong managed specs opening mets is Carries leases items fit octets index net has in
-    record {
+weaker_here : (managed : List Managed) (specs : List IfSpec) (opening : OpeningMet) (mets : List Met) (index : IfIndex) (net : Net)
+    → (HasBasisOf StrongestBasis managed specs opening mets index net ⊎ HasShareBasis managed specs opening mets index net)
+    → HasBasis managed specs opening mets index net
+weaker_here managed specs opening mets index net (inl strong) =
+    inl (record {
       holder = strong.holder;
       among = strong.among;
       is_here = strong.is_here;
       basis = weaker (site_of managed specs opening strong.holder) net (shown_of opening mets) strong.basis;
-    }
+    })
+weaker_here managed specs opening mets index net (inr share) = inr share
+
+pub have_basis : (Carries : Relation) → AreBased Carries → ItemsAreBased → AddressesHaveBasis
+have_basis Carries leases items managed specs opening mets is fit octets index net has =
+    weaker_here managed specs opening mets index net (have_strong managed specs opening mets is Carries leases items fit octets index net has)
 
 pub others_have_basis : OthersHaveBasis
 others_have_basis managed specs opening mets is = others_have managed specs opening mets is

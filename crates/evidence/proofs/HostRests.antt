@@ -84,11 +84,12 @@ module _ (Carries : Relation) (leases : AreBased Carries) (items : ItemsAreBased
       (subst (λ (life : Life). has_row (rows_of life.client) (Addr index net) ≡ true) same wanted)
 
 pub opening_rests : (Carries : Relation) → AreBased Carries → ItemsAreBased → OpeningRests
-opening_rests Carries leases items managed specs world fit numbered in_order none =
-    rest Carries leases items managed specs world [] (running_opened managed specs world) fit numbered tt refl (opening_holds managed specs world in_order none).as_wanted
+opening_rests Carries leases items managed specs world fit shares numbered in_order none =
+    rest Carries leases items managed specs world [] (running_opened managed specs world) fit numbered tt refl
+    (opening_holds managed specs world shares in_order none).as_wanted
 
 pub turns_rest : (Carries : Relation) → AreBased Carries → ItemsAreBased → TurnsRest
-turns_rest Carries leases items managed specs world earlier given fit numbered octets in_order none =
+turns_rest Carries leases items managed specs world earlier given fit shares numbered octets in_order none =
     rest Carries leases items managed specs world (earlier ++ given ∷ []) (running_turned managed (life_run managed specs world earlier) given) fit numbered octets
     (one_more managed earlier (running_opened managed specs world) given)
-    (turn_in_life managed specs world in_order earlier given none).as_wanted
+    (turn_in_life managed specs world shares in_order earlier given none).as_wanted

@@ -1,10 +1,9 @@
--- Each item of a held DHCPv6 lease that is an address has its basis, in every life.
+-- Each item of a held DHCPv6 lease has its basis, in every life.
 use Rattle.std.proofs.Common.{◌≡◌, ℕ, ◌≤◌, Bool, List, [], ◌∷◌, ◌∙◌, subst}
 use Rattle.std.specs.Prelude.{map}
 use Rattle.std.specs.List.{AllByRecursion, Contains}
 use Rattle.net_types.proofs.AllLaws.{all_both, all_map}
 use Rattle.net_types.specs.declared.address.Mac.{Mac}
-use Rattle.net_types.specs.declared.address.Net.TheVariants as Family
 use Rattle.net_types.specs.declared.interface.IfSpec.{IfSpec}
 use Rattle.settings.specs.declared.interfaces.Managed.{Managed}
 use Rattle.settings.specs.Fitting.{AreManaged, FitsManaged}
@@ -15,7 +14,8 @@ use Rattle.turn_model.specs.Turns.{Life}
 use Rattle.evidence_words.specs.Entries.{Entry, opening_entry, shown_of}
 use Rattle.evidence_words.specs.HostDuids.{duid_read, duid_shown}
 use Rattle.evidence_words.proofs.Offers.{number_of}
-use Rattle.evidence.specs.Laws.{AreOctets, IsLife, LeasedBasis6}
+use Rattle.lease6_evidence.specs.HeldItems.{ItemHasBasis}
+use Rattle.evidence.specs.Laws.{AreOctets, IsLife}
 use Rattle.evidence.proofs.Based.{HearsOctets, ItemsAreBased, ItemsHave, among, duid_fits, each_managed, none_octets, shown_octets}
 use Rattle.evidence.proofs.Lives.{LivedRelation, lived_carried, items_based}
 use Rattle.evidence.proofs.Turns.{AreCounted, KeptAfter, KeptOne, opened_own, opening_kept, own_stays, site_by, turns_kept}
@@ -55,10 +55,10 @@ module _ (managed : List Managed) (specs : List IfSpec) (opening : OpeningMet) (
   same_own = own_stays managed mets opening.life is.turns ∙ opened_own managed specs opening is.opens
 
   one_has : (iface : Iface) → Lives iface → FitsManaged iface.managed × Contains managed iface.managed → ItemsHave managed specs opening mets iface
-  one_has iface lives here lease ia item held contains contains_item address =
-      subst (λ (own : List Mac). LeasedBasis6 (site_by own (start (number_of iface.managed)) duid iface.managed) (Family.V6 item.net) shown) same_own
+  one_has iface lives here lease ia item held contains contains_item =
+      subst (λ (own : List Mac). ItemHasBasis (site_by own (start (number_of iface.managed)) duid iface.managed) ia item shown) same_own
       (items_based Counted (site_by life.client.own (start (number_of iface.managed)) duid iface.managed) _ iface shown lives.carries counted here.0
-      (duid_fits managed iface.managed (duid_read opening.calls) here.1 fit) heard lease ia item held contains contains_item address)
+      (duid_fits managed iface.managed (duid_read opening.calls) here.1 fit) heard lease ia item held contains contains_item)
 
   all_have : AllByRecursion (ItemsHave managed specs opening mets) life.client.ifaces
   all_have =

@@ -51,7 +51,7 @@ use Rattle.client_model.specs.declared.steps.TimedMachine.TheVariants.{Dhcp4, Li
 use Rattle.client_model.specs.IfaceSteps.{IfaceStep, index_of, silent, then_step}
 use Rattle.client_model.specs.KeptLeases.{Beginning}
 use Rattle.client_model.specs.LocalSteps.{armed, local_hears}
-use Rattle.client_model.specs.Interfaces.{carried, carrier_comes, carrier_goes, machine_ticked, machines_rebind, halted, released, resting, restarted, ticked, told_at_stop, unsent_in}
+use Rattle.client_model.specs.Interfaces.{carried, carrier_comes, carrier_goes, carrier_at_opening, machine_ticked, machines_rebind, halted, released, resting, restarted, ticked, told_at_stop, unsent_in}
 use Rattle.client_model.specs.IfaceTurns.{arp_heard, hears_either, hears_message, hears_message6, hears_packet, input_step, taken}
 use Rattle.evidence_words.specs.Entries.{Entry, Offer, offers_on}
 use Rattle.evidence_words.specs.Inputs.{Site, index_at, arp_on, carrier_after, has_carrier, is_stop, is_stopped}
@@ -587,7 +587,7 @@ begins_quiet turn (Some terms) =
 
 -- after what an opening shows, which is a turn without input
 pub opens_keeps : (own : List Mac) (clean : Type 0) (at salt : ℕ) → at < 10 ^ 15 → (offers : List Offer) (b : Beginning) → IfSome b.kept4 FitsLease → (up : Bool)
-    → Keeps (at_site own up b) clean (if up then carrier_comes at salt (resting b) else silent (resting b)).iface (entry at Quiet [] offers ∷ [])
+    → Keeps (at_site own up b) clean (carrier_at_opening up at salt (resting b)).iface (entry at Quiet [] offers ∷ [])
 opens_keeps own clean at salt early offers b within true =
     then6_keeps site clean turns second (carrier_turned carrier6.Up at salt second.dhcp6)
     (arms_keeps site clean at salt early [] offers [] turns first.iface (on_first (runs_dhcp4 m.conf)) (begun (runs_dhcp4 m.conf) refl))

@@ -6,7 +6,6 @@ use Rattle.std.specs.Prelude.{IfSome, map, ◌==◌, if◌then◌else◌}
 use Rattle.std.specs.Int.{bit_at}
 use Rattle.std.specs.List.{AllByRecursion, Contains}
 use Rattle.net_types.specs.declared.address.Mac.{Mac}
-use Rattle.net_types.specs.declared.address.Net.TheVariants as Family
 use Rattle.net_types.specs.declared.interface.IfSpec.{IfSpec}
 use Rattle.net_types.specs.Marks.{AreBytes}
 use Rattle.lease_text.specs.Bounds.{FitsLease}
@@ -15,7 +14,6 @@ use Rattle.lease6_text.specs.declared.lease.Item6.{Item6}
 use Rattle.lease6_text.specs.Leases.{IaLeaseContent, Lease6Content}
 use Rattle.v4_message.specs.Requests.{AskContent}
 use Rattle.v6_client.specs.Clients as dhcp6
-use Rattle.v6_options.specs.declared.ia.IaKind.TheVariants.{Na}
 use Rattle.world.specs.declared.wakes.Event.TheVariants.{Quiet}
 use Rattle.settings.specs.declared.interfaces.Managed.{Managed}
 use Rattle.settings.specs.Fitting.{FitsManaged}
@@ -28,12 +26,11 @@ use Rattle.client_model.specs.IfaceSteps.{IfaceStep, index_of}
 use Rattle.client_model.specs.KeptLeases.{Beginning}
 use Rattle.client_model.specs.Messages.{Said}
 use Rattle.evidence_words.specs.Entries.{Entry, Offer, offers_on}
-use Rattle.evidence_words.specs.IfaceLives.{Opening, Met, site_of, shown, iface_after, IsSaid, IsLived, failed_last, now_in}
+use Rattle.evidence_words.specs.IfaceLives.{Opening, Met, site_of, shown, iface_after, IsSaid, IsLived, failed_last}
 use Rattle.evidence_words.specs.Inputs.{Site, offers_at}
 use Rattle.evidence_words.proofs.Carrying.{Relation, Shows, IsCarried, at_site, entry, opened_when, turned_by}
 use Rattle.evidence_words.proofs.Offers.{Offered, refused_among}
 use Rattle.lease6_evidence.specs.HeldItems.{ItemHasBasis}
-use Rattle.lease6_evidence.specs.ItemBasis.{AddressBasis}
 use Rattle.lease6_evidence.proofs.FourFrames.{held_items_have_basis}
 
 -- ---- the frames that are offered are those of what was said
@@ -152,10 +149,6 @@ module _ (Counted : Type 0) where
 -- ---- its items
 
 module _ (site : Site) (clean : Type 0) (f : Iface) (past : List Entry) (l : LivedSo site clean f past) where
-  address_of : (ia : IaLeaseContent) (item : Item6) → ia.kind ≡ Na → ItemHasBasis site ia item past → AddressBasis site (Family.V6 item.net) (now_in past) past
-  address_of ia item address h =
-      record { ask = h.ask; asked = h.asked; is_address = sym h.kind ∙ address; item = item.net; is_item = refl; basis = h.basis }
-
   item_basis : (lease : Lease6Content) (ia : IaLeaseContent) (item : Item6) → dhcp6.held_of f.dhcp6 ≡ Some lease → Contains lease.ias ia → Contains ia.items item
       → ItemHasBasis site ia item past
   item_basis lease ia item held among among_items =
@@ -166,8 +159,7 @@ module _ (site : Site) (clean : Type 0) (f : Iface) (past : List Entry) (l : Liv
 
 pub items_based : (Counted : Type 0) (site : Site) (clean : Type 0) (f : Iface) (past : List Entry) → LivedRelation Counted site clean f past → Counted
     → FitsManaged site.managed → IsDuid site.duid → HearBytes past
-    → (lease : Lease6Content) (ia : IaLeaseContent) (item : Item6) → dhcp6.held_of f.dhcp6 ≡ Some lease → Contains lease.ias ia → Contains ia.items item → ia.kind ≡ Na
-    → AddressBasis site (Family.V6 item.net) (now_in past) past
-items_based Counted site clean f past carries counted fits is octets lease ia item held among among_items address =
-    let l : LivedSo site clean f past = carries counted fits is octets in
-    address_of site clean f past l ia item address (item_basis site clean f past l lease ia item held among among_items)
+    → (lease : Lease6Content) (ia : IaLeaseContent) (item : Item6) → dhcp6.held_of f.dhcp6 ≡ Some lease → Contains lease.ias ia → Contains ia.items item
+    → ItemHasBasis site ia item past
+items_based Counted site clean f past carries counted fits is octets lease ia item held among among_items =
+    item_basis site clean f past (carries counted fits is octets) lease ia item held among among_items

@@ -12,7 +12,7 @@ use Rattle.world.specs.LinkCalls.{Given}
 use Rattle.world.specs.RowOrder.{has_row}
 use Rattle.settings.specs.declared.interfaces.Managed.{Managed}
 use Rattle.settings.specs.Fitting.{AreManaged}
-use Rattle.settings.specs.ManagedRows.{is_managed}
+use Rattle.settings.specs.ManagedRows.{SharesAreManaged, is_managed}
 use Rattle.host_model.specs.HostTable.{InRowOrder, NoneFails, unknown_table}
 use Rattle.client_model.specs.Clients.{rows_of}
 use Rattle.device_calls.specs.Worlds.{World}
@@ -34,14 +34,14 @@ RestOnEvidence managed specs opening mets rows = (index : IfIndex) (net : Net) �
 
 -- so after an opening in which no host call failed
 abbrev pub OpeningRests : Type 0
-OpeningRests = (managed : List Managed) (specs : List IfSpec) (world : World) → AreManaged managed → AreNumbered managed → InRowOrder world.host.told.rows
+OpeningRests = (managed : List Managed) (specs : List IfSpec) (world : World) → AreManaged managed → SharesAreManaged managed → AreNumbered managed → InRowOrder world.host.told.rows
     → let after = running_opened managed specs world in
     NoneFails managed world.host.failing (rows_of after.life.client) (unknown_table world.host.told)
     → RestOnEvidence managed specs (opening_of managed specs world) [] after.world.host.told.rows
 
 -- and after each turn in which none failed
 abbrev pub TurnsRest : Type 0
-TurnsRest = (managed : List Managed) (specs : List IfSpec) (world : World) (earlier : List Given) (given : Given) → AreManaged managed → AreNumbered managed
+TurnsRest = (managed : List Managed) (specs : List IfSpec) (world : World) (earlier : List Given) (given : Given) → AreManaged managed → SharesAreManaged managed → AreNumbered managed
     → AllByRecursion (λ (g : Given). AreBytes g.bytes) (earlier ++ given ∷ []) → InRowOrder world.host.told.rows
     → let before = life_run managed specs world earlier in
     let after = running_turned managed before given in

@@ -7,6 +7,7 @@ use Rattle.net_types.specs.declared.interface.IfIndex.{IfIndex}
 use Rattle.net_types.specs.Marks.{AreBytes}
 use Rattle.world.specs.declared.rows.HostRow.TheVariants.{Addr}
 use Rattle.world.specs.RowOrder.{has_row}
+use Rattle.settings.specs.declared.dhcp6_conf.ShareConf.{ShareConf}
 use Rattle.settings.specs.declared.interfaces.Managed.{Managed}
 use Rattle.settings.specs.Fitting.{AreManaged}
 use Rattle.script_model.specs.IfaceSets.{is_up}
@@ -22,6 +23,7 @@ use Rattle.evidence_words.specs.HostDuids.{duid_shown}
 use Rattle.evidence_words.specs.Inputs.{Site}
 use Rattle.evidence_words.specs.IfaceLives.{now_in}
 use Rattle.evidence.specs.StaticBasis.{StaticBasis}
+use Rattle.evidence.specs.ShareBasis.{ShareBasis}
 use Rattle.local_evidence.specs.LinkLocalBasis.{LinkLocalBasis, StrongBasis}
 use Rattle.lease_evidence.specs.LeaseBasis.{LeaseBasis}
 use Rattle.lease6_evidence.specs.ItemBasis.{AddressBasis}
@@ -44,7 +46,7 @@ abbrev pub StrongestBasis : Site → Net → List Entry → Type 0
 StrongestBasis site net past =
     StaticBasis site net past ⊎ (StrongBasis site net past ⊎ (LeasedBasis site net past ⊎ LeasedBasis6 site net past))
 
--- where neither DHCPv4 nor DHCPv6 runs there is no lease
+-- where neither DHCPv4 nor DHCPv6 runs the interface has no lease
 abbrev pub BasisWithoutDhcp : Site → Net → List Entry → Type 0
 BasisWithoutDhcp site net past =
     runs_dhcp4 site.managed.conf ≡ false → runs_dhcp6 site.managed.conf ≡ false → StaticBasis site net past ⊎ LinkLocalBasis site net past
@@ -66,8 +68,30 @@ pub record HasBasisOf (Kind : Site → Net → List Entry → Type 0) (managed :
   pub is_here : index ≡ holder.spec.index
   pub basis : Kind (site_of managed specs opening holder) net (shown_of opening mets)
 
+-- The address is one of a prefix that is delegated to a managed interface, and has its basis there.
+pub record HasShareBasis (managed : List Managed) (specs : List IfSpec) (opening : OpeningMet) (mets : List Met) (index : IfIndex) (net : Net) : Type 0 where
+  pub upstream : Managed
+  pub among : Contains managed upstream
+  pub basis : ShareBasis (site_of managed specs opening upstream) index net (shown_of opening mets)
+
+-- It has its basis on the interface itself, or on the one upstream.
 abbrev pub HasBasis : List Managed → List IfSpec → OpeningMet → List Met → IfIndex → Net → Type 0
-HasBasis managed specs opening mets index net = HasBasisOf Basis managed specs opening mets index net
+HasBasis managed specs opening mets index net =
+    HasBasisOf Basis managed specs opening mets index net ⊎ HasShareBasis managed specs opening mets index net
+
+-- A managed interface that runs DHCPv6 has a share for the interface of this index.
+pub record IsShared (managed : List Managed) (index : IfIndex) : Type 0 where
+  pub upstream : Managed
+  pub among : Contains managed upstream
+  pub runs : runs_dhcp6 upstream.conf ≡ true
+  pub share : ShareConf
+  pub configured : Contains upstream.conf.dhcp6.shares share
+  pub is_for : index ≡ share.outlet.iface
+
+-- the same, where nothing is known of the frames that came in
+abbrev pub HasBasisWithoutDhcp : List Managed → List IfSpec → OpeningMet → List Met → IfIndex → Net → Type 0
+HasBasisWithoutDhcp managed specs opening mets index net =
+    HasBasisOf BasisWithoutDhcp managed specs opening mets index net ⊎ IsShared managed index
 
 -- no two interfaces have one number
 abbrev pub AreNumbered : List Managed → Type 0
@@ -82,11 +106,11 @@ AreMade managed from (met ∷ mets) = Makes (turn_asks managed from met.wake met
 abbrev pub AreOctets : List Met → Type 0
 AreOctets mets = AllByRecursion (λ met. AreBytes met.bytes) mets
 
--- Each address that the client wants after an opening and some turns has a basis of this kind in them.
-abbrev pub AddressesHave : (Site → Net → List Entry → Type 0) → List Managed → List IfSpec → OpeningMet → List Met → Type 0
-AddressesHave Kind managed specs opening mets = (index : IfIndex) (net : Net)
+-- Each address that the client wants after an opening and some turns is such a one.
+abbrev pub AddressesHave : (IfIndex → Net → Type 0) → OpeningMet → List Met → Type 0
+AddressesHave Such opening mets = (index : IfIndex) (net : Net)
     → has_row (rows_of (life_after opening.life mets).client) (Addr index net) ≡ true
-    → HasBasisOf Kind managed specs opening mets index net
+    → Such index net
 
 -- a life of some turns
 pub record IsLife (managed : List Managed) (specs : List IfSpec) (opening : OpeningMet) (mets : List Met) : Type 0 where
@@ -96,12 +120,12 @@ pub record IsLife (managed : List Managed) (specs : List IfSpec) (opening : Open
 
 abbrev pub AddressesHaveBasis : Type 0
 AddressesHaveBasis = (managed : List Managed) (specs : List IfSpec) (opening : OpeningMet) (mets : List Met)
-    → IsLife managed specs opening mets → AreManaged managed → AreOctets mets → AddressesHave Basis managed specs opening mets
+    → IsLife managed specs opening mets → AreManaged managed → AreOctets mets → AddressesHave (HasBasis managed specs opening mets) opening mets
 
 -- This needs nothing of the settings, nor of the frames that came in.
 abbrev pub OthersHaveBasis : Type 0
 OthersHaveBasis = (managed : List Managed) (specs : List IfSpec) (opening : OpeningMet) (mets : List Met)
-    → IsLife managed specs opening mets → AddressesHave BasisWithoutDhcp managed specs opening mets
+    → IsLife managed specs opening mets → AddressesHave (HasBasisWithoutDhcp managed specs opening mets) opening mets
 
 -- Interfaces that count from a number on have unlike numbers.
 abbrev pub CountedAreNumbered : Type 0

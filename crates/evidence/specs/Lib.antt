@@ -1,4 +1,5 @@
 pub mod StaticBasis
+pub mod ShareBasis
 pub mod Laws
 pub mod HeldAddresses
 pub mod SevenTurns

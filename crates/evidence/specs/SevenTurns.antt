@@ -9,6 +9,7 @@ use Rattle.world.specs.declared.wakes.Event.{Event}
 use Rattle.world.specs.declared.wakes.Event.TheVariants.{Frame, Quiet}
 use Rattle.settings.specs.declared.interfaces.Managed.{Managed}
 use Rattle.settings.specs.Dhcp4Settings.{Hardware}
+use Rattle.settings.specs.HookSettings.{Nothing}
 use Rattle.world.specs.LinkCalls.{Given}
 use Rattle.world.specs.StoreCalls.{store_holding}
 use Rattle.world.specs.StoreFails.{never_fails}
@@ -54,9 +55,12 @@ interface = record {
     reboot = 5;
     metric = None;
     address = None;
+    address6 = None;
     router = None;
     dhcp4 = record { host = []; vendor = []; identifier = Hardware; asked = []; refused = []; required = []; blacklist = [] };
-    dhcp6 = record { rapid = false; ias = [] };
+    dhcp6 = record { rapid = false; ias = []; shares = [] };
+    resolver = record { servers = []; search = []; domain = [] };
+    hooks = record { script = Nothing; env = [] };
   };
 }
 
@@ -75,12 +79,13 @@ seven_given =
     ∷ given 8000 (Frame 1 42) (announcement_text other_mac chosen)
     ∷ []
 
--- a link that takes every frame, an empty store, and a host that never tells its rows
+-- a link that takes every frame, an empty store, a host that never tells its rows, and hooks that are never asked
 abbrev pub devices : World
 devices = record {
   link = record { told = record { begin = record { at = 1000; salt = 0; up = 1 }; coming = seven_given; waits = 0; sends = 0; calls = [] }; failing = [] };
   host = record { told = record { rows = []; calls = [] }; failing = 1 ∷ 2 ∷ 3 ∷ 4 ∷ 5 ∷ 6 ∷ 7 ∷ 8 ∷ [] };
   store = record { told = store_holding []; failing = never_fails };
+  hooks = record { told = record { polls = []; calls = [] }; failing = [] };
 }
 
 abbrev pub opens : OpeningMet

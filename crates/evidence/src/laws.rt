@@ -11,7 +11,9 @@ ghost use Rattle.evidence.specs.SevenTurns.{chosen_net, interface, opens, seven_
 
 /// Law: over every list of turns and outcomes, each address that the client wants has its basis in what the life showed
 /// of its interface: a static address, a choice that passed its probes (RFC 3927, sections 2.2.1 and 2.5), or a lease that a
-/// server granted, of DHCPv4 (RFC 2131, section 4.4) or of DHCPv6 (RFC 8415, section 18.2.10). Where neither runs it is one of the first two.
+/// server granted, of DHCPv4 (RFC 2131, section 4.4) or of DHCPv6 (RFC 8415, section 18.2.10); or in what it showed of another
+/// interface, to which a server delegated the prefix of which the address is a share. Where neither protocol runs on its interface
+/// it is one of the first two, unless an interface that runs DHCPv6 has a share for it.
 pub fn addresses_have_a_basis()
     ensures each { AddressesHaveBasis }
     ensures without_dhcp { OthersHaveBasis }

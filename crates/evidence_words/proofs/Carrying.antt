@@ -1,6 +1,6 @@
 -- What it is that something is carried of an interface over the turns of its life.
 use Rattle.std.proofs.Common.{◌≡◌, ℕ, ◌<◌, ◌^◌, Bool, true, false, List, [], ◌∷◌}
-use Rattle.std.specs.Prelude.{IfSome, if◌then◌else◌}
+use Rattle.std.specs.Prelude.{IfSome}
 use Rattle.net_types.specs.declared.address.Mac.{Mac}
 use Rattle.lease_text.specs.Bounds.{FitsLease}
 use Rattle.lease6_text.specs.Bounds.{HasText6}
@@ -10,8 +10,8 @@ use Rattle.script_model.specs.IfaceSets.{is_in}
 use Rattle.client_model.specs.declared.interfaces.Iface.{Iface}
 use Rattle.client_model.specs.Messages.{Said}
 use Rattle.client_model.specs.ClientSettings.{ask_of}
-use Rattle.client_model.specs.IfaceSteps.{IfaceStep, index_of, silent}
-use Rattle.client_model.specs.Interfaces.{carrier_comes, resting}
+use Rattle.client_model.specs.IfaceSteps.{IfaceStep, index_of}
+use Rattle.client_model.specs.Interfaces.{carrier_at_opening, resting}
 use Rattle.client_model.specs.KeptLeases.{Beginning}
 use Rattle.client_model.specs.IfaceTurns.{iface_turned}
 use Rattle.evidence_words.specs.Entries.{Offer, Entry, offers_on}
@@ -29,8 +29,9 @@ entry at event bytes offers = record { moment = at; event = event; bytes = bytes
 abbrev pub Relation : Type 1
 Relation = Site → (clean : Type 0) → Iface → List Entry → Type 0
 
+-- the opening says, and leaves, what the carrier does that there is then
 abbrev pub opened_when : (up : Bool) → (at salt : ℕ) → Beginning → IfaceStep
-opened_when up at salt b = if up then carrier_comes at salt (resting b) else silent (resting b)
+opened_when up at salt b = carrier_at_opening up at salt (resting b)
 
 abbrev pub turned_by : Site → (salt unsent : ℕ) → Entry → Iface → IfaceStep
 turned_by site salt unsent e f =

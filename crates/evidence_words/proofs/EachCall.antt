@@ -3,6 +3,7 @@ use Rattle.std.proofs.Common.{ℕ, Bool, true, false, List, [], ◌∷◌, Optio
 use Rattle.std.specs.List.{AllByRecursion}
 use Rattle.net_types.proofs.AllLaws.{all_join}
 use Rattle.net_types.proofs.CaseLaws.{gated}
+use Rattle.world.specs.HookCalls.{HookCall, Job}
 use Rattle.world.specs.HostCalls.{HostCall}
 use Rattle.world.specs.StoreCalls.{StoreCall, Reading, ReadFile}
 use Rattle.world.specs.declared.rows.HostRow.{HostRow}
@@ -12,11 +13,14 @@ use Rattle.host_model.specs.HostTurn.{changes}
 use Rattle.client_model.specs.declared.interfaces.Iface.{Iface}
 use Rattle.client_model.specs.ClientSettings.{runs_dhcp4}
 use Rattle.client_model.specs.ClientSettings6.{runs_dhcp6}
-use Rattle.device_calls.specs.Calls.{Call, Host, Store, SyncAside, RenameAside, Settle}
+use Rattle.device_calls.specs.Calls.{Call, Host, Store, Hook, Dropped, Ask, AnswerTo, Read, SyncAside, RenameAside, Settle, made}
 use Rattle.device_calls.specs.Programs.{Asks, Done, Then, after, Answers, calls_with, Makes}
 use Rattle.device_calls.proofs.Programs.{MakesBoth, makes_both}
+use Rattle.hook_child.specs.Supervision.{Supervision}
+use Rattle.turn_model.specs.Hooking.{hooking, polling}
+use Rattle.turn_model.proofs.Asking.{AsksOnly, HookAsks, hooking_only, polling_only}
 use Rattle.turn_model.specs.KeptFiles.{KeptFile, if_done, bringing, is_settled, known_after, keeping_one, keeping, wanted_in}
-use Rattle.turn_model.specs.Loading.{Loaded, loaded, loading_one, loading, reading_if, lease4_file, lease6_file}
+use Rattle.turn_model.specs.Loading.{Loaded, loaded, FilesLoaded, files_loaded, loading_one, loading, reading_if, lease4_file, lease6_file, resolver_file}
 use Rattle.turn_model.specs.Turns.{known_with, changing, rows_on, hosting_listed, hosting}
 use Rattle.turn_model.specs.Opening.{removing, clearing_listed, clearing}
 
@@ -24,6 +28,10 @@ use Rattle.turn_model.specs.Opening.{removing, clearing_listed, clearing}
 abbrev pub IsNoRead : StoreCall → Type 0
 IsNoRead (ReadFile name reading) = ⊥
 IsNoRead call = Unit {0}
+
+-- the last question about files
+abbrev pub reading_resolver : (duid : Option Reading) → List Loaded → Asks FilesLoaded
+reading_resolver duid ifaces = Then (Read resolver_file) (λ resolver. Done (files_loaded duid ifaces resolver))
 
 module _ (N : Call → Type 0) where
   -- whatever the answers
@@ -104,7 +112,35 @@ module _ (N : Call → Type 0) where
         (kept_each (wanted_in ifaces file.keeps) file)
         (λ first. both_each (keeping ifaces files) (λ rest. Done (first ∷ rest)) (keeping_each ifaces files) (λ rest. done_each (first ∷ rest))) calls result makes
 
-  -- ---- reading the files of leases
+  -- ---- calls to hooks, and jobs that are dropped
+
+  -- each call of a question, whatever the answer
+  abbrev EachMade : Ask → Type 0
+  EachMade ask = (answer : AnswerTo ask) → N (made ask answer)
+
+  only_made : {A : Type 0} (asks : Asks A) → AsksOnly EachMade asks → Each asks
+  only_made {A} asks only = by_answers asks (by_asks asks only)
+    where
+      by_asks : (asks : Asks A) → AsksOnly EachMade asks → (answers : Answers asks) → AllByRecursion N (calls_with asks answers)
+      by_asks (Done x) only answers = tt
+      by_asks (Then ask next) only answers = (only.0 answers.0, by_asks (next answers.0) (only.1 answers.0) answers.1)
+
+  module _ (hook : (number : ℕ) (call : HookCall) → N (Hook number call)) (dropped : (job : Job) → N (Dropped job)) where
+    hook_made : HookAsks EachMade
+    hook_made = record {
+      start = λ job done. hook _ _;
+      poll = λ number answer. hook _ _;
+      abandon = λ number answer. hook _ _;
+      drop = λ job answer. dropped job;
+    }
+
+    pub polling_each : (at : ℕ) (s : Supervision) → Each (polling at s)
+    polling_each at s = only_made (polling at s) (polling_only EachMade hook_made at s)
+
+    pub hooking_each : (at : ℕ) (jobs : List Job) (s : Supervision) → Each (hooking at jobs s)
+    hooking_each at jobs s = only_made (hooking at jobs s) (hooking_only EachMade hook_made at jobs s)
+
+  -- ---- reading the files
 
   -- each reading of such a file
   abbrev pub EachReading : (name : List ℕ) → Type 0
@@ -113,6 +149,9 @@ module _ (N : Call → Type 0) where
   pub reading_each : (is_kept : Bool) (name : List ℕ) → EachReading name → Each (reading_if is_kept name)
   reading_each true name read = by_answers (reading_if true name) (λ answers. (read _, tt))
   reading_each false name read = done_each {A = Option Reading} None
+
+  pub resolver_each : (duid : Option Reading) (ifaces : List Loaded) → EachReading resolver_file → Each (reading_resolver duid ifaces)
+  resolver_each duid ifaces read = by_answers (reading_resolver duid ifaces) (λ answers. (read _, tt))
 
   module _ (read4 : (managed : Managed) → EachReading (lease4_file managed)) (read6 : (managed : Managed) → EachReading (lease6_file managed)) where
     abbrev lease6_asks : Managed → Asks (Option Reading)

@@ -4,6 +4,7 @@ use Rattle.std.proofs.lemmas.Grind.{flat_map-append}
 use Rattle.std.specs.Prelude.{flat_map}
 use Rattle.std.specs.List.{AllByRecursion}
 use Rattle.net_types.specs.declared.interface.IfSpec.{IfSpec}
+use Rattle.world.specs.HookCalls.{HookCall, Job}
 use Rattle.world.specs.HostCalls.{HostCall}
 use Rattle.world.specs.StoreCalls.{StoreCall}
 use Rattle.world.specs.declared.rows.HostRow.{HostRow}
@@ -13,17 +14,19 @@ use Rattle.settings.specs.declared.interfaces.Managed.{Managed}
 use Rattle.machine.specs.Moment.{moment_of}
 use Rattle.client_model.specs.ClientSettings6.{some_need_duid}
 use Rattle.client_model.specs.Clients.{ClientStep, Sending, rows_of}
-use Rattle.device_calls.specs.Calls.{Call, Host, Store, Read}
-use Rattle.device_calls.specs.Programs.{Asks, Done, Then, after, Answers, calls_with, result_with, Makes}
+use Rattle.device_calls.specs.Calls.{Call, Host, Store, Hook, Dropped}
+use Rattle.device_calls.specs.Programs.{Asks, Done, after, Answers, calls_with, result_with, Makes}
 use Rattle.device_calls.proofs.Programs.{MakesBoth, makes_both}
+use Rattle.hook_child.specs.Supervision.{Supervision}
+use Rattle.turn_model.specs.Hooking.{hooking, polling}
 use Rattle.turn_model.specs.KeptFiles.{KeptFile, keeping}
-use Rattle.turn_model.specs.Loading.{loading, reading_if, duid_file, FilesLoaded, files_loaded, loading_files}
-use Rattle.turn_model.specs.Turns.{Life, Outlook, marked, offering, hosting, acting, step_of, outlook_of, turn_moment, stop_after, turn_asks}
-use Rattle.turn_model.specs.Opening.{clearing, resolver_file, outlook_from, opening_step, opening_asks}
+use Rattle.turn_model.specs.Loading.{loading, reading_if, duid_file, FilesLoaded, loading_files}
+use Rattle.turn_model.specs.Turns.{Life, Outlook, marked, offering, hosting, acting, step_of, outlook_with, turn_moment, stop_after, turn_asks}
+use Rattle.turn_model.specs.Opening.{clearing, outlook_from, opening_step, opening_asks}
 use Rattle.evidence_words.specs.Entries.{Offer, offer_in}
 use Rattle.evidence_words.specs.HostDuids.{duid_read}
-use Rattle.evidence_words.proofs.DuidsRead.{behind, clearing_other, files_read, resolver_other, acting_other}
-use Rattle.evidence_words.proofs.EachCall.{IsNoRead, Each, by_answers, done_each, clearing_each, hosting_each, keeping_each, reading_each, loading_each}
+use Rattle.evidence_words.proofs.DuidsRead.{behind, clearing_other, files_read, acting_other}
+use Rattle.evidence_words.proofs.EachCall.{IsNoRead, Each, reading_resolver, done_each, clearing_each, hosting_each, hooking_each, keeping_each, polling_each, reading_each, loading_each, resolver_each}
 
 -- ---- the frames with their outcomes
 
@@ -93,15 +96,27 @@ host_silent call = refl
 store_silent : (call : StoreCall) → IsNoRead call → OffersNone (Store call)
 store_silent call no_read = refl
 
+hook_silent : (number : ℕ) (call : HookCall) → OffersNone (Hook number call)
+hook_silent number call = refl
+
+dropped_silent : (job : Job) → OffersNone (Dropped job)
+dropped_silent job = refl
+
+polling_silent : (at : ℕ) (s : Supervision) → Silent (polling at s)
+polling_silent at s = silent_so (polling at s) (polling_each OffersNone hook_silent dropped_silent at s)
+
+hooking_silent : (at : ℕ) (jobs : List Job) (s : Supervision) → Silent (hooking at jobs s)
+hooking_silent at jobs s = silent_so (hooking at jobs s) (hooking_each OffersNone hook_silent dropped_silent at jobs s)
+
 loading_silent : (managed : List Managed) → Silent (loading managed)
 loading_silent managed = silent_so (loading managed) (loading_each OffersNone (λ m reading. refl) (λ m reading. refl) managed)
 
 files_silent : (managed : List Managed) → Silent (loading_files managed)
 files_silent managed =
-    both_silent (reading_if (some_need_duid managed) duid_file) (λ duid. after (loading managed) (λ ifaces. Done (files_loaded duid ifaces)))
+    both_silent (reading_if (some_need_duid managed) duid_file) (λ duid. after (loading managed) (λ ifaces. reading_resolver duid ifaces))
     (silent_so (reading_if (some_need_duid managed) duid_file) (reading_each OffersNone (some_need_duid managed) duid_file (λ reading. refl)))
-    (λ duid. both_silent (loading managed) (λ ifaces. Done (files_loaded duid ifaces)) (loading_silent managed)
-    (λ ifaces. silent_so (Done (files_loaded duid ifaces)) (done_each OffersNone (files_loaded duid ifaces))))
+    (λ duid. both_silent (loading managed) (λ ifaces. reading_resolver duid ifaces) (loading_silent managed)
+    (λ ifaces. silent_so (reading_resolver duid ifaces) (resolver_each OffersNone duid ifaces (λ reading. refl))))
 
 -- ---- a step of the client
 
@@ -115,22 +130,27 @@ pub record Shown (step : ClientStep) (moment : ℕ) (calls : List Call) (life : 
   pub unsent : life.unsent ≡ marked_all step.sends taken 0
 
 module _ (managed : List Managed) (outlook : Outlook) (step : ClientStep) (moment : ℕ) (stop : Option ℕ) where
-  abbrev life_with : ℕ → Option (List HostRow) → List KeptFile → Life
-  life_with unsent known files = record { client = step.client; known = known; files = files; now = moment; stop = stop; unsent = unsent }
+  abbrev life_with : ℕ → Option (List HostRow) → Supervision → List KeptFile → Life
+  life_with unsent known hooks files =
+      record { client = step.client; known = known; files = files; hooks = hooks; now = moment; stop = stop; unsent = unsent }
 
-  abbrev to_keep : ℕ → Option (List HostRow) → Asks Life
-  to_keep unsent known = after (keeping step.client.ifaces outlook.files) (λ files. Done (life_with unsent known files))
+  abbrev to_keep : ℕ → Option (List HostRow) → Supervision → Asks Life
+  to_keep unsent known hooks = after (keeping step.client.ifaces outlook.files) (λ files. Done (life_with unsent known hooks files))
+
+  abbrev to_hook : ℕ → Option (List HostRow) → Asks Life
+  to_hook unsent known = after (hooking moment step.jobs outlook.hooks) (λ hooks. to_keep unsent known hooks)
 
   abbrev to_host : ℕ → Asks Life
-  to_host unsent = after (hosting managed (rows_of step.client) outlook.known) (λ known. to_keep unsent known)
+  to_host unsent = after (hosting managed (rows_of step.client) outlook.known) (λ known. to_hook unsent known)
 
   rest_silent : (unsent : ℕ) → Silent (to_host unsent)
   rest_silent unsent =
-      both_silent (hosting managed (rows_of step.client) outlook.known) (λ known. to_keep unsent known)
+      both_silent (hosting managed (rows_of step.client) outlook.known) (λ known. to_hook unsent known)
       (silent_so (hosting managed (rows_of step.client) outlook.known) (hosting_each OffersNone host_silent store_silent managed (rows_of step.client) outlook.known))
-      (λ known. both_silent (keeping step.client.ifaces outlook.files) (λ files. Done (life_with unsent known files))
+      (λ known. both_silent (hooking moment step.jobs outlook.hooks) (λ hooks. to_keep unsent known hooks) (hooking_silent moment step.jobs outlook.hooks)
+      (λ hooks. both_silent (keeping step.client.ifaces outlook.files) (λ files. Done (life_with unsent known hooks files))
       (silent_so (keeping step.client.ifaces outlook.files) (keeping_each OffersNone host_silent store_silent step.client.ifaces outlook.files))
-      (λ files. silent_so (Done (life_with unsent known files)) (done_each OffersNone (life_with unsent known files))))
+      (λ files. silent_so (Done (life_with unsent known hooks files)) (done_each OffersNone (life_with unsent known hooks files)))))
 
   -- what is made of the rest, whatever it asks
   record Ends (unsent : ℕ) (life : Life) : Type 0 where
@@ -138,12 +158,25 @@ module _ (managed : List Managed) (outlook : Outlook) (step : ClientStep) (momen
     now_is : life.now ≡ moment
     unsent_is : life.unsent ≡ unsent
 
+  kept_ends : (unsent : ℕ) (known : Option (List HostRow)) (hooks : Supervision) (calls : List Call) (life : Life)
+      → Makes (to_keep unsent known hooks) calls life → Ends unsent life
+  kept_ends unsent known hooks calls life makes =
+      let files : MakesBoth (keeping step.client.ifaces outlook.files) (λ files. Done (life_with unsent known hooks files)) calls life =
+      makes_both (keeping step.client.ifaces outlook.files) (λ files. Done (life_with unsent known hooks files)) calls life makes in
+      let last : life ≡ life_with unsent known hooks files.between = files.makes_later.result_is in
+      record { client_is = ap (λ (l : Life). l.client) last; now_is = ap (λ (l : Life). l.now) last; unsent_is = ap (λ (l : Life). l.unsent) last }
+
+  hooked_ends : (unsent : ℕ) (known : Option (List HostRow)) (calls : List Call) (life : Life) → Makes (to_hook unsent known) calls life → Ends unsent life
+  hooked_ends unsent known calls life makes =
+      let hooks : MakesBoth (hooking moment step.jobs outlook.hooks) (λ hooks. to_keep unsent known hooks) calls life =
+      makes_both (hooking moment step.jobs outlook.hooks) (λ hooks. to_keep unsent known hooks) calls life makes in
+      kept_ends unsent known hooks.between hooks.later life hooks.makes_later
+
   rest_ends : (unsent : ℕ) (calls : List Call) (life : Life) → Makes (to_host unsent) calls life → Ends unsent life
   rest_ends unsent calls life makes =
-      let two : MakesBoth (hosting managed (rows_of step.client) outlook.known) (λ known. to_keep unsent known) calls life = makes_both (hosting managed (rows_of step.client) outlook.known) (λ known. to_keep unsent known) calls life makes in
-      let three : MakesBoth (keeping step.client.ifaces outlook.files) (λ files. Done (life_with unsent two.between files)) two.later life = makes_both (keeping step.client.ifaces outlook.files) (λ files. Done (life_with unsent two.between files)) two.later life two.makes_later in
-      let last : life ≡ life_with unsent two.between three.between = three.makes_later.result_is in
-      record { client_is = ap (λ (l : Life). l.client) last; now_is = ap (λ (l : Life). l.now) last; unsent_is = ap (λ (l : Life). l.unsent) last }
+      let known : MakesBoth (hosting managed (rows_of step.client) outlook.known) (λ known. to_hook unsent known) calls life =
+      makes_both (hosting managed (rows_of step.client) outlook.known) (λ known. to_hook unsent known) calls life makes in
+      hooked_ends unsent known.between known.later life known.makes_later
 
   pub acting_shows : (calls : List Call) (life : Life) → Makes (acting managed outlook step moment stop) calls life → Shown step moment calls life
   acting_shows calls life makes =
@@ -166,7 +199,19 @@ pub turn_shows : (managed : List Managed) (life : Life) (wake : Wake) (bytes : L
     → Makes (turn_asks managed life wake bytes) calls next → Shown (step_of life wake bytes) (turn_moment life wake) calls next
 unfolding turn_asks
 turn_shows managed life wake bytes calls next makes =
-    acting_shows managed (outlook_of life) (step_of life wake bytes) (turn_moment life wake) (stop_after life.stop wake.event (turn_moment life wake)) calls next makes
+    let at : ℕ = turn_moment life wake in
+    let acts : Supervision → Asks Life = λ hooks. acting managed (outlook_with life hooks) (step_of life wake bytes) at (stop_after life.stop wake.event at) in
+    let one : MakesBoth (polling at life.hooks) acts calls next = makes_both (polling at life.hooks) acts calls next makes in
+    let shown =
+    acting_shows managed (outlook_with life one.between) (step_of life wake bytes) at (stop_after life.stop wake.event at) one.later next one.makes_later in
+    record {
+      taken = shown.taken;
+      answered = shown.answered;
+      offers = silent_first calls one.first one.later one.calls_are (polling_silent at life.hooks one.first one.between one.makes_first) ∙ shown.offers;
+      client = shown.client;
+      now = shown.now;
+      unsent = shown.unsent;
+    }
 
 -- and of an opening, by what reading the files gave
 pub record OpeningShown (managed : List Managed) (specs : List IfSpec) (begin : Begin) (calls : List Call) (life : Life) : Type 0 where
@@ -182,24 +227,24 @@ pub opening_shows : (managed : List Managed) (specs : List IfSpec) (begin : Begi
 unfolding opening_asks
 opening_shows managed specs begin calls life makes =
     let acts : FilesLoaded → Asks Life = λ files. acting managed (outlook_from managed files) (opening_step managed files specs begin) (moment_of begin.at) None in
-    let one : MakesBoth clearing (λ _. after (loading_files managed) (λ files. Then (Read resolver_file) (λ _. acts files))) calls life = makes_both clearing (λ _. after (loading_files managed) (λ files. Then (Read resolver_file) (λ _. acts files))) calls life makes in
-    let two : MakesBoth (loading_files managed) (λ files. Then (Read resolver_file) (λ _. acts files)) one.later life = makes_both (loading_files managed) (λ files. Then (Read resolver_file) (λ _. acts files)) one.later life one.makes_later in
-    let three : MakesBoth (Then (Read resolver_file) Done) (λ _. acts two.between) two.later life = makes_both (Then (Read resolver_file) Done) (λ _. acts two.between) two.later life two.makes_later in
-    let shown = acting_shows managed (outlook_from managed two.between) (opening_step managed two.between specs begin) (moment_of begin.at) None three.later life three.makes_later in
+    let one : MakesBoth clearing (λ _. after (loading_files managed) acts) calls life =
+    makes_both clearing (λ _. after (loading_files managed) acts) calls life makes in
+    let two : MakesBoth (loading_files managed) acts one.later life = makes_both (loading_files managed) acts one.later life one.makes_later in
+    let shown =
+    acting_shows managed (outlook_from managed two.between) (opening_step managed two.between specs begin) (moment_of begin.at) None two.later life two.makes_later in
     record {
       files = two.between;
       reads = two.first;
       makes = two.makes_first;
       duid = ap duid_read one.calls_are ∙ behind one.first one.later (clearing_other one.first tt one.makes_first)
           ∙ ap duid_read two.calls_are ∙ files_read managed two.first two.later two.between two.makes_first
-          (resolver_other (acts two.between) (acting_other managed (outlook_from managed two.between) (opening_step managed two.between specs begin) (moment_of begin.at) None)
+          (acting_other managed (outlook_from managed two.between) (opening_step managed two.between specs begin) (moment_of begin.at) None
           two.later life two.makes_later);
       shown = record {
         taken = shown.taken;
         answered = shown.answered;
         offers = silent_first calls one.first one.later one.calls_are (silent_so clearing (clearing_each OffersNone host_silent store_silent) one.first tt one.makes_first)
             ∙ silent_first one.later two.first two.later two.calls_are (files_silent managed two.first two.between two.makes_first)
-            ∙ silent_first two.later three.first three.later three.calls_are (silent_so (Then (Read resolver_file) Done) (by_answers OffersNone (Then (Read resolver_file) Done) (λ answers. (refl, tt))) three.first three.between three.makes_first)
             ∙ shown.offers;
         client = shown.client;
         now = shown.now;

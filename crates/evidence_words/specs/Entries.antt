@@ -3,7 +3,7 @@ use Rattle.std.specs.Prelude.{ℕ, Bool, ◌==◌, List, [], ◌∷◌, filter, 
 use Rattle.world.specs.declared.wakes.Event.{Event}
 use Rattle.world.specs.declared.wakes.Event.TheVariants.{Quiet}
 use Rattle.world.specs.LinkCalls.{Waited, Offered}
-use Rattle.device_calls.specs.Calls.{Call, Link, Host, Store, Hook}
+use Rattle.device_calls.specs.Calls.{Call, Link, Host, Store, Hook, Dropped}
 use Rattle.turn_model.specs.Lives.{OpeningMet, Met}
 
 -- a frame that was offered, the interface's number, and whether the link took it
@@ -29,7 +29,8 @@ offer_in (Link (Waited until given)) = []
 offer_in (Link (Offered iface frame taken)) = record { iface = iface; bytes = frame; taken = taken } ∷ []
 offer_in (Host call) = []
 offer_in (Store call) = []
-offer_in (Hook call) = []
+offer_in (Hook number call) = []
+offer_in (Dropped job) = []
 
 abbrev pub entry_of : Met → Entry
 entry_of met = record { moment = met.life.now; event = met.wake.event; bytes = met.bytes; offers = flat_map offer_in met.calls }

@@ -1,5 +1,9 @@
 pub mod AskedCodes
 pub mod Asks6
+pub mod HeldBefore6
 pub mod Following
 pub mod Following6
 pub mod Staying
+pub mod Carriers
+pub mod ShareAddresses
+pub mod ToldLocals

@@ -1,5 +1,5 @@
 -- A turn leaves an interface its configuration, and its address one that a host may choose.
-use Rattle.std.proofs.Common.{ℕ, ◌≡◌, ◌+◌, ◌*◌, Bool, true, false, List, [], Option, Some, None, nat_eq, refl, sym, subst, ◌∙◌, if◌then◌else◌}
+use Rattle.std.proofs.Common.{ℕ, ◌≡◌, ◌+◌, ◌*◌, Bool, true, false, List, [], Option, Some, None, nat_eq, refl, sym, ap, subst, ◌∙◌, if◌then◌else◌}
 use Rattle.std.specs.Prelude.{is_some}
 use Rattle.net_types.specs.declared.address.Mac.{Mac}
 use Rattle.frame_link.specs.declared.arp.ArpView.{ArpView}
@@ -36,10 +36,11 @@ use Rattle.client_model.specs.IfaceSteps.{IfaceStep, index_of, silent, then_step
 use Rattle.client_model.specs.LocalSteps.{armed, armed_for_lease, chooses_local, fallback_of, local_hears, tick_local}
 use Rattle.client_model.specs.Dhcp4Steps.{arms, arrival_at, begin_dhcp4, dhcp4_packet, dhcp4_step, followed, holds_lease, rebind_dhcp4, tick_dhcp4}
 use Rattle.client_model.specs.Dhcp6Steps.{begin_dhcp6, contested, dhcp6_step, rebind_dhcp6, tick_dhcp6}
-use Rattle.client_model.specs.Interfaces.{resting, begins, machines_rebind, carrier_comes, carrier_goes, opened, restarted, unsent_in, ticked, carried, released, rebound, halted}
+use Rattle.client_model.specs.Interfaces.{resting, begins, machines_rebind, carrier_at_opening, carrier_comes, carrier_goes, opened, restarted, unsent_in, ticked, carried, released, rebound, halted}
 use Rattle.client_model.specs.IfaceTurns.{Turn, hears, hears_either, hears_message, hears_message6, hears_packet, arp_heard, taken, input_step, iface_turned}
 use Rattle.client_model.specs.Fitting.{FitsBeginning, FitsIface}
 use Rattle.client_model.specs.KeptLeases.{Beginning}
+use Rattle.iface_core.specs.Outcomes.{Asked, Goes}
 
 pub record Stays (old new : Iface) : Type 0 where
   pub managed : new.managed ≡ old.managed
@@ -136,7 +137,7 @@ ticked_stays at salt iface =
     (both_stays iface first (tick_local at salt) (dhcp4_stays at iface (tick_step at salt iface.dhcp4)) (tick_local_stays at salt first.iface))
     (dhcp6_stays both.iface (tick_turned at salt both.iface.dhcp6))
 
-begins_stays : (at salt : ℕ) (iface : Iface) → StepStays iface (begins at salt iface)
+pub begins_stays : (at salt : ℕ) (iface : Iface) → StepStays iface (begins at salt iface)
 begins_stays at salt iface =
     let both : IfaceStep = then_step (begin_dhcp4 at salt iface) (arms at) in
     both_stays iface both (begin_dhcp6 at salt)
@@ -214,6 +215,11 @@ module _ (own : List Mac) (at salt : ℕ) (bytes : List ℕ) where
   input_stays event iface =
       gated (StepStays iface) iface.stopped (silent iface) (taken own at salt event bytes iface) (itself iface) (taken_stays event iface)
 
+pub input_fits : (own : List Mac) (at salt : ℕ) (event : Event) (bytes : List ℕ) (iface new : Iface) (none some : Asked)
+    → Goes (input_step own at salt event bytes iface) new none some → FitsManaged iface.managed → FitsManaged new.managed
+input_fits own at salt event bytes iface new none some goes fits =
+    subst FitsManaged (sym (ap (λ (i : Iface). i.managed) goes.goes_on ∙ (input_stays own at salt bytes event iface).managed)) fits
+
 pub turn_stays : (own : List Mac) (turn : Turn) (iface : Iface) → StepStays iface (iface_turned own turn iface)
 turn_stays own turn iface =
     let before : Iface = unsent_in turn.unsent turn.at turn.salt iface in
@@ -225,9 +231,12 @@ turn_stays own turn iface =
 pub stays_fit : (old new : Iface) → Stays old new → FitsIface old → FitsIface new
 stays_fit old new stays fits = record { managed = subst FitsManaged (sym stays.managed) fits.managed; local = stays.local fits.local }
 
+at_opening_stays : (up : Bool) (at salt : ℕ) (iface : Iface) → StepStays iface (carrier_at_opening up at salt iface)
+at_opening_stays true at salt iface = comes_stays at salt iface
+at_opening_stays false at salt iface = itself iface
+
 pub opened_fits : (up at salt : ℕ) (beginning : Beginning) → FitsBeginning beginning → FitsIface (opened up at salt beginning).iface
 opened_fits up at salt beginning fits =
     stays_fit (resting beginning) (opened up at salt beginning).iface
-    (gated (StepStays (resting beginning)) (is_up up beginning.managed.spec.index.number) (carrier_comes at salt (resting beginning)) (silent (resting beginning))
-    (comes_stays at salt (resting beginning)) (itself (resting beginning)))
+    (at_opening_stays (is_up up beginning.managed.spec.index.number) at salt (resting beginning))
     (record { managed = fits.managed; local = tt })

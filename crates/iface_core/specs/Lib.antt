@@ -2,3 +2,4 @@ pub mod Beginnings
 pub mod CodeSets
 pub mod Inputs
 pub mod Outcomes
+pub mod Shares

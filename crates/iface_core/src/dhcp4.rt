@@ -150,13 +150,14 @@ fn follow(
     at: u64,
     outs: &mut Outs,
 ) -> Result<(), NoMemory>
-    requires { at < 10 ^ 15 }
+    requires at { at < 10 ^ 15 }
+    requires fits { FitsManaged iface.old.managed }
     ensures { OnOk result (Follows at held (out_content out.now) iface.old iface.new (asked_in outs.old) (asked_in outs.new)) }
 {
     follow_local(iface, held, out.news, at);
     outs.say_dhcp4(iface, out.say)?;
     outs.say_arp(iface, out.arp)?;
-    outs.tell_lease(out.news)
+    outs.tell_lease(iface, out.news, out.old.as_ref())
 }
 
 /// Ticks the client, which is due.
@@ -164,6 +165,7 @@ fn follow(
 pub fn tick_dhcp4(iface: &mut Iface, at: u64, salt: u64, outs: &mut Outs) -> Result<(), NoMemory>
     requires at { at < 10 ^ 15 }
     requires due { is_due (due_of iface.old.dhcp4.state) at ≡ true }
+    requires fits { FitsManaged iface.old.managed }
     ensures { OnOk result (Goes (run.tick_dhcp4 at salt iface.old) iface.new (asked_in outs.old) (asked_in outs.new)) }
 {
     let held = holds_lease(&iface.dhcp4);
@@ -172,9 +174,9 @@ pub fn tick_dhcp4(iface: &mut Iface, at: u64, salt: u64, outs: &mut Outs) -> Res
 }
 
 /// A client that is off begins, where DHCPv4 runs.
-#[tactic(auto, using(crate::proofs::Following::goes_dhcp4))]
 pub fn begin_dhcp4(iface: &mut Iface, at: u64, salt: u64, outs: &mut Outs) -> Result<(), NoMemory>
-    requires { at < 10 ^ 15 }
+    requires at { at < 10 ^ 15 }
+    requires fits { FitsManaged iface.old.managed }
     ensures { OnOk result (Goes (run.begin_dhcp4 at salt iface.old) iface.new (asked_in outs.old) (asked_in outs.new)) }
 {
     if !runs_dhcp4(&iface.managed.conf) {
@@ -186,9 +188,9 @@ pub fn begin_dhcp4(iface: &mut Iface, at: u64, salt: u64, outs: &mut Outs) -> Re
 }
 
 /// A lease that is held is confirmed with any server, and a client that is off begins, where DHCPv4 runs.
-#[tactic(auto, using(crate::proofs::Following::goes_dhcp4))]
 pub fn rebind_dhcp4(iface: &mut Iface, at: u64, salt: u64, outs: &mut Outs) -> Result<(), NoMemory>
-    requires { at < 10 ^ 15 }
+    requires at { at < 10 ^ 15 }
+    requires fits { FitsManaged iface.old.managed }
     ensures { OnOk result (Goes (run.rebind_dhcp4 at salt iface.old) iface.new (asked_in outs.old) (asked_in outs.new)) }
 {
     if !runs_dhcp4(&iface.managed.conf) {
@@ -202,7 +204,8 @@ pub fn rebind_dhcp4(iface: &mut Iface, at: u64, salt: u64, outs: &mut Outs) -> R
 /// The carrier is gone: the client is off, and the kept lease stays kept.
 #[tactic(auto, using(crate::proofs::Following::goes_dhcp4))]
 pub fn drop_dhcp4(iface: &mut Iface, at: u64, salt: u64, outs: &mut Outs) -> Result<(), NoMemory>
-    requires { at < 10 ^ 15 }
+    requires at { at < 10 ^ 15 }
+    requires fits { FitsManaged iface.old.managed }
     ensures { OnOk result (Goes (run.drop_dhcp4 at salt iface.old) iface.new (asked_in outs.old) (asked_in outs.new)) }
 {
     let held = holds_lease(&iface.dhcp4);
@@ -219,7 +222,8 @@ pub fn stop_dhcp4(
     salt: u64,
     outs: &mut Outs,
 ) -> Result<(), NoMemory>
-    requires { at < 10 ^ 15 }
+    requires at { at < 10 ^ 15 }
+    requires fits { FitsManaged iface.old.managed }
     ensures { OnOk result (Goes (run.stop_dhcp4 tell at salt iface.old) iface.new (asked_in outs.old) (asked_in outs.new)) }
 {
     let held = holds_lease(&iface.dhcp4);
@@ -228,7 +232,6 @@ pub fn stop_dhcp4(
 }
 
 /// The client hears an ARP packet. `own` holds the hardware addresses of all interfaces of the host.
-#[tactic(auto, using(crate::proofs::Following::goes_dhcp4))]
 pub fn hear_packet(
     iface: &mut Iface,
     arp: &ArpView,
@@ -237,7 +240,8 @@ pub fn hear_packet(
     own: &[Mac],
     outs: &mut Outs,
 ) -> Result<(), NoMemory>
-    requires { at < 10 ^ 15 }
+    requires at { at < 10 ^ 15 }
+    requires fits { FitsManaged iface.old.managed }
     ensures { OnOk result (Goes (run.dhcp4_packet own.now at salt arp.now iface.old) iface.new (asked_in outs.old) (asked_in outs.new)) }
 {
     let held = holds_lease(&iface.dhcp4);
@@ -246,7 +250,6 @@ pub fn hear_packet(
 }
 
 /// The client hears a server's message.
-#[tactic(auto, using(crate::proofs::Following::goes_dhcp4))]
 pub fn hear_message(
     iface: &mut Iface,
     heard: &Heard4,
@@ -254,7 +257,8 @@ pub fn hear_message(
     salt: u64,
     outs: &mut Outs,
 ) -> Result<(), NoMemory>
-    requires { at < 10 ^ 15 }
+    requires at { at < 10 ^ 15 }
+    requires fits { FitsManaged iface.old.managed }
     ensures { OnOk result (Goes (run.dhcp4_takes at salt (run.arrival_at at (heard_shown heard.now)) iface.old) iface.new (asked_in outs.old) (asked_in outs.new)) }
 {
     let held = holds_lease(&iface.dhcp4);

@@ -78,16 +78,18 @@ pub fn client6_of(
 
 /// Takes over what the client says.
 fn follow(iface: &Iface, out: &Out6, outs: &mut Outs) -> Result<(), NoMemory>
+    requires { FitsManaged iface.now.managed }
     ensures { OnOk result (Follows6 (out_content out.now) iface.now (asked_in outs.old) (asked_in outs.new)) }
 {
     outs.say_dhcp6(iface, out.say.as_ref())?;
-    outs.tell_lease6(out.news)
+    outs.tell_lease6(iface, out.news, out.old.as_ref())
 }
 
 /// Ticks the client, which is due.
 pub fn tick_dhcp6(iface: &mut Iface, at: u64, salt: u64, outs: &mut Outs) -> Result<(), NoMemory>
     requires at { at < 10 ^ 15 }
     requires due { is_due (due_of iface.old.dhcp6) at ≡ true }
+    requires fits { FitsManaged iface.old.managed }
     ensures { OnOk result (Goes (run.tick_dhcp6 at salt iface.old) iface.new (asked_in outs.old) (asked_in outs.new)) }
 {
     let out = iface.dhcp6.tick(at, salt)?;
@@ -96,7 +98,8 @@ pub fn tick_dhcp6(iface: &mut Iface, at: u64, salt: u64, outs: &mut Outs) -> Res
 
 /// A client that is off begins, where DHCPv6 runs.
 pub fn begin_dhcp6(iface: &mut Iface, at: u64, salt: u64, outs: &mut Outs) -> Result<(), NoMemory>
-    requires { at < 10 ^ 15 }
+    requires at { at < 10 ^ 15 }
+    requires fits { FitsManaged iface.old.managed }
     ensures { OnOk result (Goes (run.begin_dhcp6 at salt iface.old) iface.new (asked_in outs.old) (asked_in outs.new)) }
 {
     if !runs_dhcp6(&iface.managed.conf) {
@@ -108,7 +111,8 @@ pub fn begin_dhcp6(iface: &mut Iface, at: u64, salt: u64, outs: &mut Outs) -> Re
 
 /// Items that are held are asked for again of any server, and a client that is off begins, where DHCPv6 runs.
 pub fn rebind_dhcp6(iface: &mut Iface, at: u64, salt: u64, outs: &mut Outs) -> Result<(), NoMemory>
-    requires { at < 10 ^ 15 }
+    requires at { at < 10 ^ 15 }
+    requires fits { FitsManaged iface.old.managed }
     ensures { OnOk result (Goes (run.rebind_dhcp6 at salt iface.old) iface.new (asked_in outs.old) (asked_in outs.new)) }
 {
     if !runs_dhcp6(&iface.managed.conf) {
@@ -120,7 +124,8 @@ pub fn rebind_dhcp6(iface: &mut Iface, at: u64, salt: u64, outs: &mut Outs) -> R
 
 /// The carrier is gone: the client is off, and the kept lease stays kept.
 pub fn drop_dhcp6(iface: &mut Iface, at: u64, salt: u64, outs: &mut Outs) -> Result<(), NoMemory>
-    requires { at < 10 ^ 15 }
+    requires at { at < 10 ^ 15 }
+    requires fits { FitsManaged iface.old.managed }
     ensures { OnOk result (Goes (run.drop_dhcp6 at salt iface.old) iface.new (asked_in outs.old) (asked_in outs.new)) }
 {
     let out = carrier6(&mut iface.dhcp6, Carrier6::Down, at, salt)?;
@@ -145,7 +150,8 @@ pub fn stop_dhcp6(
     salt: u64,
     outs: &mut Outs,
 ) -> Result<(), NoMemory>
-    requires { at < 10 ^ 15 }
+    requires at { at < 10 ^ 15 }
+    requires fits { FitsManaged iface.old.managed }
     ensures { OnOk result (Goes (run.stop_dhcp6 tell at salt iface.old) iface.new (asked_in outs.old) (asked_in outs.new)) }
 {
     let out = release6(&mut iface.dhcp6, tell6_of(tell), at, salt)?;
@@ -160,7 +166,8 @@ pub fn hear_message6(
     salt: u64,
     outs: &mut Outs,
 ) -> Result<(), NoMemory>
-    requires { at < 10 ^ 15 }
+    requires at { at < 10 ^ 15 }
+    requires fits { FitsManaged iface.old.managed }
     ensures { OnOk result (Goes (run.dhcp6_takes at salt (heard_shown heard.now) iface.old) iface.new (asked_in outs.old) (asked_in outs.new)) }
 {
     let out = heard6(&mut iface.dhcp6, &heard.message, at, salt)?;
@@ -175,7 +182,8 @@ pub fn contest(
     salt: u64,
     outs: &mut Outs,
 ) -> Result<(), NoMemory>
-    requires { at < 10 ^ 15 }
+    requires at { at < 10 ^ 15 }
+    requires fits { FitsManaged iface.old.managed }
     ensures { OnOk result (Goes (run.contested at salt addr iface.old) iface.new (asked_in outs.old) (asked_in outs.new)) }
 {
     let out = duplicate6(&mut iface.dhcp6, addr, at, salt)?;

@@ -4,13 +4,15 @@ ghost use Rattle.lease_text.specs.Bounds.{FitsLease};
 ghost use Rattle.lease_text.specs.Leases.{lease_content};
 ghost use Rattle.lease6_text.specs.Bounds.{FitsLease6};
 ghost use Rattle.lease6_text.specs.Leases.{lease6_content};
+ghost use Rattle.settings.specs.Fitting.{FitsManaged};
 ghost use Rattle.world.specs.Rows.{IsInterface};
 ghost use Rattle.ipv4ll.specs.Table.{held_in};
 ghost use Rattle.v4_client.specs.Clients.{held_of};
 ghost use Rattle.v4_client.specs.Moments.{earlier};
 ghost use Rattle.v6_client.specs.Clients as client6;
-ghost use Rattle.script_model.specs.IfaceSets.{is_in};
+ghost use Rattle.script_model.specs.IfaceSets.{is_in, is_up};
 ghost use Rattle.client_model.specs.Fitting.{FitsBeginning};
+ghost use Rattle.client_model.specs.IfaceSteps.{index_of};
 ghost use Rattle.client_model.specs.Interfaces as run;
 ghost use Rattle.iface_core.specs.Beginnings.{beginning_of};
 ghost use Rattle.iface_core.specs.Outcomes.{Goes, asked_in};
@@ -20,7 +22,7 @@ use crate::dhcp4::{begin_dhcp4, client_of, drop_dhcp4, rebind_dhcp4, stop_dhcp4}
 use crate::dhcp6::{begin_dhcp6, client6_of, drop_dhcp6, rebind_dhcp6, stop_dhcp6};
 use crate::local::{arm_unless_held, drop_local};
 use crate::outs::Outs;
-use client_model::{Iface, News, TimedMachine};
+use client_model::{Iface, TimedMachine};
 use ipv4ll::{ll_held, ll_off};
 use lease_text::Lease4;
 use lease6_text::Lease6;
@@ -53,10 +55,22 @@ pub fn iface_open(
 {
     let index = beginning.managed.spec.index;
     let mut iface = rest(alloc, beginning)?;
-    if contains(begin.up, index) {
-        gain_carrier(&mut iface, begin.at, begin.salt, outs)?;
-    }
+    outs.tell_opened(&iface.managed, contains(begin.up, index))?;
+    carry_at_opening(&mut iface, begin, outs)?;
     Ok(iface)
+}
+
+/// The carrier that there is at the opening comes.
+fn carry_at_opening(iface: &mut Iface, begin: Begin, outs: &mut Outs) -> Result<(), NoMemory>
+    requires at { begin.at < 10 ^ 15 }
+    requires fits { FitsManaged iface.old.managed }
+    ensures { OnOk result (Goes (run.carrier_at_opening (is_up begin.up (index_of iface.old)) begin.at begin.salt iface.old) iface.new (asked_in outs.old) (asked_in outs.new)) }
+{
+    if contains(begin.up, iface.managed.spec.index) {
+        gain_carrier(iface, begin.at, begin.salt, outs)
+    } else {
+        Ok(())
+    }
 }
 
 /// An interface before its opening.
@@ -85,7 +99,8 @@ fn rest(alloc: Global, beginning: Beginning) -> Result<Iface, AllocError>
 
 /// Machines that are off begin.
 fn begin(iface: &mut Iface, at: u64, salt: u64, outs: &mut Outs) -> Result<(), NoMemory>
-    requires { at < 10 ^ 15 }
+    requires at { at < 10 ^ 15 }
+    requires fits { FitsManaged iface.old.managed }
     ensures { OnOk result (Goes (run.begins at salt iface.old) iface.new (asked_in outs.old) (asked_in outs.new)) }
 {
     begin_dhcp4(iface, at, salt, outs)?;
@@ -95,7 +110,8 @@ fn begin(iface: &mut Iface, at: u64, salt: u64, outs: &mut Outs) -> Result<(), N
 
 /// The machines are off, and nobody is told.
 fn drop_machines(iface: &mut Iface, at: u64, salt: u64, outs: &mut Outs) -> Result<(), NoMemory>
-    requires { at < 10 ^ 15 }
+    requires at { at < 10 ^ 15 }
+    requires fits { FitsManaged iface.old.managed }
     ensures { OnOk result (Goes (run.machines_drop at salt iface.old) iface.new (asked_in outs.old) (asked_in outs.new)) }
 {
     drop_dhcp4(iface, at, salt, outs)?;
@@ -111,7 +127,8 @@ fn stop_machines(
     salt: u64,
     outs: &mut Outs,
 ) -> Result<(), NoMemory>
-    requires { at < 10 ^ 15 }
+    requires at { at < 10 ^ 15 }
+    requires fits { FitsManaged iface.old.managed }
     ensures { OnOk result (Goes (run.machines_stop tell at salt iface.old) iface.new (asked_in outs.old) (asked_in outs.new)) }
 {
     stop_dhcp4(iface, tell, at, salt, outs)?;
@@ -120,19 +137,21 @@ fn stop_machines(
 }
 
 fn gain_carrier(iface: &mut Iface, at: u64, salt: u64, outs: &mut Outs) -> Result<(), NoMemory>
-    requires { at < 10 ^ 15 }
+    requires at { at < 10 ^ 15 }
+    requires fits { FitsManaged iface.old.managed }
     ensures { OnOk result (Goes (run.carrier_comes at salt iface.old) iface.new (asked_in outs.old) (asked_in outs.new)) }
 {
-    outs.tell(News::CarrierCame)?;
+    outs.tell_carrier_came(&iface.managed)?;
     iface.up = true;
     begin(iface, at, salt, outs)
 }
 
 fn lose_carrier(iface: &mut Iface, at: u64, salt: u64, outs: &mut Outs) -> Result<(), NoMemory>
-    requires { at < 10 ^ 15 }
+    requires at { at < 10 ^ 15 }
+    requires fits { FitsManaged iface.old.managed }
     ensures { OnOk result (Goes (run.carrier_goes at salt iface.old) iface.new (asked_in outs.old) (asked_in outs.new)) }
 {
-    outs.tell(News::CarrierWent)?;
+    outs.tell_carrier_went(&iface.managed)?;
     iface.up = false;
     drop_machines(iface, at, salt, outs)
 }
@@ -145,7 +164,8 @@ pub fn carry(
     salt: u64,
     outs: &mut Outs,
 ) -> Result<(), NoMemory>
-    requires { at < 10 ^ 15 }
+    requires at { at < 10 ^ 15 }
+    requires fits { FitsManaged iface.old.managed }
     ensures { OnOk result (Goes (run.carried at salt up iface.old) iface.new (asked_in outs.old) (asked_in outs.new)) }
 {
     match (up, iface.up) {
@@ -158,15 +178,17 @@ pub fn carry(
 
 /// What the machines hold is given back, and they are off.
 pub fn release(iface: &mut Iface, at: u64, salt: u64, outs: &mut Outs) -> Result<(), NoMemory>
-    requires { at < 10 ^ 15 }
+    requires at { at < 10 ^ 15 }
+    requires fits { FitsManaged iface.old.managed }
     ensures { OnOk result (Goes (run.released at salt iface.old) iface.new (asked_in outs.old) (asked_in outs.new)) }
 {
-    outs.tell(News::Released)?;
+    outs.tell_released()?;
     stop_machines(iface, Tell::Server, at, salt, outs)
 }
 
 fn rebind_machines(iface: &mut Iface, at: u64, salt: u64, outs: &mut Outs) -> Result<(), NoMemory>
-    requires { at < 10 ^ 15 }
+    requires at { at < 10 ^ 15 }
+    requires fits { FitsManaged iface.old.managed }
     ensures { OnOk result (Goes (run.machines_rebind at salt iface.old) iface.new (asked_in outs.old) (asked_in outs.new)) }
 {
     rebind_dhcp4(iface, at, salt, outs)?;
@@ -176,7 +198,8 @@ fn rebind_machines(iface: &mut Iface, at: u64, salt: u64, outs: &mut Outs) -> Re
 
 /// A lease that is held is confirmed anew, and machines that are off begin, where there is carrier.
 pub fn rebind(iface: &mut Iface, at: u64, salt: u64, outs: &mut Outs) -> Result<(), NoMemory>
-    requires { at < 10 ^ 15 }
+    requires at { at < 10 ^ 15 }
+    requires fits { FitsManaged iface.old.managed }
     ensures { OnOk result (Goes (run.rebound at salt iface.old) iface.new (asked_in outs.old) (asked_in outs.new)) }
 {
     if iface.up {
@@ -197,15 +220,16 @@ fn told_at_stop(conf: &IfConf) -> Tell
     }
 }
 
-/// Nothing is in force after a stop.
+/// Nothing is in force after a stop, which is told last.
 pub fn halt(iface: &mut Iface, at: u64, salt: u64, outs: &mut Outs) -> Result<(), NoMemory>
-    requires { at < 10 ^ 15 }
+    requires at { at < 10 ^ 15 }
+    requires fits { FitsManaged iface.old.managed }
     ensures { OnOk result (Goes (run.halted at salt iface.old) iface.new (asked_in outs.old) (asked_in outs.new)) }
 {
-    outs.tell(News::Stopped)?;
     iface.stopped = true;
     let tell = told_at_stop(&iface.managed.conf);
-    stop_machines(iface, tell, at, salt, outs)
+    stop_machines(iface, tell, at, salt, outs)?;
+    outs.tell_stopped(iface)
 }
 
 /// The next moment at which a machine of the interface is due.

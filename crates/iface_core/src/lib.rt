@@ -1,4 +1,4 @@
-//! One managed interface in a life: its carrier, its machines, and what a turn makes of them.
+//! One managed interface in a life: its carrier, its machines, what a turn makes of them, and what hooks are told of it.
 //!
 //! `iface_open` at the start of a life, then `iface_turn` in each turn. Moments are in milliseconds since 1970.
 #![tactic(auto)]
@@ -10,7 +10,10 @@ mod dhcp6;
 mod inputs;
 mod interfaces;
 mod local;
+mod news;
 mod outs;
+mod sharing;
+mod telling;
 mod turns;
 
 pub use beginnings::Beginning;
@@ -21,7 +24,9 @@ pub use interfaces::{
     contains, earlier_of, iface_due, iface_held, iface_kept, iface_kept6, iface_lease,
     iface_lease6, iface_open, machine_due,
 };
-pub use outs::{Outs, Sending};
+pub use outs::{Outs, Sending, Told};
+pub use sharing::{first_address, shares_of};
+pub use telling::{event_job, metric_of};
 pub use turns::{iface_input, iface_tick, iface_turn, iface_unsent};
 
 #[cfg(test)]

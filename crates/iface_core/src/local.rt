@@ -1,6 +1,7 @@
 //! The link-local machine of an interface.
 ghost use Rattle.std.specs.Prelude.{◌≡◌, ◌<◌, ◌^◌, OnOk, true};
 ghost use Rattle.machine.specs.Moment.{is_due};
+ghost use Rattle.settings.specs.Fitting.{FitsManaged};
 ghost use Rattle.ipv4ll.specs.Table.{due_of, off};
 ghost use Rattle.client_model.specs.LocalSteps as run;
 ghost use Rattle.client_model.specs.Dhcp4Steps.{arms};
@@ -78,17 +79,20 @@ pub fn drop_local(iface: &mut Iface)
 }
 
 /// Ticks link-local, which is due.
+#[tactic(auto, using(crate::proofs::ToldLocals::goes_local))]
 pub fn tick_local(iface: &mut Iface, at: u64, salt: u64, outs: &mut Outs) -> Result<(), NoMemory>
     requires at { at < 10 ^ 15 }
     requires due { is_due (due_of iface.old.local.state) at ≡ true }
+    requires fits { FitsManaged iface.old.managed }
     ensures { OnOk result (Goes (run.tick_local at salt iface.old) iface.new (asked_in outs.old) (asked_in outs.new)) }
 {
     let out = iface.local.tick(at, salt);
     outs.say_arp(iface, out.arp)?;
-    outs.tell_local(out.news)
+    outs.tell_local(iface, out.news)
 }
 
 /// Link-local hears an ARP packet. `own` holds the hardware addresses of all interfaces of the host.
+#[tactic(auto, using(crate::proofs::ToldLocals::goes_local))]
 pub fn hear_local(
     iface: &mut Iface,
     arp: &ArpView,
@@ -97,10 +101,11 @@ pub fn hear_local(
     own: &[Mac],
     outs: &mut Outs,
 ) -> Result<(), NoMemory>
-    requires { at < 10 ^ 15 }
+    requires at { at < 10 ^ 15 }
+    requires fits { FitsManaged iface.old.managed }
     ensures { OnOk result (Goes (run.local_hears own.now at salt arp.now iface.old) iface.new (asked_in outs.old) (asked_in outs.new)) }
 {
     let out = ll_heard(&mut iface.local, arp, at, salt, own);
     outs.say_arp(iface, out.arp)?;
-    outs.tell_local(out.news)
+    outs.tell_local(iface, out.news)
 }

@@ -1,24 +1,21 @@
-//! What a turn asks of the outside, and what is new in it.
+//! What a turn asks of the outside, what is new in it, and what hooks are told of that.
 ghost use Rattle.std.specs.Prelude.{◌≡◌, [], ◌∷◌, IfOk, OnOk, map, option_map, option_to_list};
 ghost use Rattle.v6_client.specs.Saying.{spoken_content};
 ghost use Rattle.client_model.specs.Messages.{Arp, Dhcp4};
-ghost use Rattle.client_model.specs.LocalSteps.{local_news};
-ghost use Rattle.client_model.specs.Dhcp4Steps.{lease_news};
-ghost use Rattle.client_model.specs.Dhcp6Steps.{lease6_news};
 ghost use Rattle.client_model.specs.Clients.{spelled};
-ghost use Rattle.iface_core.specs.Outcomes.{Offers, Tells, arp_text, ask_in, asked_in, dhcp6_said, framed, spec_in};
+ghost use Rattle.iface_core.specs.Outcomes.{Offers, arp_text, ask_in, asked_in, dhcp6_said, framed, spec_in};
 
 use arp_acd::ArpSay;
 use client_model::{Iface, News};
 use frame_link::arp_frame;
-use ipv4ll::LlNews;
-use net_types::{IfIndex, Ip4, Mac, NoMemory};
+use net_types::{IfIndex, Ip4, Mac, Net6, NoMemory};
 use std::alloc::{AllocError, Global};
-use v4_client::{News4, Say4, ask4};
+use v4_client::{Say4, ask4};
 use v4_frames::build4;
-use v6_client::{News6, duid6};
+use v6_client::duid6;
 use v6_frames::build6;
 use v6_message::Said6;
+use world::HookJob;
 
 /// A frame that is offered on an interface.
 #[derive(Debug, Drop)]
@@ -27,23 +24,34 @@ pub struct Sending {
     pub bytes: Vec<u8>,
 }
 
-/// What a turn asks of the outside and what is new in it, each in order.
+/// What an interface tells hooks (dhcpcd-run-hooks(8)).
+#[derive(Debug, Drop)]
+pub enum Told {
+    /// A job of its own.
+    Own(HookJob),
+    /// The address, with its length, that another interface has out of a delegated prefix.
+    Shared { iface: IfIndex, net: Net6 },
+}
+
+/// What a turn asks of the outside, what is new in it, and what hooks are told of that, each in order.
 #[derive(Drop)]
 pub struct Outs {
     alloc: Global,
     pub sends: Vec<Sending>,
     pub news: Vec<News>,
+    pub told: Vec<Told>,
 }
 
 impl Outs {
-    /// Nothing is asked, and nothing is new.
+    /// Nothing is asked, nothing is new, and hooks are told nothing.
     pub fn new(alloc: Global) -> Outs
-        ensures { asked_in result ≡ record { sends = []; news = [] } }
+        ensures { asked_in result ≡ record { sends = []; news = []; told = [] } }
     {
         Outs {
             alloc,
             sends: Vec::new(alloc),
             news: Vec::new(alloc),
+            told: Vec::new(alloc),
         }
     }
 
@@ -90,58 +98,6 @@ impl Outs {
         let mac = iface.managed.spec.mac;
         let bytes = build6(self.alloc, mac, message, duid6(&iface.dhcp6))?;
         self.offer(iface, bytes)
-    }
-
-    /// Tells what is new.
-    pub fn tell(&mut self, news: News) -> Result<(), NoMemory>
-        ensures { OnOk result (Tells (news ∷ []) (asked_in self.old) (asked_in self.new)) }
-    {
-        self.news.push(news)?;
-        Ok(())
-    }
-
-    /// Tells what has become of a DHCPv4 lease.
-    pub fn tell_lease(&mut self, news: News4) -> Result<(), NoMemory>
-        ensures { OnOk result (Tells (lease_news news) (asked_in self.old) (asked_in self.new)) }
-    {
-        match news {
-            News4::Nothing => Ok(()),
-            News4::Bound => self.tell(News::Lease4(News4::Bound)),
-            News4::Reboot => self.tell(News::Lease4(News4::Reboot)),
-            News4::Renew => self.tell(News::Lease4(News4::Renew)),
-            News4::Rebind => self.tell(News::Lease4(News4::Rebind)),
-            News4::Nak => self.tell(News::Lease4(News4::Nak)),
-            News4::Expire => self.tell(News::Lease4(News4::Expire)),
-            News4::Stop => self.tell(News::Lease4(News4::Stop)),
-        }
-    }
-
-    /// Tells what has become of a DHCPv6 lease.
-    pub fn tell_lease6(&mut self, news: News6) -> Result<(), NoMemory>
-        ensures { OnOk result (Tells (lease6_news news) (asked_in self.old) (asked_in self.new)) }
-    {
-        match news {
-            News6::Nothing => Ok(()),
-            News6::Bound => self.tell(News::Lease6(News6::Bound)),
-            News6::Reboot => self.tell(News::Lease6(News6::Reboot)),
-            News6::Renew => self.tell(News::Lease6(News6::Renew)),
-            News6::Rebind => self.tell(News::Lease6(News6::Rebind)),
-            News6::Changed => self.tell(News::Lease6(News6::Changed)),
-            News6::Expire => self.tell(News::Lease6(News6::Expire)),
-            News6::Stop => self.tell(News::Lease6(News6::Stop)),
-        }
-    }
-
-    /// Tells what has become of a link-local address.
-    pub fn tell_local(&mut self, news: LlNews) -> Result<(), NoMemory>
-        ensures { OnOk result (Tells (local_news news) (asked_in self.old) (asked_in self.new)) }
-    {
-        match news {
-            LlNews::Nothing => Ok(()),
-            LlNews::Timeout => self.tell(News::Timeout),
-            LlNews::Gained => self.tell(News::LocalGained),
-            LlNews::Lost(addr) => self.tell(News::LocalLost(addr)),
-        }
     }
 }
 

@@ -1,18 +1,26 @@
 ghost use Rattle.std.specs.Prelude.{IfOk};
+ghost use Rattle.net_types.specs.AddressText.{FitsMac};
 ghost use Rattle.net_types.specs.NameText.{FitsName};
+ghost use Rattle.settings.specs.Dhcp4Settings.{FitsDhcp4};
+ghost use Rattle.settings.specs.Dhcp6Settings.{FitsDhcp6};
+ghost use Rattle.settings.specs.Fitting.{FitsManaged};
+ghost use Rattle.world.specs.Rows.{IsInterface};
 
-use crate::{Outs, Turn, TurnInput, iface_due, iface_input, iface_tick, machine_due};
+use crate::{Outs, Told, Turn, TurnInput, iface_due, iface_input, iface_tick, machine_due};
 use client_model::{Iface, News, TimedMachine};
 use ipv4ll::ll_off;
 use machine::has_come;
 use net_types::{IfIndex, IfSpec, Mac, NoMemory, read_name};
-use settings::{Dhcp4Conf, Dhcp6Conf, IaConf, Identifier, IfConf, Managed};
+use settings::{
+    Dhcp4Conf, Dhcp6Conf, HookConf, IaConf, Identifier, IfConf, Managed, ResolverConf, Script,
+};
 use std::alloc::Global;
 use std::test::*;
 use v4_client::{Client4, Set4, client4_new};
 use v4_message::Ask4;
 use v6_client::{Client6, IaAsk, Set6, client6_new};
 use v6_options::{Duid, IaKind};
+use world::Reason;
 
 const INDEX: IfIndex = IfIndex { number: 1 };
 
@@ -30,7 +38,9 @@ const PAYLOAD: usize = 62;
 const SOLICIT: u8 = 1;
 
 fn spec() -> Result<IfSpec, Fail>
-    ensures { IfOk result (λ spec. FitsName spec.name) }
+    ensures index { IfOk result (λ spec. IsInterface spec.index.number) }
+    ensures name { IfOk result (λ spec. FitsName spec.name) }
+    ensures mac { IfOk result (λ spec. FitsMac spec.mac) }
 {
     Ok(IfSpec {
         index: INDEX,
@@ -39,14 +49,59 @@ fn spec() -> Result<IfSpec, Fail>
     })
 }
 
-/// An address is asked for of DHCPv6, without the first delay; no IPv4 runs.
-fn conf(alloc: Global) -> Result<IfConf, Fail> {
+fn dhcp4_conf(alloc: Global) -> Dhcp4Conf
+    ensures { FitsDhcp4 result }
+{
+    Dhcp4Conf {
+        host: Vec::new(alloc),
+        vendor: Vec::new(alloc),
+        identifier: Identifier::Hardware,
+        asked: Vec::new(alloc),
+        refused: Vec::new(alloc),
+        required: Vec::new(alloc),
+        blacklist: Vec::new(alloc),
+    }
+}
+
+/// An address is asked for.
+fn dhcp6_conf(alloc: Global) -> Result<Dhcp6Conf, Fail>
+    ensures { IfOk result FitsDhcp6 }
+{
     let ia = IaConf {
         kind: IaKind::Na,
         iaid: 1,
         hint: 0,
     };
-    Ok(IfConf {
+    let ias = Vec::from_slice(alloc, &[ia])?;
+    Ok(Dhcp6Conf {
+        rapid: false,
+        ias,
+        shares: Vec::new(alloc),
+    })
+}
+
+fn resolver_conf(alloc: Global) -> ResolverConf {
+    ResolverConf {
+        servers: Vec::new(alloc),
+        search: Vec::new(alloc),
+        domain: String::new(alloc),
+    }
+}
+
+fn hook_conf(alloc: Global) -> HookConf {
+    HookConf {
+        script: Script::Default,
+        env: Vec::new(alloc),
+    }
+}
+
+/// Interface 1, where DHCPv6 runs without the first delay, and no IPv4.
+fn managed(alloc: Global) -> Result<Managed, Fail>
+    ensures { IfOk result FitsManaged }
+{
+    let spec = spec()?;
+    let dhcp6 = dhcp6_conf(alloc)?;
+    let conf = IfConf {
         ipv4only: false,
         ipv6only: true,
         nodhcp: false,
@@ -60,21 +115,14 @@ fn conf(alloc: Global) -> Result<IfConf, Fail> {
         reboot: 5,
         metric: None,
         address: None,
+        address6: None,
         router: None,
-        dhcp4: Dhcp4Conf {
-            host: Vec::new(alloc),
-            vendor: Vec::new(alloc),
-            identifier: Identifier::Hardware,
-            asked: Vec::new(alloc),
-            refused: Vec::new(alloc),
-            required: Vec::new(alloc),
-            blacklist: Vec::new(alloc),
-        },
-        dhcp6: Dhcp6Conf {
-            rapid: false,
-            ias: Vec::from_slice(alloc, &[ia])?,
-        },
-    })
+        dhcp4: dhcp4_conf(alloc),
+        dhcp6,
+        resolver: resolver_conf(alloc),
+        hooks: hook_conf(alloc),
+    };
+    Ok(Managed { spec, conf })
 }
 
 fn dhcp4(alloc: Global) -> Result<Client4, Fail> {
@@ -117,18 +165,25 @@ fn dhcp6(alloc: Global) -> Result<Client6, Fail> {
 }
 
 /// Interface 1 without carrier.
-fn iface(alloc: Global) -> Result<Iface, Fail> {
+fn iface(alloc: Global) -> Result<Iface, Fail>
+    ensures { IfOk result (λ iface. FitsManaged iface.managed) }
+{
     Ok(Iface {
-        managed: Managed {
-            spec: spec()?,
-            conf: conf(alloc)?,
-        },
+        managed: managed(alloc)?,
         up: false,
         stopped: false,
         dhcp4: dhcp4(alloc)?,
         local: ll_off(INDEX),
         dhcp6: dhcp6(alloc)?,
     })
+}
+
+/// The reason of a job of the interface's own.
+fn reason_of(told: &Told) -> Option<Reason> {
+    match told {
+        Told::Own(job) => Some(job.reason),
+        Told::Shared { .. } => None,
+    }
 }
 
 #[test]
@@ -143,6 +198,10 @@ fn a_solicit_is_said_a_millisecond_after_the_carrier_came(rt: HostRuntime) -> Re
     };
     iface_input(&mut iface, &turn, &[MAC], &mut outs)?;
     assert_eq!(rt; outs.news.first().copied(), Some(News::CarrierCame));
+    assert_eq!(rt;
+        outs.told.first().and_then(reason_of),
+        Some(Reason::Carrier)
+    );
     assert!(rt; outs.sends.is_empty());
     assert_eq!(rt; iface_due(&iface), Some(1001));
     if has_come(machine_due(&iface, TimedMachine::Dhcp6), 1001) {

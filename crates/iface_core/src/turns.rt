@@ -1,5 +1,6 @@
 ghost use Rattle.std.specs.Prelude.{◌≡◌, ◌==◌, ◌<◌, ◌^◌, OnOk, true};
 ghost use Rattle.machine.specs.Moment.{is_due};
+ghost use Rattle.settings.specs.Fitting.{FitsManaged};
 ghost use Rattle.world.specs.Rows.{IsInterface};
 ghost use Rattle.client_model.specs.IfaceSteps.{index_of};
 ghost use Rattle.v4_frames.specs.Heard.{heard4_in};
@@ -46,6 +47,7 @@ pub fn iface_tick(
 ) -> Result<(), NoMemory>
     requires at { at < 10 ^ 15 }
     requires due { is_due (run.machine_due machine iface.old) at ≡ true }
+    requires fits { FitsManaged iface.old.managed }
     ensures { OnOk result (Goes (run.machine_ticked machine at salt iface.old) iface.new (asked_in outs.old) (asked_in outs.new)) }
 {
     match machine {
@@ -62,7 +64,8 @@ fn tick_if_due(
     turn: &Turn<'_>,
     outs: &mut Outs,
 ) -> Result<(), NoMemory>
-    requires { turn.now.at < 10 ^ 15 }
+    requires at { turn.now.at < 10 ^ 15 }
+    requires fits { FitsManaged iface.old.managed }
     ensures { OnOk result (Goes (run.machine_ticked machine turn.now.at turn.now.salt iface.old) iface.new (asked_in outs.old) (asked_in outs.new)) }
 {
     if has_come(machine_due(iface, machine), turn.at) {
@@ -80,7 +83,8 @@ pub fn iface_input(
     own: &[Mac],
     outs: &mut Outs,
 ) -> Result<(), NoMemory>
-    requires { turn.now.at < 10 ^ 15 }
+    requires at { turn.now.at < 10 ^ 15 }
+    requires fits { FitsManaged iface.old.managed }
     ensures { OnOk result (Goes (input_of own.now turn.now iface.old) iface.new (asked_in outs.old) (asked_in outs.new)) }
 {
     if iface.stopped {
@@ -127,7 +131,8 @@ fn hear_arp(
     own: &[Mac],
     outs: &mut Outs,
 ) -> Result<(), NoMemory>
-    requires { turn.now.at < 10 ^ 15 }
+    requires at { turn.now.at < 10 ^ 15 }
+    requires fits { FitsManaged iface.old.managed }
     ensures { OnOk result (Goes (hears_packet own.now turn.now.at turn.now.salt arp.now iface.old) iface.new (asked_in outs.old) (asked_in outs.new)) }
 {
     hear_packet(iface, arp, turn.at, turn.salt, own, outs)?;
@@ -141,7 +146,8 @@ fn hear_dhcp6(
     turn: &Turn<'_>,
     outs: &mut Outs,
 ) -> Result<(), NoMemory>
-    requires { turn.now.at < 10 ^ 15 }
+    requires at { turn.now.at < 10 ^ 15 }
+    requires fits { FitsManaged iface.old.managed }
     ensures { OnOk result (Goes (hears_message6 turn.now.at turn.now.salt (heard6_in iface.old.managed.spec.mac bytes.now) iface.old) iface.new (asked_in outs.old) (asked_in outs.new)) }
 {
     match heard6_of(iface.managed.spec.mac, bytes) {
@@ -157,7 +163,8 @@ fn hear_server(
     turn: &Turn<'_>,
     outs: &mut Outs,
 ) -> Result<(), NoMemory>
-    requires { turn.now.at < 10 ^ 15 }
+    requires at { turn.now.at < 10 ^ 15 }
+    requires fits { FitsManaged iface.old.managed }
     ensures { OnOk result (Goes (hears_message turn.now.at turn.now.salt (heard4_in iface.old.managed.spec.mac bytes.now) (heard6_in iface.old.managed.spec.mac bytes.now) iface.old) iface.new (asked_in outs.old) (asked_in outs.new)) }
 {
     match heard4_of(iface.managed.spec.mac, bytes) {
@@ -174,7 +181,8 @@ fn hear(
     own: &[Mac],
     outs: &mut Outs,
 ) -> Result<(), NoMemory>
-    requires { turn.now.at < 10 ^ 15 }
+    requires at { turn.now.at < 10 ^ 15 }
+    requires fits { FitsManaged iface.old.managed }
     ensures { OnOk result (Goes (hears own.now turn.now.at turn.now.salt bytes.now iface.old) iface.new (asked_in outs.old) (asked_in outs.new)) }
 {
     match arp_in_frame(bytes) {
@@ -207,7 +215,8 @@ fn restart(iface: &mut Iface, turn: &Turn<'_>)
 
 /// The ticks of the machines that are due, in order.
 fn tick_machines(iface: &mut Iface, turn: &Turn<'_>, outs: &mut Outs) -> Result<(), NoMemory>
-    requires { turn.now.at < 10 ^ 15 }
+    requires at { turn.now.at < 10 ^ 15 }
+    requires fits { FitsManaged iface.old.managed }
     ensures { OnOk result (Goes (run.ticked turn.now.at turn.now.salt iface.old) iface.new (asked_in outs.old) (asked_in outs.new)) }
 {
     tick_if_due(iface, TimedMachine::Dhcp4, turn, outs)?;
@@ -223,7 +232,7 @@ pub fn iface_turn(
     outs: &mut Outs,
 ) -> Result<(), NoMemory>
     requires at { turn.now.at < 10 ^ 15 }
-    requires index { IsInterface (index_of iface.old) }
+    requires fits { FitsManaged iface.old.managed }
     ensures { OnOk result (Goes (iface_turned own.now (turn_of turn.now) iface.old) iface.new (asked_in outs.old) (asked_in outs.new)) }
 {
     restart(iface, turn);

@@ -26,7 +26,7 @@ use Rattle.client_model.specs.ClientSettings6.{ask_for, runs_dhcp6, settings6_of
 use Rattle.client_model.specs.Fitting.{FitsBeginning}
 use Rattle.client_model.specs.IfaceSteps.{IfaceStep, silent}
 use Rattle.client_model.specs.IfaceTurns.{iface_turned}
-use Rattle.client_model.specs.Interfaces.{begins, carrier_comes, resting}
+use Rattle.client_model.specs.Interfaces.{begins, carrier_at_opening, resting}
 use Rattle.client_model.specs.KeptLeases.{Beginning}
 use Rattle.evidence_words.specs.Entries.{Entry}
 use Rattle.evidence_words.specs.IfaceLives.{IsLived, IsSaid, Met, Opening, entry_of, iface_after, now_in, opening_entry, opens, shown, site_of}
@@ -161,7 +161,7 @@ module _ (own : List Mac) (beginning : Beginning) (fits : FitsBeginning beginnin
       opened_by early Rests (quiet_goes, refl) tt (λ h. cc) g managed stopped up_is client_is step does is four
 
   abbrev opened_when : Bool → IfaceStep
-  opened_when u = if u then carrier_comes opening.at opening.salt (resting beginning) else silent (resting beginning)
+  opened_when u = carrier_at_opening u opening.at opening.salt (resting beginning)
 
   opened_faced : opening.at < 10 ^ 15 → (u : Bool) → up ≡ u → IsSaid site e (opened_when u)
       → AllByRecursion FitsFour (opened_when u).said

@@ -1,5 +1,5 @@
 -- What the input of a turn is to the DHCPv6 client of an interface: one of its calls.
-use Rattle.std.proofs.Common.{◌≡◌, ◌≢◌, ℕ, Bool, true, false, ◌&&◌, ◌||◌, List, [], Option, Some, None, refl, sym, ap, subst, ◌∙◌, arith, bytes_eq}
+use Rattle.std.proofs.Common.{◌≡◌, ◌≢◌, ℕ, Bool, true, false, ◌&&◌, ◌||◌, List, [], Option, Some, None, refl, sym, ap, subst, ◌∙◌, append-nil, arith, bytes_eq}
 use Rattle.std.proofs.lemmas.Bool.{both_ways}
 use Rattle.std.proofs.lemmas.Bool.Decides.{nat_tests}
 use Rattle.std.specs.Option.{option_and_then, option_map}
@@ -42,7 +42,7 @@ use Rattle.client_model.specs.ClientSettings.{runs_dhcp4}
 use Rattle.client_model.specs.Dhcp6Steps.{begin_dhcp6, contested, dhcp6_step, drop_dhcp6, rebind_dhcp6, stop_dhcp6, tell6_of, tick_dhcp6}
 use Rattle.client_model.specs.IfaceSteps.{IfaceStep, silent, then_step, with_news}
 use Rattle.client_model.specs.IfaceTurns.{arp_heard, arp_of_frame, hears_either, input_step, taken}
-use Rattle.client_model.specs.Interfaces.{begins, carried, carrier_goes, halted, machines_drop, machines_rebind, machines_stop, rebound, released, ticked, told_at_stop}
+use Rattle.client_model.specs.Interfaces.{begins, carried, carrier_goes, halted, machines_drop, machines_rebind, machines_stop, rebound, released, tells, ticked, told_at_stop}
 use Rattle.client_model.specs.LocalSteps.{local_hears, local_off, tick_local}
 use Rattle.evidence_words.specs.Entries.{Entry, Offer}
 use Rattle.evidence_words.specs.Inputs.{Site, GoesOn, StaysOn, carrier_after, has_carrier, index_at, is_stop}
@@ -197,6 +197,16 @@ news_runs f turned told before step h = record {
   stopped = h.stopped;
   client_is = h.client_is;
   says_are = h.says_are;
+}
+
+-- the same, told last
+told_last : (f : Iface) (turned : Turned6) (told : News) (step : IfaceStep) → Runs f turned step → Runs f turned (then_step step (tells told))
+told_last f turned told step h = record {
+  managed = h.managed;
+  up = h.up;
+  stopped = h.stopped;
+  client_is = h.client_is;
+  says_are = ap sixes (append-nil step.said) ∙ h.says_are;
 }
 
 -- ---- frames of other kinds
@@ -564,9 +574,11 @@ module _ (site : Site) (at salt : ℕ) (bytes : List ℕ) (offers : List Offer) 
 
     stop_input : (up : Bool) → InputRuns Stop (face up false) (halted at salt (face up false))
     stop_input up =
-        let does = stops_run at salt (told_at_stop site.managed.conf) (face up true) in
+        let tell : Tell = told_at_stop site.managed.conf in
+        let turned : Turned6 = release_turned (tell6_of tell) at salt c6 in
+        let does = told_last (face up true) turned news.Stopped (machines_stop tell at salt (face up true)) (stops_run at salt tell (face up true)) in
         record {
-          call = Releases (tell6_of (told_at_stop site.managed.conf));
+          call = Releases (tell6_of tell);
           fits = refl;
           managed = does.managed;
           client_is = does.client_is;

@@ -35,13 +35,13 @@ use Rattle.client_model.specs.ClientSettings6.{runs_dhcp6, settings6_of}
 use Rattle.client_model.specs.Dhcp4Steps.{arms, begin_dhcp4, dhcp4_step, holds_lease}
 use Rattle.client_model.specs.Dhcp6Steps.{begin_dhcp6, dhcp6_step}
 use Rattle.client_model.specs.IfaceSteps.{IfaceStep, silent}
-use Rattle.client_model.specs.Interfaces.{resting, carrier_comes}
+use Rattle.client_model.specs.Interfaces.{resting, carrier_comes, carrier_at_opening}
 use Rattle.client_model.specs.KeptLeases.{Beginning}
 use Rattle.client_model.specs.LocalSteps.{armed, armed_for_lease, chooses_local, fallback_of}
 use Rattle.world.specs.declared.rows.HostRow.{HostRow}
-use Rattle.client_model.specs.WantedRows.{outlet_of, iface_rows, static_rows, lease_rows, local_rows, lease6_rows}
+use Rattle.client_model.specs.WantedRows.{outlet_of, iface_rows, lease_rows, local_rows, lease6_rows}
 use Rattle.evidence_words.specs.IfaceLives.{Opening, opens}
-use Rattle.lease_evidence.specs.HeldLeases.{BeginsWithoutLease}
+use Rattle.lease_evidence.specs.HeldLeases.{BeginsWithoutLease, configured_rows}
 
 -- ---- link-local that is armed holds nothing
 
@@ -111,14 +111,14 @@ module _ (b : Beginning) (up : Bool) where
       fresh.nothing
 
   abbrev statics : List HostRow
-  statics = static_rows (outlet_of b.managed) up b.managed.conf.address b.managed.conf.router
+  statics = configured_rows b.managed up
 
   rows_static : (f : Iface) → HoldsNothing f → iface_rows f ≡ statics
   rows_static f h =
-      (λ i. ((static_rows (outlet_of (h.managed_is i)) (h.up_is i) (h.managed_is i).conf.address (h.managed_is i).conf.router
+      (λ i. ((configured_rows (h.managed_is i) (h.up_is i)
       ++ lease_rows (outlet_of (h.managed_is i)) (h.managed_is i).conf.router (h.none i))
       ++ local_rows (outlet_of (h.managed_is i)) (h.no_local i))
-      ++ lease6_rows (outlet_of (h.managed_is i)) (h.no_items i))
+      ++ lease6_rows (outlet_of (h.managed_is i)) (h.managed_is i).conf.dhcp6.shares (h.no_items i))
       ∙ append-nil ((statics ++ []) ++ []) ∙ append-nil (statics ++ []) ∙ append-nil statics
 
 -- ---- the opening
@@ -163,7 +163,7 @@ module _ (b : Beginning) (at salt : ℕ) where
   comes_nothing =
       begins6_nothing b true at salt (arms at (begin_dhcp4 at salt lit).iface).iface (arms_fresh b true at (begin_dhcp4 at salt lit).iface first_still)
 
-  opened_nothing : (up : Bool) → HoldsNothing b up (if up then carrier_comes at salt (resting b) else silent (resting b)).iface
+  opened_nothing : (up : Bool) → HoldsNothing b up (carrier_at_opening up at salt (resting b)).iface
   opened_nothing true = comes_nothing
   opened_nothing false = record { managed_is = refl; up_is = refl; none = refl; no_local = refl; no_items = refl }
 

@@ -49,7 +49,7 @@ use Rattle.client_model.specs.Dhcp4Steps.{holds_lease, said_in, dhcp4_step, arri
 use Rattle.client_model.specs.Dhcp6Steps.{contested, said6_in, dhcp6_step, tell6_of}
 use Rattle.client_model.specs.IfaceSteps.{IfaceStep, silent, then_step}
 use Rattle.client_model.specs.IfaceTurns.{arp_of_frame, arp_heard, hears_message6, hears_either, hears, input_step}
-use Rattle.client_model.specs.Interfaces.{begins, carried, released, machines_rebind, machines_drop, machines_stop, told_at_stop}
+use Rattle.client_model.specs.Interfaces.{begins, carried, released, halted, machines_rebind, machines_drop, machines_stop, told_at_stop}
 use Rattle.client_model.specs.LocalSteps.{local_off}
 use Rattle.evidence_words.specs.Entries.{Entry, Offer, offers_on}
 use Rattle.evidence_words.specs.Inputs.{Site, index_at, arp_on, carrier_after, has_carrier, is_stop, is_stopped}
@@ -358,6 +358,12 @@ module _ (site : Site) (mac : sent.FitsMac site.managed.spec.mac) (clean : Type 
         let first : IfaceStep = then_step four local_off in
         then_dhcp6 first mac (then_off four (stopped_by tell)) (release_turned (tell6_of tell) at salt first.iface.dhcp6)
 
+    -- a stop is told last, and nothing is said then
+    halted_carried : (up stopped : Bool) (rest : Iface) → Carried (halted at salt (face up stopped c rest))
+    halted_carried up stopped rest =
+        let step : IfaceStep = machines_stop (told_at_stop site.managed.conf) at salt (face up true c rest) in
+        subst (λ (more : List Said). Goes more step.iface.dhcp4) (sym (append-nil step.said)) (stops_carried (told_at_stop site.managed.conf) up true rest)
+
     -- a message of DHCPv6, or none
     other_carried : (up stopped : Bool) (rest : Iface) (message : Option HeardMessage6) → stays_at site e past ≡ true → Silent
         → arp_on (index_at site) event bytes ≡ None → Carried (hears_message6 at salt message (face up stopped c rest))
@@ -508,7 +514,7 @@ module _ (site : Site) (mac : sent.FitsMac site.managed.spec.mac) (clean : Type 
 
     stop_leased : (up : Bool) → Before Stop one up false c → AfterInput Stop (input_step site.own at salt Stop bytes (face up false c rest))
     stop_leased up b h =
-        let ended = stops_carried Stop one between others c b.amid (told_at_stop site.managed.conf) up true rest h in
+        let ended = halted_carried Stop one between others c b.amid up false rest h in
         record {
           leased = record {
             stopped = refl;

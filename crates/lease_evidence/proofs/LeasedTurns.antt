@@ -34,10 +34,10 @@ use Rattle.client_model.specs.Dhcp4Steps.{dhcp4_step, said_in}
 use Rattle.client_model.specs.Dhcp6Steps.{said6_in}
 use Rattle.client_model.specs.LocalSteps.{tick_local}
 use Rattle.v6_client.specs.Runs.{tick_turned}
-use Rattle.client_model.specs.IfaceSteps.{IfaceStep, index_of, silent, then_step}
+use Rattle.client_model.specs.IfaceSteps.{IfaceStep, index_of, then_step}
 use Rattle.client_model.specs.IfaceTurns.{input_step, iface_turned}
 use Rattle.client_model.specs.KeptLeases.{Beginning}
-use Rattle.client_model.specs.Interfaces.{resting, begins, carrier_comes, restarted, unsent_in, ticked}
+use Rattle.client_model.specs.Interfaces.{resting, begins, carrier_at_opening, restarted, unsent_in, ticked}
 use Rattle.evidence_words.specs.Entries.{Entry, Offer, offers_on}
 use Rattle.evidence_words.specs.Inputs.{Site, index_at, offers_at, has_carrier, is_stopped}
 use Rattle.evidence_words.proofs.Offers.{Offered}
@@ -177,7 +177,7 @@ module _ (own : List Mac) (clean : Type 0) (at salt : ℕ) (early : at < 10 ^ 15
   }
 
   abbrev opened_when : Bool → IfaceStep
-  opened_when up = if up then carrier_comes at salt (resting b) else silent (resting b)
+  opened_when up = carrier_at_opening up at salt (resting b)
 
   pub opens_leased : (up : Bool) → Offered m.spec (ask_of b.duid m) clean (opened_when up).said (offers_on m.spec.index.number offers)
       → Turned (site_at up) clean (opened_when up).iface (opened_when up).said (opening ∷ [])

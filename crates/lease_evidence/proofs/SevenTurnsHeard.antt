@@ -224,9 +224,10 @@ interface_fits = record {
   mac = record { six = refl; range = all_bytes client_mac.bytes (all_small client_mac.bytes refl) };
   metric = tt;
   address = tt;
+  address6 = tt;
   router = tt;
   dhcp4 = record { host = lit< tt; vendor = lit< tt; identifier = tt };
-  dhcp6 = record { few = lit≤ tt; each = tt; unlike = λ i j d before within. absurd (omega (arith, within)) };
+  dhcp6 = record { few = lit≤ tt; each = tt; shares = tt; unlike = λ i j d before within. absurd (omega (arith, within)) };
 }
 
 pub beginning_fits : FitsBeginning beginning

@@ -10,6 +10,7 @@ use Rattle.world.specs.declared.wakes.Event.{Event}
 use Rattle.world.specs.declared.wakes.Event.TheVariants.{Frame, Quiet}
 use Rattle.settings.specs.declared.interfaces.Managed.{Managed}
 use Rattle.settings.specs.Dhcp4Settings.{Hardware}
+use Rattle.settings.specs.HookSettings.{Nothing}
 use Rattle.v4_client.specs.Saying.{discover, request}
 use Rattle.client_model.specs.Messages.{Said, Dhcp4, Arp}
 use Rattle.arp_acd.specs.declared.detection.ArpSay.TheVariants.{Probe, Announce}
@@ -53,9 +54,12 @@ interface = record {
     reboot = 0;
     metric = None;
     address = None;
+    address6 = None;
     router = None;
     dhcp4 = record { host = []; vendor = []; identifier = Hardware; asked = []; refused = []; required = []; blacklist = [] };
-    dhcp6 = record { rapid = false; ias = [] };
+    dhcp6 = record { rapid = false; ias = []; shares = [] };
+    resolver = record { servers = []; search = []; domain = [] };
+    hooks = record { script = Nothing; env = [] };
   };
 }
 

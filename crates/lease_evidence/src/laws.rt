@@ -16,7 +16,7 @@ pub fn held_leases_have_a_basis()
     ensures { HeldLeasesHaveBasis }
 {}
 
-/// Law: after the opening no interface holds a lease, whatever was kept for it, and its static address alone gives it rows: a kept
+/// Law: after the opening no interface holds a lease, whatever was kept for it, and its static addresses alone give it rows: a kept
 /// lease is held only after an exchange of this life (RFC 2131, section 3.2).
 pub fn a_kept_lease_is_not_held_at_first()
     ensures { (beginning : Beginning) (opening : Opening) → BeginsWithoutLease beginning opening }

@@ -12,7 +12,7 @@ mod subnets;
 pub use laws::{planned_shares_are_apart, planned_shares_fit, subnets_are_of_the_prefix};
 pub use rules::{ShareCause, ShareFault, plan};
 pub use share::Share;
-pub use subnets::subnet;
+pub use subnets::{network_number, subnet};
 
 #[cfg(test)]
 mod tests;

@@ -41,8 +41,8 @@ fn has_bits(number: u32, bits: u8) -> bool
     u32::from(bits) >= u32::BITS || number < 1 << bits
 }
 
-/// The first address with the bits of the prefix.
-fn network_number(prefix: Net6) -> u128
+/// The first address with the bits of the prefix (RFC 4291, section 2.3).
+pub fn network_number(prefix: Net6) -> u128
     requires { prefix.len < 128 }
     ensures { result ≡ network_number prefix }
 {

@@ -21,7 +21,6 @@ use Rattle.replay_text.specs.ScriptContent.{HoldsLines, conf_lines}
 use Rattle.replay_text.specs.LinesRead.{LinesRead}
 use Rattle.replay_text.specs.NextWords.{may_come}
 use Rattle.replay_text.specs.ScriptReading.{ScriptRead, step, given, known_cause, line_cause, cause_of}
-use Rattle.replay_text.specs.Unbuilt.{is_unbuilt}
 use Rattle.replay_text.specs.Words.{Known, word_at, is_text}
 use Rattle.replay_text.proofs.PlaceLaws.{in_place, place_comes}
 use Rattle.replay_text.proofs.ReadScripts.{completes, takes, ends, whole, are}
@@ -34,35 +33,26 @@ true_false yes_ no_ = let never : true ≡ false = sym yes_ ∙ no_ in cc
 known_is : (read : LinesRead) (lines : List Line) (line : Line) → AfterLines read lines → known_after lines line ≡ word_at line
 known_is read lines line after = subst (λ ls. known_after ls line ≡ word_at line) (sym after.are) refl
 
--- a known word, by its place and what follows it
+-- a known word, by its place
 known_bad : (read : LinesRead) (lines : List Line) (line : Line) → run step lines None ≡ Some (Some read) → AfterLines read lines → is_text line ≡ true → (known : Known) → word_at line ≡ Some known
-    → (place : Bool) → may_come read known.0 ≡ place → (unbuilt : Bool) → is_unbuilt known.0 known.1 ≡ unbuilt
-    → IsBadFor lines line (cond place (cond unbuilt causes.NotBuilt causes.Form) causes.Order)
-known_bad read lines line runs after text known word false place unbuilt form = record {
+    → (place : Bool) → may_come read known.0 ≡ place → IsBadFor lines line (cond place causes.Form causes.Order)
+known_bad read lines line runs after text known word false place = record {
   known = known;
   text = text;
   begins = known_is read lines line after ∙ word;
   place = λ stands. true_false (place_comes read lines known.0 runs after stands) place;
 }
-known_bad read lines line runs after text known word true place false form = record {
+known_bad read lines line runs after text known word true place = record {
   known = known;
   text = text;
   begins = known_is read lines line after ∙ word;
   place = in_place read lines known.0 after place;
-  form = form;
-}
-known_bad read lines line runs after text known word true place true form = record {
-  known = known;
-  text = text;
-  begins = known_is read lines line after ∙ word;
-  place = in_place read lines known.0 after place;
-  form = form;
 }
 
 word_bad : (read : LinesRead) (lines : List Line) (line : Line) → run step lines None ≡ Some (Some read) → AfterLines read lines → is_text line ≡ true → (o : Option Known) → word_at line ≡ o → IsBadFor lines line (known_cause read o)
 word_bad read lines line runs after text None word = (text, known_is read lines line after ∙ word)
 word_bad read lines line runs after text (Some known) word =
-    known_bad read lines line runs after text known word (may_come read known.0) refl (is_unbuilt known.0 known.1) refl
+    known_bad read lines line runs after text known word (may_come read known.0) refl
 
 line_bad : (state : Option LinesRead) (lines : List Line) (line : Line) → After state lines → is_text line ≡ true → IsBadFor lines line (line_cause state line)
 line_bad None lines line after text = subst (λ ls. IsBadFor ls line causes.Word) (sym after.read) (text, refl)
@@ -181,13 +171,9 @@ further_never text a b one other f =
 known_one : (lines : List Line) (line : Line) (a b : Known) → known_after lines line ≡ Some a → known_after lines line ≡ Some b → a ≡ b
 known_one lines line a b one other = some_same (sym one ∙ other)
 
-misplaced : (lines : List Line) (line : Line) (unbuilt : Bool) → IsOutOfPlace lines line → IsOutOfForm unbuilt lines line → ⊥
-misplaced lines line unbuilt out form =
+misplaced : (lines : List Line) (line : Line) → IsOutOfPlace lines line → IsOutOfForm lines line → ⊥
+misplaced lines line out form =
     out.place (subst (λ (k : Known). IsInPlace lines k.0) (known_one lines line form.known out.known form.begins out.begins) form.place)
-
-misformed : (lines : List Line) (line : Line) → IsOutOfForm false lines line → IsOutOfForm true lines line → ⊥
-misformed lines line bad unbuilt =
-    true_false (subst (λ (k : Known). is_unbuilt k.0 k.1 ≡ true) (known_one lines line unbuilt.known bad.known unbuilt.begins bad.begins) unbuilt.form) bad.form
 
 unknown : (lines : List Line) (line : Line) (known : Known) → known_after lines line ≡ None → known_after lines line ≡ Some known → ⊥
 unknown lines line known none some = none-some known (sym none ∙ some)
@@ -197,27 +183,18 @@ cause_one lines line causes.NotText causes.NotText one other = refl
 cause_one lines line causes.NotText causes.Word one other = absurd (true_false other.0 one)
 cause_one lines line causes.NotText causes.Order one other = absurd (true_false other.text one)
 cause_one lines line causes.NotText causes.Form one other = absurd (true_false other.text one)
-cause_one lines line causes.NotText causes.NotBuilt one other = absurd (true_false other.text one)
 cause_one lines line causes.Word causes.NotText one other = absurd (true_false one.0 other)
 cause_one lines line causes.Word causes.Word one other = refl
 cause_one lines line causes.Word causes.Order one other = absurd (unknown lines line other.known one.1 other.begins)
 cause_one lines line causes.Word causes.Form one other = absurd (unknown lines line other.known one.1 other.begins)
-cause_one lines line causes.Word causes.NotBuilt one other = absurd (unknown lines line other.known one.1 other.begins)
 cause_one lines line causes.Order causes.NotText one other = absurd (true_false one.text other)
 cause_one lines line causes.Order causes.Word one other = absurd (unknown lines line one.known other.1 one.begins)
 cause_one lines line causes.Order causes.Order one other = refl
-cause_one lines line causes.Order causes.Form one other = absurd (misplaced lines line false one other)
-cause_one lines line causes.Order causes.NotBuilt one other = absurd (misplaced lines line true one other)
+cause_one lines line causes.Order causes.Form one other = absurd (misplaced lines line one other)
 cause_one lines line causes.Form causes.NotText one other = absurd (true_false one.text other)
 cause_one lines line causes.Form causes.Word one other = absurd (unknown lines line one.known other.1 one.begins)
-cause_one lines line causes.Form causes.Order one other = absurd (misplaced lines line false other one)
+cause_one lines line causes.Form causes.Order one other = absurd (misplaced lines line other one)
 cause_one lines line causes.Form causes.Form one other = refl
-cause_one lines line causes.Form causes.NotBuilt one other = absurd (misformed lines line one other)
-cause_one lines line causes.NotBuilt causes.NotText one other = absurd (true_false one.text other)
-cause_one lines line causes.NotBuilt causes.Word one other = absurd (unknown lines line one.known other.1 one.begins)
-cause_one lines line causes.NotBuilt causes.Order one other = absurd (misplaced lines line true other one)
-cause_one lines line causes.NotBuilt causes.Form one other = absurd (misformed lines line other one)
-cause_one lines line causes.NotBuilt causes.NotBuilt one other = refl
 
 why_one : (lines : List Line) (front : Front) (a b : ScriptCause) → Why lines front a → Why lines front b → a ≡ b
 why_one lines (Whole line) a b one other = cause_one lines line a b one other

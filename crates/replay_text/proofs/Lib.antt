@@ -12,6 +12,7 @@ pub mod ReadScripts
 pub mod PlaceLaws
 pub mod FaultLaws
 pub mod LineLaws
+pub mod PollLaws
 pub mod CarrierLaws
 pub mod FileLaws
 pub mod CrashLaws

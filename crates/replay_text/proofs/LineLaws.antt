@@ -32,7 +32,7 @@ use Rattle.script_model.specs.declared.failing.FailDevice.{FailDevice}
 use Rattle.script_model.specs.declared.failing.FailDevice.TheVariants.{Link, Store, Host, Hooks}
 use Rattle.script_model.specs.declared.failing.FailLine.{FailLine}
 use Rattle.script_model.specs.Lines.{carrier_text, event_text, interface_text}
-use Rattle.script_model.specs.FailingCalls.{device_text, fail_text, IsBuiltDevice, FitsFail}
+use Rattle.script_model.specs.FailingCalls.{device_text, fail_text, FitsFail}
 use Rattle.script_model.specs.Scripts.{FitsEvent, frame_room, FitsBytes, FitsGiven}
 use Rattle.script_model.specs.TurnSpellings.{SpellsEvent, SpellsGiven}
 use Rattle.script_model.proofs.SpelledRows.{ip6_printable}
@@ -86,14 +86,14 @@ call_reads = guard_reads (λ n. leb 1 n) (number_reads (2 ^ 64) (omega arith))
 abbrev pub fail_words : FailLine → List ℕ
 fail_words fail = device_text fail.device ++ 32 ∷ decimal fail.number
 
-fail_fits : (device : FailDevice) (n : ℕ) → IsBuiltDevice device → IsCall n → FitsFail (failing device n)
-fail_fits device n built fits = record { built = built; first = leb-true _ _ fits.1; bits = fits.0 }
+fail_fits : (device : FailDevice) (n : ℕ) → IsCall n → FitsFail (failing device n)
+fail_fits device n fits = record { first = leb-true _ _ fits.1; bits = fits.0 }
 
 fail_chosen : (device : FailDevice) (n : ℕ) → FitsFail (failing device n) → Chosen devices fail_words (failing device n)
 fail_chosen Link n fits = part_chosen devices fail_words 0 (codes "link ") (failing Link) n call_reads refl refl (fits.bits, le-leb _ _ fits.first)
 fail_chosen Store n fits = part_chosen devices fail_words 1 (codes "store ") (failing Store) n call_reads refl refl (fits.bits, le-leb _ _ fits.first)
 fail_chosen Host n fits = part_chosen devices fail_words 2 (codes "host ") (failing Host) n call_reads refl refl (fits.bits, le-leb _ _ fits.first)
-fail_chosen Hooks n fits = absurd fits.built
+fail_chosen Hooks n fits = part_chosen devices fail_words 3 (codes "hooks ") (failing Hooks) n call_reads refl refl (fits.bits, le-leb _ _ fits.first)
 
 pub fail_reads : Reads fail_words FitsFail fail_at
 unfolding fail_at
@@ -101,10 +101,13 @@ fail_reads = choose_reads devices refl sounds (λ fail fits. fail_chosen fail.de
   where
     sounds : AllByRecursion (ChoiceSound fail_words FitsFail) devices
     sounds = (
-      part_sound fail_words FitsFail (codes "link ") (failing Link) call_reads (λ n. refl) (λ n fits. fail_fits Link n tt fits),
+      part_sound fail_words FitsFail (codes "link ") (failing Link) call_reads (λ n. refl) (λ n fits. fail_fits Link n fits),
       (
-        part_sound fail_words FitsFail (codes "store ") (failing Store) call_reads (λ n. refl) (λ n fits. fail_fits Store n tt fits),
-        (part_sound fail_words FitsFail (codes "host ") (failing Host) call_reads (λ n. refl) (λ n fits. fail_fits Host n tt fits), tt),
+        part_sound fail_words FitsFail (codes "store ") (failing Store) call_reads (λ n. refl) (λ n fits. fail_fits Store n fits),
+        (
+          part_sound fail_words FitsFail (codes "host ") (failing Host) call_reads (λ n. refl) (λ n fits. fail_fits Host n fits),
+          (part_sound fail_words FitsFail (codes "hooks ") (failing Hooks) call_reads (λ n. refl) (λ n fits. fail_fits Hooks n fits), tt),
+        ),
       ),
     )
 

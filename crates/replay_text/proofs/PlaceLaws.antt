@@ -22,7 +22,8 @@ use Rattle.script_model.specs.declared.crashing.CrashKind.TheVariants.{Old}
 use Rattle.script_model.specs.Crashes.{CrashScript, crash_text}
 use Rattle.script_model.specs.FailingCalls.{fail_text}
 use Rattle.script_model.specs.FirstFiles.{file_text}
-use Rattle.script_model.specs.Lines.{interface_text, start_text}
+use Rattle.script_model.specs.HookAnswers.{hook_text}
+use Rattle.script_model.specs.Lines.{interface_text, poll_text, start_text}
 use Rattle.script_model.specs.RowSpellings.{SpellsRow}
 use Rattle.script_model.specs.Scripts.{FitsGiven}
 use Rattle.script_model.specs.ScriptTexts.{ScriptLines, LifeScript}
@@ -95,7 +96,7 @@ joined : (k : ℕ) (xs ys : List Line) (a b : Bool) → list_all (within k) xs �
 joined k xs ys a b one other = list_all-append (within k) xs ys ∙ ap (λ c. c && list_all (within k) ys) one ∙ ap (λ c. a && c) other
 
 abbrev ranked : ℕ → List (List ℕ) → ScriptLines → Bool
-ranked k rows s = (leb 1 k || none_of s.conf) && ((leb 2 k || none_of s.ifaces) && ((leb 3 k || none_of rows) && ((leb 4 k || none_of s.files) && ((leb 5 k || none_of s.fails) && none_of s.lives))))
+ranked k rows s = (leb 1 k || none_of s.conf) && ((leb 2 k || none_of s.ifaces) && ((leb 3 k || none_of rows) && ((leb 4 k || none_of s.files) && ((leb 5 k || none_of s.fails) && ((leb 6 k || none_of s.polls) && none_of s.lives)))))
 
 in_order_is : (k : ℕ) (rows : List (List ℕ)) (lives : List (List Line)) (s : ScriptLines) → AreSpelled SpellsLife lives s.lives → leb 7 k ≡ false → list_all (within k) (script_lines rows lives s) ≡ ranked k rows s
 in_order_is k rows lives s lived low =
@@ -104,13 +105,15 @@ in_order_is k rows lives s lived low =
     let row_block = kind_within row_line k 3 (λ text. spelled_word (row_line text) Row text refl) rows in
     let file_block = kind_within file_text k 4 (λ file. spelled_word (file_text file) File (file_words file) (file_spelled file)) s.files in
     let fail_block = kind_within fail_text k 5 (λ fail. spelled_word (fail_text fail) Fail (fail_words fail) (fail_spelled fail)) s.fails in
-    ap (λ r. leb r k && list_all (within k) (map conf_line s.conf ++ (map interface_text s.ifaces ++ (map row_line rows ++ (map file_text s.files ++ (map fail_text s.fails ++ lives_lines lives)))))) head_rank
-    ∙ ap (λ b. b && list_all (within k) (map conf_line s.conf ++ (map interface_text s.ifaces ++ (map row_line rows ++ (map file_text s.files ++ (map fail_text s.fails ++ lives_lines lives)))))) (le-leb 0 k (omega arith))
+    let poll_block = kind_within hook_text k 6 (λ answer. spelled_word (hook_text answer) Hook (poll_text answer) refl) s.polls in
+    ap (λ r. leb r k && list_all (within k) (map conf_line s.conf ++ (map interface_text s.ifaces ++ (map row_line rows ++ (map file_text s.files ++ (map fail_text s.fails ++ (map hook_text s.polls ++ lives_lines lives))))))) head_rank
+    ∙ ap (λ b. b && list_all (within k) (map conf_line s.conf ++ (map interface_text s.ifaces ++ (map row_line rows ++ (map file_text s.files ++ (map fail_text s.fails ++ (map hook_text s.polls ++ lives_lines lives))))))) (le-leb 0 k (omega arith))
     ∙ joined k (map conf_line s.conf) _ _ _ conf_block
     (joined k (map interface_text s.ifaces) _ _ _ iface_block
     (joined k (map row_line rows) _ _ _ row_block
     (joined k (map file_text s.files) _ _ _ file_block
-    (joined k (map fail_text s.fails) _ _ _ fail_block (lives_within k low lives s.lives lived)))))
+    (joined k (map fail_text s.fails) _ _ _ fail_block
+    (joined k (map hook_text s.polls) _ _ _ poll_block (lives_within k low lives s.lives lived))))))
 
 -- ---- what a state tells of its lines
 
@@ -130,11 +133,11 @@ lives_told count past (Some read) fits = some_more past read.life
 
 -- the lines are in order up to this kind, where nothing of a later one was read
 told : (k : ℕ) (read : LinesRead) (lines : List Line) → leb 7 k ≡ false → AfterLines read lines
-    → list_all (within k) lines ≡ ((leb 1 k || none_of (conf_lines read.conf)) && ((leb 2 k || none_of read.ifaces) && ((leb 3 k || none_of read.rows) && ((leb 4 k || none_of read.files) && ((leb 5 k || none_of read.fails) && before_lives read)))))
+    → list_all (within k) lines ≡ ((leb 1 k || none_of (conf_lines read.conf)) && ((leb 2 k || none_of read.ifaces) && ((leb 3 k || none_of read.rows) && ((leb 4 k || none_of read.files) && ((leb 5 k || none_of read.fails) && ((leb 6 k || none_of read.polls) && before_lives read))))))
 told k read lines low after =
     ap (list_all (within k)) after.are ∙ in_order_is k after.rows after.lives (script_in read) after.lived low
-    ∙ ap (λ b. (leb 1 k || none_of (conf_lines read.conf)) && ((leb 2 k || none_of read.ifaces) && ((leb 3 k || b) && ((leb 4 k || none_of read.files) && ((leb 5 k || none_of read.fails) && none_of (lives_in read)))))) (rows_told after.rows read.rows after.spelled)
-    ∙ ap (λ b. (leb 1 k || none_of (conf_lines read.conf)) && ((leb 2 k || none_of read.ifaces) && ((leb 3 k || none_of read.rows) && ((leb 4 k || none_of read.files) && ((leb 5 k || none_of read.fails) && b))))) (lives_told (length read.ifaces) read.past read.last after.sound.last)
+    ∙ ap (λ b. (leb 1 k || none_of (conf_lines read.conf)) && ((leb 2 k || none_of read.ifaces) && ((leb 3 k || b) && ((leb 4 k || none_of read.files) && ((leb 5 k || none_of read.fails) && ((leb 6 k || none_of read.polls) && none_of (lives_in read))))))) (rows_told after.rows read.rows after.spelled)
+    ∙ ap (λ b. (leb 1 k || none_of (conf_lines read.conf)) && ((leb 2 k || none_of read.ifaces) && ((leb 3 k || none_of read.rows) && ((leb 4 k || none_of read.files) && ((leb 5 k || none_of read.fails) && ((leb 6 k || none_of read.polls) && b)))))) (lives_told (length read.ifaces) read.past read.last after.sound.last)
 
 -- ---- how many interfaces
 
@@ -182,10 +185,11 @@ lives_none (first ∷ lines) (life ∷ lives) lived = both_none first (lives_lin
 
 counted : (rows : List (List ℕ)) (lives : List (List Line)) (s : ScriptLines) → AreSpelled SpellsLife lives s.lives → interfaces_in (script_lines rows lives s) ≡ length s.ifaces
 counted rows lives s lived =
-    let behind = map row_line rows ++ (map file_text s.files ++ (map fail_text s.fails ++ lives_lines lives)) in
+    let behind = map row_line rows ++ (map file_text s.files ++ (map fail_text s.fails ++ (map hook_text s.polls ++ lives_lines lives))) in
     let none = both_none (map row_line rows) _ (kind_none row_line 3 refl (λ text. spelled_word (row_line text) Row text refl) rows)
     (both_none (map file_text s.files) _ (kind_none file_text 4 refl (λ file. spelled_word (file_text file) File (file_words file) (file_spelled file)) s.files)
-    (both_none (map fail_text s.fails) _ (kind_none fail_text 5 refl (λ fail. spelled_word (fail_text fail) Fail (fail_words fail) (fail_spelled fail)) s.fails) (lives_none lives s.lives lived))) in
+    (both_none (map fail_text s.fails) _ (kind_none fail_text 5 refl (λ fail. spelled_word (fail_text fail) Fail (fail_words fail) (fail_spelled fail)) s.fails)
+    (both_none (map hook_text s.polls) _ (kind_none hook_text 6 refl (λ answer. spelled_word (hook_text answer) Hook (poll_text answer) refl) s.polls) (lives_none lives s.lives lived)))) in
     let all : filter is_interface (map interface_text s.ifaces) ≡ map interface_text s.ifaces = ifaces_all interface_text (λ spec. spelled_word (interface_text spec) Interface (spec_text spec) (spec_spelled spec)) s.ifaces in
     let after_conf : filter is_interface (map interface_text s.ifaces ++ behind) ≡ map interface_text s.ifaces =
     filter-append is_interface (map interface_text s.ifaces) behind ∙ ap (λ ls. ls ++ filter is_interface behind) all ∙ ap (λ ls. map interface_text s.ifaces ++ ls) none ∙ append-nil (map interface_text s.ifaces) in

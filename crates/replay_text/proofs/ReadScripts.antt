@@ -19,6 +19,7 @@ use Rattle.world.specs.declared.wakes.Begin.{Begin}
 use Rattle.world.specs.Rows.{IsRow}
 use Rattle.script_model.specs.FailingCalls.{FitsFail}
 use Rattle.script_model.specs.FirstFiles.{FitsFile, UnlikeNames}
+use Rattle.script_model.specs.HookAnswers.{FitsAnswer}
 use Rattle.script_model.specs.Scripts.{Unlike, FitsLife, CrashBetween}
 use Rattle.script_model.specs.ScriptTexts.{ScriptLines, LifeScript}
 use Rattle.replay_text.specs.declared.words.Word.TheVariants.{Start}
@@ -114,6 +115,7 @@ ends_here read lines after some =
           files = All-from_recursion FitsFile read.files sound.files;
           unlike = sound.unlike;
           fails = All-from_recursion FitsFail read.fails sound.fails;
+          polls = All-from_recursion FitsAnswer read.polls sound.polls;
           some = lives.some;
           parted = lives.between;
           lives = All-from_recursion (FitsLife count) (lives_in read) lives.each;
@@ -159,6 +161,7 @@ nothing_fits = record {
     files = tt;
     unlike = pairs_none UnlikeNames;
     fails = tt;
+    polls = tt;
     past = tt;
     last = refl;
   };

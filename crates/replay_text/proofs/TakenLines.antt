@@ -15,6 +15,7 @@ use Rattle.net_types.specs.TextLines.{Line, ended}
 use Rattle.net_types.proofs.AllLaws.{all_join}
 use Rattle.net_types.proofs.ReadsLaws.{some_same, passed, mapped, strip_sound, word_reads, guard_passed}
 use Rattle.world.specs.declared.rows.HostRow.{HostRow}
+use Rattle.world.specs.declared.hooking.Poll.{Poll}
 use Rattle.world.specs.declared.wakes.Begin.{Begin}
 use Rattle.world.specs.FileLists.{StoreFile, file_name}
 use Rattle.world.specs.FileNames.{is_name}
@@ -25,7 +26,8 @@ use Rattle.script_model.specs.declared.failing.FailLine.{FailLine}
 use Rattle.script_model.specs.Crashes.{CrashScript, FitsCrash, crash_text}
 use Rattle.script_model.specs.FailingCalls.{FitsFail, fail_text}
 use Rattle.script_model.specs.FirstFiles.{FitsFile, UnlikeNames, file_text}
-use Rattle.script_model.specs.Lines.{interface_text, start_text}
+use Rattle.script_model.specs.HookAnswers.{FitsAnswer, hook_text}
+use Rattle.script_model.specs.Lines.{interface_text, poll_text, start_text}
 use Rattle.script_model.specs.RowSpellings.{SpellsRow}
 use Rattle.script_model.specs.Scripts.{FitsGiven, FitsLife}
 use Rattle.script_model.specs.ScriptTexts.{LifeScript}
@@ -39,7 +41,7 @@ use Rattle.replay_text.specs.LinesInOrder.{head_line, conf_line, row_line, crash
 use Rattle.replay_text.specs.ReadLines.{HasPassed, FitsLast, IsSound, AfterLines}
 use Rattle.replay_text.specs.ScriptContent.{conf_lines}
 use Rattle.replay_text.specs.LinesRead.{LifeRead, LinesRead, last_life, lives_in, script_in}
-use Rattle.replay_text.specs.NextWords.{none_of, before_lives, before_fails, before_files, before_rows, before_interfaces, may_begin, has_begun, is_going_on, may_come}
+use Rattle.replay_text.specs.NextWords.{none_of, before_lives, before_polls, before_fails, before_files, before_rows, before_interfaces, may_begin, has_begun, is_going_on, may_come}
 use Rattle.replay_text.specs.NextLines.{after_blank, fits_next, is_new_row, is_new_file, begun, with_turn, with_crash, with_start, with_last, with_line}
 use Rattle.replay_text.specs.ScriptReading.{in_place, step_after}
 use Rattle.replay_text.specs.Words.{Known, word_text, word_at, is_text}
@@ -49,6 +51,7 @@ use Rattle.replay_text.proofs.CrashLaws.{crash_words, crash_reads, crash_spelled
 use Rattle.replay_text.proofs.FileLaws.{file_words, file_reads, file_spelled, new_unlike}
 use Rattle.replay_text.proofs.Grown.{pairs_more, line_more, behind, spelled_more, none_spelled, once_more}
 use Rattle.replay_text.proofs.LineLaws.{spec_text, FitsSpec, spec_reads, spec_spelled, fail_words, fail_reads, fail_spelled, SpellsTurn, turn_finds, turn_line}
+use Rattle.replay_text.proofs.PollLaws.{poll_reads}
 use Rattle.replay_text.proofs.RowLaws.{row_finds}
 use Rattle.replay_text.proofs.SpellingLaws.{Finds}
 use Rattle.replay_text.proofs.ConfLineLaws.{conf_lines_of}
@@ -92,8 +95,11 @@ no_past read sound e = subst (FitsLast (length read.ifaces) read.past) (no_last 
 pub no_lives : (read : LinesRead) → IsSound read → before_lives read ≡ true → lives_in read ≡ []
 no_lives read sound e = ap (λ p. p ++ last_life read.last) (no_past read sound e) ∙ ap last_life (no_last read.last e)
 
+abbrev behind_fails : List (List Line) → LinesRead → List Line
+behind_fails lives read = map hook_text read.polls ++ lives_lines lives
+
 abbrev behind_files : List (List Line) → LinesRead → List Line
-behind_files lives read = map fail_text read.fails ++ lives_lines lives
+behind_files lives read = map fail_text read.fails ++ behind_fails lives read
 
 abbrev behind_rows : List (List Line) → LinesRead → List Line
 behind_rows lives read = map file_text read.files ++ behind_files lives read
@@ -107,14 +113,19 @@ behind_conf rows lives read = map interface_text read.ifaces ++ behind_ifaces ro
 abbrev AreLives : List (List Line) → LinesRead → Type 0
 AreLives lives read = AreSpelled SpellsLife lives (lives_in read)
 
-none_behind_fails : (lives : List (List Line)) (read : LinesRead) → IsSound read → AreLives lives read → before_lives read ≡ true → lives_lines lives ≡ []
-none_behind_fails lives read sound lived e =
+none_behind_polls : (lives : List (List Line)) (read : LinesRead) → IsSound read → AreLives lives read → before_lives read ≡ true → lives_lines lives ≡ []
+none_behind_polls lives read sound lived e =
     ap lives_lines (none_spelled SpellsLife lives (subst (AreSpelled SpellsLife lives) (no_lives read sound e) lived))
+
+none_behind_fails : (lives : List (List Line)) (read : LinesRead) → IsSound read → AreLives lives read → before_polls read ≡ true → behind_fails lives read ≡ []
+none_behind_fails lives read sound lived e =
+    let parts = and_parts (none_of read.polls) (before_lives read) e in
+    ap (λ ps. map hook_text ps ++ lives_lines lives) (none_is read.polls parts.0) ∙ none_behind_polls lives read sound lived parts.1
 
 none_behind_files : (lives : List (List Line)) (read : LinesRead) → IsSound read → AreLives lives read → before_fails read ≡ true → behind_files lives read ≡ []
 none_behind_files lives read sound lived e =
-    let parts = and_parts (none_of read.fails) (before_lives read) e in
-    ap (λ fs. map fail_text fs ++ lives_lines lives) (none_is read.fails parts.0) ∙ none_behind_fails lives read sound lived parts.1
+    let parts = and_parts (none_of read.fails) (before_polls read) e in
+    ap (λ fs. map fail_text fs ++ behind_fails lives read) (none_is read.fails parts.0) ∙ none_behind_fails lives read sound lived parts.1
 
 none_behind_rows : (lives : List (List Line)) (read : LinesRead) → IsSound read → AreLives lives read → before_files read ≡ true → behind_rows lives read ≡ []
 none_behind_rows lives read sound lived e =
@@ -136,7 +147,8 @@ lives_of_none : (read : LinesRead) → IsSound read → before_rows read ≡ tru
 lives_of_none read sound e =
     let files = and_parts (none_of read.rows) (before_files read) e in
     let fails = and_parts (none_of read.files) (before_fails read) files.1 in
-    (and_parts (none_of read.fails) (before_lives read) fails.1).1
+    let polls = and_parts (none_of read.fails) (before_polls read) fails.1 in
+    (and_parts (none_of read.polls) (before_lives read) polls.1).1
 
 -- ---- lines by a word and what is read after it
 
@@ -204,12 +216,13 @@ conf_grows read lines text next after is comes e =
         files = sound.files;
         unlike = sound.unlike;
         fails = sound.fails;
+        polls = sound.polls;
         past = sound.past;
         last = sound.last;
       };
     })
 
--- ---- interfaces, rows, files and calls that fail
+-- ---- interfaces, rows, files, calls that fail and answers of hooks
 
 iface_grows : (read : LinesRead) (lines : List Line) (spec : IfSpec) → AfterLines read lines → before_rows read ≡ true → FitsSpec spec → fits_next read.ifaces spec ≡ true
     → Grows lines (word_text Interface ++ 32 ∷ spec_text spec) (record read { ifaces = read.ifaces ++ spec ∷ [] })
@@ -236,6 +249,7 @@ iface_grows read lines spec after comes fits test =
         files = sound.files;
         unlike = sound.unlike;
         fails = sound.fails;
+        polls = sound.polls;
         past = subst (AllByRecursion (HasPassed count)) (sym (no_past read sound lives)) tt;
         last = subst (FitsLast count read.past) (sym (no_last read.last lives)) (no_past read sound lives);
       };
@@ -264,6 +278,7 @@ row_grows read lines text row after comes spells fits test =
         files = sound.files;
         unlike = sound.unlike;
         fails = sound.fails;
+        polls = sound.polls;
         past = sound.past;
         last = sound.last;
       };
@@ -293,16 +308,17 @@ file_grows read lines file after comes fits test =
         files = all_join FitsFile read.files (file ∷ []) sound.files (fits, tt);
         unlike = pairs_more UnlikeNames read.files file sound.unlike (new_unlike read.files file (not-true (is_member is_name (map file_name read.files) file.name) test));
         fails = sound.fails;
+        polls = sound.polls;
         past = sound.past;
         last = sound.last;
       };
     }
 
-fail_grows : (read : LinesRead) (lines : List Line) (fail : FailLine) → AfterLines read lines → before_lives read ≡ true → FitsFail fail
+fail_grows : (read : LinesRead) (lines : List Line) (fail : FailLine) → AfterLines read lines → before_polls read ≡ true → FitsFail fail
     → Grows lines (word_text Fail ++ 32 ∷ fail_words fail) (record read { fails = read.fails ++ fail ∷ [] })
 fail_grows read lines fail after comes fits =
     let sound = after.sound in
-    let rest = lives_lines after.lives in
+    let rest = behind_fails after.lives read in
     record {
       rows = after.rows;
       spelled = after.spelled;
@@ -323,6 +339,39 @@ fail_grows read lines fail after comes fits =
         files = sound.files;
         unlike = sound.unlike;
         fails = all_join FitsFail read.fails (fail ∷ []) sound.fails (fits, tt);
+        polls = sound.polls;
+        past = sound.past;
+        last = sound.last;
+      };
+    }
+
+poll_grows : (read : LinesRead) (lines : List Line) (answer : Option Poll) → AfterLines read lines → before_lives read ≡ true → FitsAnswer answer
+    → Grows lines (word_text Hook ++ 32 ∷ poll_text answer) (record read { polls = read.polls ++ answer ∷ [] })
+poll_grows read lines answer after comes fits =
+    let sound = after.sound in
+    let rest = lives_lines after.lives in
+    record {
+      rows = after.rows;
+      spelled = after.spelled;
+      lives = after.lives;
+      lived = after.lived;
+      are = one_more lines (script_lines after.rows after.lives (script_in read)) _ (hook_text answer) (hook_text answer) after.are refl
+          (ap (λ ls. head_line ∷ ls) (behind (map conf_line (conf_lines read.conf)) (behind_conf after.rows after.lives read) _ (hook_text answer)
+          (behind (map interface_text read.ifaces) (behind_ifaces after.rows after.lives read) _ (hook_text answer)
+          (behind (map row_line after.rows) (behind_rows after.lives read) _ (hook_text answer)
+          (behind (map file_text read.files) (behind_files after.lives read) _ (hook_text answer)
+          (behind (map fail_text read.fails) (behind_fails after.lives read) _ (hook_text answer)
+          (line_more hook_text read.polls answer rest (none_behind_polls after.lives read sound after.lived comes))))))));
+      sound = record {
+        conf = sound.conf;
+        holds = sound.holds;
+        ifaces = sound.ifaces;
+        rows = sound.rows;
+        once = sound.once;
+        files = sound.files;
+        unlike = sound.unlike;
+        fails = sound.fails;
+        polls = all_join FitsAnswer read.polls (answer ∷ []) sound.polls (fits, tt);
         past = sound.past;
         last = sound.last;
       };
@@ -339,7 +388,8 @@ lives_grow rows lives grown read lines line same are is more =
     (behind (map interface_text read.ifaces) (behind_ifaces rows lives read) _ same
     (behind (map row_line rows) (behind_rows lives read) _ same
     (behind (map file_text read.files) (behind_files lives read) _ same
-    (behind (map fail_text read.fails) (lives_lines lives) _ same more))))))
+    (behind (map fail_text read.fails) (behind_fails lives read) _ same
+    (behind (map hook_text read.polls) (lives_lines lives) _ same more)))))))
 
 with_lives : (read : LinesRead) (past : List LifeScript) (last : Option LifeRead) → IsSound read → AllByRecursion (HasPassed (length read.ifaces)) past → FitsLast (length read.ifaces) past last
     → IsSound (record read { past = past; last = last })
@@ -352,6 +402,7 @@ with_lives read past last sound passed fits = record {
   files = sound.files;
   unlike = sound.unlike;
   fails = sound.fails;
+  polls = sound.polls;
   past = passed;
   last = fits;
 }
@@ -518,7 +569,8 @@ grows read lines File rest next after text comes e =
     (λ file fits test. file_grows read lines file after comes fits test) e
 grows read lines Fail rest next after text comes e =
     word_grows lines Fail rest next (λ fail. record read { fails = read.fails ++ fail ∷ [] }) fail_reads (λ fail fits. fail_grows read lines fail after comes fits) e
-grows read lines Hook rest next after text comes e = absurd (none-some next e)
+grows read lines Hook rest next after text comes e =
+    word_grows lines Hook rest next (λ answer. record read { polls = read.polls ++ answer ∷ [] }) poll_reads (λ answer fits. poll_grows read lines answer after comes fits) e
 grows read lines Start rest next after text comes e =
     word_grows lines Start rest next (with_start read) (begin_reads (length read.ifaces) (let few = after.sound.ifaces.few in few)) (λ begin fits. start_grows read lines begin after comes fits) e
 grows read lines Turn rest next after text comes e =

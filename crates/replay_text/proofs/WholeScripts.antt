@@ -12,6 +12,7 @@ use Rattle.net_types.specs.Reads.{Reads}
 use Rattle.net_types.specs.TextLines.{Line, ended}
 use Rattle.net_types.proofs.LineSteps.{run_more}
 use Rattle.net_types.proofs.ReadsLaws.{word_reads, strip_whole}
+use Rattle.world.specs.declared.hooking.Poll.{Poll}
 use Rattle.world.specs.declared.rows.HostRow.{HostRow}
 use Rattle.world.specs.FileLists.{StoreFile}
 use Rattle.world.specs.LinkCalls.{Given}
@@ -21,7 +22,8 @@ use Rattle.script_model.specs.declared.failing.FailLine.{FailLine}
 use Rattle.script_model.specs.Crashes.{CrashScript, FitsCrash, crash_text}
 use Rattle.script_model.specs.FailingCalls.{FitsFail, fail_text}
 use Rattle.script_model.specs.FirstFiles.{FitsFile, UnlikeNames, file_text}
-use Rattle.script_model.specs.Lines.{interface_text, start_text}
+use Rattle.script_model.specs.HookAnswers.{FitsAnswer, hook_text}
+use Rattle.script_model.specs.Lines.{interface_text, poll_text, start_text}
 use Rattle.script_model.specs.RowSpellings.{SpellsRow}
 use Rattle.script_model.specs.Scripts.{CountsFrom, Unlike, FitInterfaces, FitsGiven, FitsLife, CrashBetween, FitsScript}
 use Rattle.script_model.specs.ScriptTexts.{ScriptLines, LifeScript}
@@ -33,6 +35,7 @@ use Rattle.replay_text.specs.declared.words.Word.TheVariants.{Head, Conf, Interf
 use Rattle.replay_text.specs.Clocks.{clock_at, clock_after, clock_through, is_over, is_in_time}
 use Rattle.replay_text.specs.KindTests.{is_listed}
 use Rattle.replay_text.specs.LinesInOrder.{conf_line, row_line, crash_lines, SpellsLife, lives_lines, script_lines}
+use Rattle.replay_text.specs.ScriptContent.{conf_lines}
 use Rattle.replay_text.specs.LinesRead.{LifeRead, LinesRead, last_life, script_in, nothing_read}
 use Rattle.replay_text.specs.NextWords.{may_begin, may_come}
 use Rattle.replay_text.specs.NextLines.{after_blank, fits_next, is_new_row, is_new_file, with_turn, with_crash, with_start, with_last, with_line}
@@ -44,6 +47,7 @@ use Rattle.replay_text.proofs.CrashLaws.{crash_words, crash_reads, crash_spelled
 use Rattle.replay_text.proofs.FileLaws.{file_words, file_reads, file_spelled, file_printable, unlike_new}
 use Rattle.replay_text.proofs.Grown.{all_next, pairs_front, pairs_next, pairs_tail, once_next}
 use Rattle.replay_text.proofs.LineLaws.{spec_text, FitsSpec, spec_reads, spec_spelled, spec_printable, fail_words, fail_reads, fail_spelled, fail_printable, turn_words, SpellsTurn, turn_finds, turn_spelled, turn_printable}
+use Rattle.replay_text.proofs.PollLaws.{poll_reads, poll_printable}
 use Rattle.replay_text.proofs.Printables.{no_feed_in}
 use Rattle.replay_text.proofs.RowLaws.{row_finds}
 use Rattle.replay_text.proofs.SpellingLaws.{Finds}
@@ -98,20 +102,21 @@ blocks line_of put Fit law done (x ∷ xs) fit =
 follow : (lines more : List Line) (s t : Option LinesRead) (end : Option (Option LinesRead)) → run step lines s ≡ Some t → run step more t ≡ end → run step (lines ++ more) s ≡ end
 follow lines more s t end first others = run_more step lines more s t first ∙ others
 
-abbrev lines_at : List ℕ → List IfSpec → List HostRow → List StoreFile → List FailLine → List LifeScript → Option LifeRead → LinesRead
-lines_at conf ifaces rows files fails past last = record { conf = conf; ifaces = ifaces; rows = rows; files = files; fails = fails; past = past; last = last }
+abbrev lines_at : List ℕ → List IfSpec → List HostRow → List StoreFile → List FailLine → List (Option Poll) → List LifeScript → Option LifeRead → LinesRead
+lines_at conf ifaces rows files fails polls past last =
+    record { conf = conf; ifaces = ifaces; rows = rows; files = files; fails = fails; polls = polls; past = past; last = last }
 
 conf_text : (text : List ℕ) → Lacks 10 text → is_text (codes "c:" ++ text) ≡ true
 unfolding is_text strip_word
 conf_text text free = free
 
 conf_step : (done : List (List ℕ)) (text : List ℕ) (later : List (List ℕ)) → AllByRecursion (Lacks 10) (done ++ text ∷ later)
-    → step (Some (lines_at (flat_map ended done) [] [] [] [] [] None)) (conf_line text) ≡ Some (Some (lines_at (flat_map ended (done ++ text ∷ [])) [] [] [] [] [] None))
+    → step (Some (lines_at (flat_map ended done) [] [] [] [] [] [] None)) (conf_line text) ≡ Some (Some (lines_at (flat_map ended (done ++ text ∷ [])) [] [] [] [] [] [] None))
 unfolding with_line
 conf_step done text later free =
-    line_step (lines_at (flat_map ended done) [] [] [] [] [] None) (conf_line text) Conf text (lines_at (flat_map ended (done ++ text ∷ [])) [] [] [] [] [] None)
+    line_step (lines_at (flat_map ended done) [] [] [] [] [] [] None) (conf_line text) Conf text (lines_at (flat_map ended (done ++ text ∷ [])) [] [] [] [] [] [] None)
     (conf_text text (all_next (Lacks 10) done text later free)) (conf_word text) refl
-    (ap (λ c. Some (lines_at c [] [] [] [] [] None)) (sym (lines_ended done text)))
+    (ap (λ c. Some (lines_at c [] [] [] [] [] [] None)) (sym (lines_ended done text)))
 
 counted_front : (index : ℕ) (xs ys : List IfSpec) → CountsFrom index (xs ++ ys) → CountsFrom index xs
 counted_front index [] ys counts = tt
@@ -123,7 +128,7 @@ ifaces_front xs ys fit =
     record { few = omega (arith, few, length-append xs ys); counted = counted_front 1 xs ys fit.counted; unlike = pairs_front Unlike xs ys fit.unlike }
 
 iface_step : (conf : List ℕ) (done : List IfSpec) (spec : IfSpec) (later : List IfSpec) → FitInterfaces (done ++ spec ∷ later)
-    → step (Some (lines_at conf done [] [] [] [] None)) (interface_text spec) ≡ Some (Some (lines_at conf (done ++ spec ∷ []) [] [] [] [] None))
+    → step (Some (lines_at conf done [] [] [] [] [] None)) (interface_text spec) ≡ Some (Some (lines_at conf (done ++ spec ∷ []) [] [] [] [] [] None))
 unfolding with_line
 iface_step conf done spec later fit =
     let front = ifaces_front (done ++ spec ∷ []) later (subst FitInterfaces (sym (append_assoc done (spec ∷ []) later)) fit) in
@@ -131,50 +136,59 @@ iface_step conf done spec later fit =
     let fits : FitsSpec spec = all_next FitsSpec done spec [] are.each in
     let few = front.few in
     let room : length done < 64 = omega (arith, few, length-append done (spec ∷ [])) in
-    word_line (lines_at conf done [] [] [] [] None) (interface_text spec) Interface (spec_text spec) (lines_at conf (done ++ spec ∷ []) [] [] [] [] None)
+    word_line (lines_at conf done [] [] [] [] [] None) (interface_text spec) Interface (spec_text spec) (lines_at conf (done ++ spec ∷ []) [] [] [] [] [] None)
     (spec_spelled spec) (printed_text Interface (spec_text spec) (spec_printable spec fits)) (and_from _ _ (lt-ltb _ _ room) refl)
-    (ap (option_map (λ s. lines_at conf (done ++ s ∷ []) [] [] [] [] None)) (guarded_whole (fits_next done) spec spec_reads fits are.test))
+    (ap (option_map (λ s. lines_at conf (done ++ s ∷ []) [] [] [] [] [] None)) (guarded_whole (fits_next done) spec spec_reads fits are.test))
 
 row_step : (conf : List ℕ) (ifaces : List IfSpec) (done : List HostRow) (text : List ℕ) (row : HostRow) (later : List HostRow) → SpellsRow text row → IsRow row → length (in_row_order (done ++ row ∷ later)) ≡ length (done ++ row ∷ later)
-    → step (Some (lines_at conf ifaces done [] [] [] None)) (row_line text) ≡ Some (Some (lines_at conf ifaces (done ++ row ∷ []) [] [] [] None))
+    → step (Some (lines_at conf ifaces done [] [] [] [] None)) (row_line text) ≡ Some (Some (lines_at conf ifaces (done ++ row ∷ []) [] [] [] [] None))
 unfolding with_line
 row_step conf ifaces done text row later spells is once =
     let new : is_new_row done row ≡ true = ap not (once_next done row later once) in
-    word_line (lines_at conf ifaces done [] [] [] None) (row_line text) Row text (lines_at conf ifaces (done ++ row ∷ []) [] [] [] None)
+    word_line (lines_at conf ifaces done [] [] [] [] None) (row_line text) Row text (lines_at conf ifaces (done ++ row ∷ []) [] [] [] [] None)
     refl (printed_text Row text (spelled_printable text row is spells)) refl
-    (ap (option_map (λ r. lines_at conf ifaces (done ++ r ∷ []) [] [] [] None)) (found_whole (is_new_row done) text row row_finds (spells, is) new))
+    (ap (option_map (λ r. lines_at conf ifaces (done ++ r ∷ []) [] [] [] [] None)) (found_whole (is_new_row done) text row row_finds (spells, is) new))
 
 rows_run : (conf : List ℕ) (ifaces : List IfSpec) (done : List HostRow) (texts : List (List ℕ)) (rows : List HostRow) → AreSpelled SpellsRow texts rows → AllByRecursion IsRow rows → length (in_row_order (done ++ rows)) ≡ length (done ++ rows)
-    → run step (map row_line texts) (Some (lines_at conf ifaces done [] [] [] None)) ≡ Some (Some (lines_at conf ifaces (done ++ rows) [] [] [] None))
-rows_run conf ifaces done [] [] spelled are once = ap (λ d. Some (Some (lines_at conf ifaces d [] [] [] None))) (sym (append-nil done))
+    → run step (map row_line texts) (Some (lines_at conf ifaces done [] [] [] [] None)) ≡ Some (Some (lines_at conf ifaces (done ++ rows) [] [] [] [] None))
+rows_run conf ifaces done [] [] spelled are once = ap (λ d. Some (Some (lines_at conf ifaces d [] [] [] [] None))) (sym (append-nil done))
 rows_run conf ifaces done [] (row ∷ rows) spelled are once = absurd spelled
 rows_run conf ifaces done (text ∷ texts) [] spelled are once = absurd spelled
 rows_run conf ifaces done (text ∷ texts) (row ∷ rows) spelled are once =
     ap (option_and_then (run step (map row_line texts))) (row_step conf ifaces done text row rows spelled.0 are.0 once)
     ∙ rows_run conf ifaces (done ++ row ∷ []) texts rows spelled.1 are.1 (subst (λ rs. length (in_row_order rs) ≡ length rs) (sym (append_assoc done (row ∷ []) rows)) once)
-    ∙ ap (λ d. Some (Some (lines_at conf ifaces d [] [] [] None))) (append_assoc done (row ∷ []) rows)
+    ∙ ap (λ d. Some (Some (lines_at conf ifaces d [] [] [] [] None))) (append_assoc done (row ∷ []) rows)
 
 abbrev FitFiles : List StoreFile → Type 0
 FitFiles files = AllByRecursion FitsFile files × AllPairs UnlikeNames files
 
 file_step : (conf : List ℕ) (ifaces : List IfSpec) (rows : List HostRow) (done : List StoreFile) (file : StoreFile) (later : List StoreFile) → FitFiles (done ++ file ∷ later)
-    → step (Some (lines_at conf ifaces rows done [] [] None)) (file_text file) ≡ Some (Some (lines_at conf ifaces rows (done ++ file ∷ []) [] [] None))
+    → step (Some (lines_at conf ifaces rows done [] [] [] None)) (file_text file) ≡ Some (Some (lines_at conf ifaces rows (done ++ file ∷ []) [] [] [] None))
 unfolding with_line
 file_step conf ifaces rows done file later fit =
     let fits : FitsFile file = all_next FitsFile done file later fit.0 in
     let new : is_new_file done file ≡ true = ap not (unlike_new done file (pairs_next UnlikeNames done file later fit.1)) in
-    word_line (lines_at conf ifaces rows done [] [] None) (file_text file) File (file_words file) (lines_at conf ifaces rows (done ++ file ∷ []) [] [] None)
+    word_line (lines_at conf ifaces rows done [] [] [] None) (file_text file) File (file_words file) (lines_at conf ifaces rows (done ++ file ∷ []) [] [] [] None)
     (file_spelled file) (printed_text File (file_words file) (file_printable file fits)) refl
-    (ap (option_map (λ f. lines_at conf ifaces rows (done ++ f ∷ []) [] [] None)) (guarded_whole (is_new_file done) file file_reads fits new))
+    (ap (option_map (λ f. lines_at conf ifaces rows (done ++ f ∷ []) [] [] [] None)) (guarded_whole (is_new_file done) file file_reads fits new))
 
 fail_step : (conf : List ℕ) (ifaces : List IfSpec) (rows : List HostRow) (files : List StoreFile) (done : List FailLine) (fail : FailLine) (later : List FailLine) → AllByRecursion FitsFail (done ++ fail ∷ later)
-    → step (Some (lines_at conf ifaces rows files done [] None)) (fail_text fail) ≡ Some (Some (lines_at conf ifaces rows files (done ++ fail ∷ []) [] None))
+    → step (Some (lines_at conf ifaces rows files done [] [] None)) (fail_text fail) ≡ Some (Some (lines_at conf ifaces rows files (done ++ fail ∷ []) [] [] None))
 unfolding with_line
 fail_step conf ifaces rows files done fail later fit =
     let fits : FitsFail fail = all_next FitsFail done fail later fit in
-    word_line (lines_at conf ifaces rows files done [] None) (fail_text fail) Fail (fail_words fail) (lines_at conf ifaces rows files (done ++ fail ∷ []) [] None)
+    word_line (lines_at conf ifaces rows files done [] [] None) (fail_text fail) Fail (fail_words fail) (lines_at conf ifaces rows files (done ++ fail ∷ []) [] [] None)
     (fail_spelled fail) (printed_text Fail (fail_words fail) (fail_printable fail fits)) refl
-    (ap (option_map (λ f. lines_at conf ifaces rows files (done ++ f ∷ []) [] None)) ((word_reads (codes " ") fail_reads).whole fail fits))
+    (ap (option_map (λ f. lines_at conf ifaces rows files (done ++ f ∷ []) [] [] None)) ((word_reads (codes " ") fail_reads).whole fail fits))
+
+poll_step : (conf : List ℕ) (ifaces : List IfSpec) (rows : List HostRow) (files : List StoreFile) (fails : List FailLine) (done : List (Option Poll)) (answer : Option Poll) (later : List (Option Poll)) → AllByRecursion FitsAnswer (done ++ answer ∷ later)
+    → step (Some (lines_at conf ifaces rows files fails done [] None)) (hook_text answer) ≡ Some (Some (lines_at conf ifaces rows files fails (done ++ answer ∷ []) [] None))
+unfolding with_line
+poll_step conf ifaces rows files fails done answer later fit =
+    let fits : FitsAnswer answer = all_next FitsAnswer done answer later fit in
+    word_line (lines_at conf ifaces rows files fails done [] None) (hook_text answer) Hook (poll_text answer) (lines_at conf ifaces rows files fails (done ++ answer ∷ []) [] None)
+    refl (printed_text Hook (poll_text answer) (poll_printable answer fits)) refl
+    (ap (option_map (λ a. lines_at conf ifaces rows files fails (done ++ a ∷ []) [] None)) ((word_reads (codes " ") poll_reads).whole answer fits))
 
 -- ---- one life
 
@@ -289,37 +303,41 @@ pub record WholeOf (rows : List (List ℕ)) (lives : List (List Line)) (script :
   pub conf : read.conf ≡ flat_map ended script.conf
   pub some : is_some read.last ≡ true
 
+same_script : (script : ScriptLines) (conf : List (List ℕ)) (lives : List LifeScript) → conf ≡ script.conf → lives ≡ script.lives → record script { conf = conf; lives = lives } ≡ script
+same_script script conf lives texts are = ap (λ c. record script { conf = c; lives = lives }) texts ∙ ap (λ ls. record script { lives = ls }) are
+
 with_life : (rows : List (List ℕ)) (lines : List (List Line)) (script : ScriptLines) → AreSpelled SpellsRow rows script.rows → AreSpelled SpellsLife lines script.lives → FitsScript script → (life : LifeScript) (lives : List LifeScript) → script.lives ≡ life ∷ lives → WholeOf rows lines script
 with_life rows lines script spelled lived fits life lives first =
     let conf = flat_map ended script.conf in
     let few = fits.ifaces.few in
     let free = by_recursion (Lacks 10) script.conf fits.conf in
-    let base : LinesRead = lines_at conf script.ifaces script.rows script.files script.fails [] None in
+    let base : LinesRead = lines_at conf script.ifaces script.rows script.files script.fails script.polls [] None in
     let count = length script.ifaces in
     let each : AllByRecursion (FitsLife count) (life ∷ lives) = subst (AllByRecursion (FitsLife count)) first (by_recursion (FitsLife count) script.lives fits.lives) in
     let of_lives = lives_run base [] None lines life lives (subst (AreSpelled SpellsLife lines) first lived) few refl each (subst CrashBetween first fits.parted) in
     let end : Option (Option LinesRead) = Some (Some (with_lives base of_lives.gone (Some of_lives.life))) in
-    let fails_end = follow (map fail_text script.fails) (lives_lines lines) (Some (lines_at conf script.ifaces script.rows script.files [] [] None)) (Some base) end
-    (blocks fail_text (λ fails. lines_at conf script.ifaces script.rows script.files fails [] None) (AllByRecursion FitsFail) (fail_step conf script.ifaces script.rows script.files) [] script.fails (by_recursion FitsFail script.fails fits.fails))
+    let polls_end = follow (map hook_text script.polls) (lives_lines lines) (Some (lines_at conf script.ifaces script.rows script.files script.fails [] [] None)) (Some base) end
+    (blocks hook_text (λ polls. lines_at conf script.ifaces script.rows script.files script.fails polls [] None) (AllByRecursion FitsAnswer) (poll_step conf script.ifaces script.rows script.files script.fails) [] script.polls (by_recursion FitsAnswer script.polls fits.polls))
     of_lives.runs in
-    let files_end = follow (map file_text script.files) (map fail_text script.fails ++ lives_lines lines) (Some (lines_at conf script.ifaces script.rows [] [] [] None)) (Some (lines_at conf script.ifaces script.rows script.files [] [] None)) end
-    (blocks file_text (λ files. lines_at conf script.ifaces script.rows files [] [] None) FitFiles (file_step conf script.ifaces script.rows) [] script.files (by_recursion FitsFile script.files fits.files, fits.unlike))
+    let fails_end = follow (map fail_text script.fails) (map hook_text script.polls ++ lives_lines lines) (Some (lines_at conf script.ifaces script.rows script.files [] [] [] None)) (Some (lines_at conf script.ifaces script.rows script.files script.fails [] [] None)) end
+    (blocks fail_text (λ fails. lines_at conf script.ifaces script.rows script.files fails [] [] None) (AllByRecursion FitsFail) (fail_step conf script.ifaces script.rows script.files) [] script.fails (by_recursion FitsFail script.fails fits.fails))
+    polls_end in
+    let files_end = follow (map file_text script.files) (map fail_text script.fails ++ (map hook_text script.polls ++ lives_lines lines)) (Some (lines_at conf script.ifaces script.rows [] [] [] [] None)) (Some (lines_at conf script.ifaces script.rows script.files [] [] [] None)) end
+    (blocks file_text (λ files. lines_at conf script.ifaces script.rows files [] [] [] None) FitFiles (file_step conf script.ifaces script.rows) [] script.files (by_recursion FitsFile script.files fits.files, fits.unlike))
     fails_end in
-    let rows_end = follow (map row_line rows) (map file_text script.files ++ (map fail_text script.fails ++ lives_lines lines)) (Some (lines_at conf script.ifaces [] [] [] [] None)) (Some (lines_at conf script.ifaces script.rows [] [] [] None)) end
+    let rows_end = follow (map row_line rows) (map file_text script.files ++ (map fail_text script.fails ++ (map hook_text script.polls ++ lives_lines lines))) (Some (lines_at conf script.ifaces [] [] [] [] [] None)) (Some (lines_at conf script.ifaces script.rows [] [] [] [] None)) end
     (rows_run conf script.ifaces [] rows script.rows spelled (by_recursion IsRow script.rows fits.rows) fits.once)
     files_end in
-    let ifaces_end = follow (map interface_text script.ifaces) (map row_line rows ++ (map file_text script.files ++ (map fail_text script.fails ++ lives_lines lines))) (Some (lines_at conf [] [] [] [] [] None)) (Some (lines_at conf script.ifaces [] [] [] [] None)) end
-    (blocks interface_text (λ ifaces. lines_at conf ifaces [] [] [] [] None) FitInterfaces (iface_step conf) [] script.ifaces fits.ifaces)
+    let ifaces_end = follow (map interface_text script.ifaces) (map row_line rows ++ (map file_text script.files ++ (map fail_text script.fails ++ (map hook_text script.polls ++ lives_lines lines)))) (Some (lines_at conf [] [] [] [] [] [] None)) (Some (lines_at conf script.ifaces [] [] [] [] [] None)) end
+    (blocks interface_text (λ ifaces. lines_at conf ifaces [] [] [] [] [] None) FitInterfaces (iface_step conf) [] script.ifaces fits.ifaces)
     rows_end in
-    let conf_end = follow (map conf_line script.conf) (map interface_text script.ifaces ++ (map row_line rows ++ (map file_text script.files ++ (map fail_text script.fails ++ lives_lines lines)))) (Some nothing_read) (Some (lines_at conf [] [] [] [] [] None)) end
-    (blocks conf_line (λ texts. lines_at (flat_map ended texts) [] [] [] [] [] None) (AllByRecursion (Lacks 10)) conf_step [] script.conf free)
+    let conf_end = follow (map conf_line script.conf) (map interface_text script.ifaces ++ (map row_line rows ++ (map file_text script.files ++ (map fail_text script.fails ++ (map hook_text script.polls ++ lives_lines lines))))) (Some nothing_read) (Some (lines_at conf [] [] [] [] [] [] None)) end
+    (blocks conf_line (λ texts. lines_at (flat_map ended texts) [] [] [] [] [] [] None) (AllByRecursion (Lacks 10)) conf_step [] script.conf free)
     ifaces_end in
     record {
       read = with_lives base of_lives.gone (Some of_lives.life);
       runs = conf_end;
-      is =
-          ap (λ c. record { conf = c; ifaces = script.ifaces; rows = script.rows; files = script.files; fails = script.fails; lives = of_lives.gone ++ of_lives.life.life ∷ [] }) (conf_lines_of script.conf free)
-          ∙ ap (λ ls. record script { lives = ls }) (of_lives.are ∙ sym first);
+      is = same_script script (conf_lines conf) (of_lives.gone ++ of_lives.life.life ∷ []) (conf_lines_of script.conf free) (of_lives.are ∙ sym first);
       conf = refl;
       some = refl;
     }

@@ -1,5 +1,5 @@
 -- The first bad line of a text that is no script, and why it is bad.
-use Rattle.std.specs.Prelude.{ℕ, ◌≡◌, Bool, true, false, List, [], ◌∷◌, Option, Some, None}
+use Rattle.std.specs.Prelude.{ℕ, ◌≡◌, true, false, List, [], ◌∷◌, Option, Some, None}
 use Rattle.net_types.specs.TextLines.{Line, Front, Whole, Unended, End}
 use Rattle.net_types.specs.FirstBadLine.{FirstBad}
 use Rattle.replay_text.specs.declared.script.ScriptCause.{ScriptCause}
@@ -9,7 +9,6 @@ use Rattle.replay_text.specs.declared.script.ScriptAnswer.{ScriptAnswer}
 use Rattle.replay_text.specs.declared.script.ScriptAnswer.TheVariants as answers
 use Rattle.replay_text.specs.LinesInOrder.{SpellsScript}
 use Rattle.replay_text.specs.Places.{IsInPlace}
-use Rattle.replay_text.specs.Unbuilt.{is_unbuilt}
 use Rattle.replay_text.specs.Words.{Known, word_at, is_text}
 
 -- the first word of the line after these, where lines begin with it; as the first line one line stands alone
@@ -26,21 +25,19 @@ pub record IsOutOfPlace (lines : List Line) (line : Line) : Type 0 where
   pub begins : known_after lines line ≡ Some known
   pub place : IsInPlace lines known.0 → ⊥
 
--- a line of that word may stand there, and what follows the word is a form that isn't built, or isn't
-pub record IsOutOfForm (unbuilt : Bool) (lines : List Line) (line : Line) : Type 0 where
+-- a line of that word may stand there: it is what follows the word that no script has
+pub record IsOutOfForm (lines : List Line) (line : Line) : Type 0 where
   pub known : Known
   pub text : is_text line ≡ true
   pub begins : known_after lines line ≡ Some known
   pub place : IsInPlace lines known.0
-  pub form : is_unbuilt known.0 known.1 ≡ unbuilt
 
 -- why no script goes on after the lines with this one, the causes in their order
 abbrev pub IsBadFor : List Line → Line → ScriptCause → Type 0
 IsBadFor lines line causes.NotText = is_text line ≡ false
 IsBadFor lines line causes.Word = (is_text line ≡ true) × (known_after lines line ≡ None)
 IsBadFor lines line causes.Order = IsOutOfPlace lines line
-IsBadFor lines line causes.Form = IsOutOfForm false lines line
-IsBadFor lines line causes.NotBuilt = IsOutOfForm true lines line
+IsBadFor lines line causes.Form = IsOutOfForm lines line
 
 -- a text without lines has no first word, and one that ends after some lines lacks its lives
 abbrev pub end_cause : List Line → ScriptCause

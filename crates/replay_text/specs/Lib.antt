@@ -3,6 +3,7 @@ pub mod LineReading
 pub mod TurnReading
 pub mod FileReading
 pub mod CrashReading
+pub mod PollReading
 pub mod Carriers
 pub mod Blocks
 pub mod ScriptContent
@@ -10,7 +11,6 @@ pub mod Clocks
 pub mod KindTests
 pub mod Words
 pub mod LinesInOrder
-pub mod Unbuilt
 pub mod LinesRead
 pub mod NextWords
 pub mod NextLines

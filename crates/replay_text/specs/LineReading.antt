@@ -7,7 +7,7 @@ use Rattle.net_types.specs.NameText.{name_at}
 use Rattle.net_types.specs.Numbers.{number_at}
 use Rattle.script_model.specs.declared.failing.FailLine.{FailLine}
 use Rattle.script_model.specs.declared.failing.FailDevice.{FailDevice}
-use Rattle.script_model.specs.declared.failing.FailDevice.TheVariants.{Link, Store, Host}
+use Rattle.script_model.specs.declared.failing.FailDevice.TheVariants.{Link, Store, Host, Hooks}
 use Rattle.replay_text.specs.RowReading.{iface_at}
 
 -- an interface: its number, name and hardware address
@@ -27,7 +27,12 @@ abbrev pub failing_at : FailDevice → List ℕ → Option FailLine
 failing_at device rest = option_map (failing device) (call_at rest)
 
 abbrev pub devices : Choices FailLine
-devices = (codes "link ", failing_at Link) ∷ (codes "store ", failing_at Store) ∷ (codes "host ", failing_at Host) ∷ []
+devices =
+    (codes "link ", failing_at Link)
+    ∷ (codes "store ", failing_at Store)
+    ∷ (codes "host ", failing_at Host)
+    ∷ (codes "hooks ", failing_at Hooks)
+    ∷ []
 
 -- a call of a device that fails
 unfoldable pub fail_at : List ℕ → Option FailLine

@@ -4,6 +4,7 @@ use Rattle.net_types.specs.TextLines.{Line}
 use Rattle.script_model.specs.Crashes.{CrashScript, crash_text}
 use Rattle.script_model.specs.FailingCalls.{fail_text}
 use Rattle.script_model.specs.FirstFiles.{file_text}
+use Rattle.script_model.specs.HookAnswers.{hook_text}
 use Rattle.script_model.specs.Lines.{interface_text, start_text}
 use Rattle.script_model.specs.RowSpellings.{SpellsRow}
 use Rattle.script_model.specs.Scripts.{FitsScript}
@@ -44,7 +45,8 @@ script_lines rows lives script =
     ++ (map row_line rows
     ++ (map file_text script.files
     ++ (map fail_text script.fails
-    ++ lives_lines lives)))))
+    ++ (map hook_text script.polls
+    ++ lives_lines lives))))))
 
 -- These lines are a text of the script: rows and turns may have any of their texts, all else has one.
 pub record SpellsScript (script : ScriptLines) (lines : List Line) : Type 0 where

@@ -2,6 +2,7 @@
 use Rattle.std.specs.Prelude.{ℕ, List, [], ◌∷◌, ◌++◌, Option, Some, None}
 use Rattle.net_types.specs.declared.interface.IfSpec.{IfSpec}
 use Rattle.world.specs.declared.rows.HostRow.{HostRow}
+use Rattle.world.specs.declared.hooking.Poll.{Poll}
 use Rattle.world.specs.FileLists.{StoreFile}
 use Rattle.script_model.specs.declared.failing.FailLine.{FailLine}
 use Rattle.script_model.specs.ScriptTexts.{ScriptLines, LifeScript}
@@ -21,6 +22,7 @@ pub record LinesRead : Type 0 where
   pub rows : List HostRow
   pub files : List StoreFile
   pub fails : List FailLine
+  pub polls : List (Option Poll)
   -- the lives before the last one
   pub past : List LifeScript
   pub last : Option LifeRead
@@ -39,8 +41,9 @@ script_in read = record {
   rows = read.rows;
   files = read.files;
   fails = read.fails;
+  polls = read.polls;
   lives = lives_in read;
 }
 
 abbrev pub nothing_read : LinesRead
-nothing_read = record { conf = []; ifaces = []; rows = []; files = []; fails = []; past = []; last = None }
+nothing_read = record { conf = []; ifaces = []; rows = []; files = []; fails = []; polls = []; past = []; last = None }

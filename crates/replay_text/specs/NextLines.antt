@@ -20,6 +20,7 @@ use Rattle.replay_text.specs.FileReading.{file_at}
 use Rattle.replay_text.specs.KindTests.{interfaces_fit, is_listed}
 use Rattle.replay_text.specs.LineReading.{spec_at, fail_at}
 use Rattle.replay_text.specs.LinesRead.{LifeRead, LinesRead, lives_in}
+use Rattle.replay_text.specs.PollReading.{poll_at}
 use Rattle.replay_text.specs.RowReading.{row_at}
 use Rattle.replay_text.specs.TurnReading.{turn_at}
 
@@ -65,7 +66,8 @@ with_line read File rest =
     option_map (λ file. record read { files = read.files ++ file ∷ [] }) (guarded (is_new_file read.files) (after_blank file_at rest))
 with_line read Fail rest =
     option_map (λ fail. record read { fails = read.fails ++ fail ∷ [] }) (after_blank fail_at rest)
-with_line read Hook rest = None
+with_line read Hook rest =
+    option_map (λ answer. record read { polls = read.polls ++ answer ∷ [] }) (after_blank poll_at rest)
 with_line read Start rest = option_map (with_start read) (after_blank (begin_at (length read.ifaces)) rest)
 with_line read Turn rest =
     option_map (λ given. with_last read (with_turn given))

@@ -13,8 +13,11 @@ none_of (x ∷ xs) = false
 abbrev pub before_lives : LinesRead → Bool
 before_lives read = not (is_some read.last)
 
+abbrev pub before_polls : LinesRead → Bool
+before_polls read = none_of read.polls && before_lives read
+
 abbrev pub before_fails : LinesRead → Bool
-before_fails read = none_of read.fails && before_lives read
+before_fails read = none_of read.fails && before_polls read
 
 abbrev pub before_files : LinesRead → Bool
 before_files read = none_of read.files && before_fails read
@@ -48,7 +51,7 @@ may_come read Conf = before_interfaces read
 may_come read Interface = nat_lt (length read.ifaces) interface_room && before_rows read
 may_come read Row = before_files read
 may_come read File = before_fails read
-may_come read Fail = before_lives read
+may_come read Fail = before_polls read
 may_come read Hook = before_lives read
 may_come read Start = may_begin read.last
 may_come read Turn = is_going_on read.last

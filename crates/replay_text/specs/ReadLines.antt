@@ -8,6 +8,7 @@ use Rattle.world.specs.Rows.{IsRow}
 use Rattle.world.specs.RowOrder.{in_row_order}
 use Rattle.script_model.specs.FailingCalls.{FitsFail}
 use Rattle.script_model.specs.FirstFiles.{FitsFile, UnlikeNames}
+use Rattle.script_model.specs.HookAnswers.{FitsAnswer}
 use Rattle.script_model.specs.RowSpellings.{SpellsRow}
 use Rattle.script_model.specs.Scripts.{FitInterfaces, FitsLife}
 use Rattle.script_model.specs.ScriptTexts.{LifeScript}
@@ -40,6 +41,7 @@ pub record IsSound (read : LinesRead) : Type 0 where
   pub files : AllByRecursion FitsFile read.files
   pub unlike : AllPairs UnlikeNames read.files
   pub fails : AllByRecursion FitsFail read.fails
+  pub polls : AllByRecursion FitsAnswer read.polls
   pub past : AllByRecursion (HasPassed (length read.ifaces)) read.past
   pub last : FitsLast (length read.ifaces) read.past read.last
 

@@ -47,5 +47,6 @@ script_of script = record {
   rows = script.rows.items;
   files = map file_of script.files.items;
   fails = script.fails.items;
+  polls = script.polls.items;
   lives = map life_of script.lives.items;
 }

@@ -9,7 +9,6 @@ use Rattle.replay_text.specs.LinesInOrder.{head_line}
 use Rattle.replay_text.specs.LinesRead.{LinesRead, script_in, nothing_read}
 use Rattle.replay_text.specs.NextLines.{with_line}
 use Rattle.replay_text.specs.NextWords.{may_come}
-use Rattle.replay_text.specs.Unbuilt.{is_unbuilt}
 use Rattle.replay_text.specs.Words.{Known, word_at, is_text}
 
 -- ---- the lines one after another; nothing comes before the first one
@@ -28,9 +27,7 @@ step (Some read) line = option_map Some (step_after read line)
 
 abbrev pub known_cause : LinesRead → Option Known → ScriptCause
 known_cause read None = causes.Word
-known_cause read (Some known) =
-    if may_come read known.0 then (if is_unbuilt known.0 known.1 then causes.NotBuilt else causes.Form)
-    else causes.Order
+known_cause read (Some known) = if may_come read known.0 then causes.Form else causes.Order
 
 abbrev pub line_cause : Option LinesRead → Line → ScriptCause
 line_cause None line = causes.Word

@@ -19,6 +19,7 @@ lines_read lines = record {
   rows = lines.rows;
   files = lines.files;
   fails = lines.fails.items;
+  polls = lines.polls.items;
   past = map life_of lines.past.items;
   last = option_map life_read lines.last;
 }

@@ -8,11 +8,11 @@ mod files;
 mod laws;
 mod line_numbers;
 mod lines;
+mod polls;
 mod reading;
 mod rows;
 mod script;
 mod so_far;
-mod unbuilt;
 mod unlike;
 mod words;
 

@@ -43,7 +43,7 @@ pub fn spec_of(bytes: &[u8]) -> Option<IfSpec>
 
 /// The number of a call, from 1.
 #[tactic(auto, unfolding(crate::specs::LineReading::call_at))]
-pub fn call_of(bytes: &[u8]) -> Option<u64>
+fn call_of(bytes: &[u8]) -> Option<u64>
     ensures { result ≡ call_at bytes.now }
 {
     let number = u64_of(bytes)?;
@@ -68,8 +68,11 @@ pub fn fail_of(bytes: &[u8]) -> Option<FailLine>
     if let Some(rest) = strip_word(bytes, b"store ") {
         return failing_of(FailDevice::Store, rest);
     }
-    match strip_word(bytes, b"host ") {
-        Some(rest) => failing_of(FailDevice::Host, rest),
+    if let Some(rest) = strip_word(bytes, b"host ") {
+        return failing_of(FailDevice::Host, rest);
+    }
+    match strip_word(bytes, b"hooks ") {
+        Some(rest) => failing_of(FailDevice::Hooks, rest),
         None => None,
     }
 }

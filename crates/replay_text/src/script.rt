@@ -1,7 +1,7 @@
 //! A script, and why a text is none.
 use net_types::IfSpec;
 use script_model::{CrashKind, FailLine};
-use world::{Begin, HostRow, Wake};
+use world::{Begin, HostRow, Poll, Wake};
 
 /// A file that the store holds at first.
 #[derive(Debug, Drop)]
@@ -49,6 +49,8 @@ pub struct Script {
     pub files: Vec<FileLine>,
     /// The calls of devices that fail.
     pub fails: Vec<FailLine>,
+    /// What polls of hooks answer in order, over all lives; `None` for a poll that fails. Later ones answer `Ended(0)`.
+    pub polls: Vec<Option<Poll>>,
     /// The lives, one after another over the same host and store.
     pub lives: Vec<LifeLines>,
 }
@@ -64,8 +66,6 @@ pub enum ScriptCause {
     Order,
     /// What follows the first word isn't of the line's form.
     Form,
-    /// A line that isn't built yet.
-    NotBuilt,
 }
 
 /// The first bad line, from 1, and what is wrong with it.

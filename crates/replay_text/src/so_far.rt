@@ -7,11 +7,12 @@ ghost use Rattle.replay_text.specs.CrashReading.{crash_at};
 ghost use Rattle.replay_text.specs.FileReading.{file_at};
 ghost use Rattle.replay_text.specs.KindTests.{is_listed};
 ghost use Rattle.replay_text.specs.LineReading.{spec_at, fail_at};
+ghost use Rattle.replay_text.specs.PollReading.{poll_at};
 ghost use Rattle.replay_text.specs.TurnReading.{turn_at};
 ghost use Rattle.replay_text.specs.RowReading.{row_at};
 ghost use Rattle.replay_text.specs.ScriptContent.{file_of, given_of, crash_of, life_of};
 ghost use Rattle.replay_text.specs.LinesRead.{last_life, nothing_read};
-ghost use Rattle.replay_text.specs.NextWords.{before_lives, before_fails, before_files, before_rows, before_interfaces, may_begin, has_begun, is_going_on, may_come};
+ghost use Rattle.replay_text.specs.NextWords.{before_lives, before_polls, before_fails, before_files, before_rows, before_interfaces, may_begin, has_begun, is_going_on, may_come};
 ghost use Rattle.replay_text.specs.NextLines.{after_blank, begun, with_turn, with_crash, with_start, with_last, with_line};
 ghost use Rattle.replay_text.specs.ScriptReading.{step_after, cause_of, given_after};
 ghost use Rattle.replay_text.specs.SoFar.{life_read, lines_read, script_said};
@@ -22,15 +23,15 @@ use crate::clock::Clock;
 use crate::crashing::crash_of;
 use crate::files::file_of;
 use crate::lines::{fail_of, spec_of, turn_of};
+use crate::polls::poll_of;
 use crate::rows::row_of;
 use crate::script::{CrashLine, FileLine, LifeLines, Script, ScriptCause, TurnLine};
-use crate::unbuilt::is_unbuilt;
 use crate::unlike::{Interfaces, MOST_INTERFACES, UnlikeFiles, UnlikeRows};
 use crate::words::{Word, is_text, word_of};
 use net_types::{IfSpec, LineFault, NoMemory, strip_word};
 use script_model::FailLine;
 use std::alloc::Global;
-use world::{Begin, Event, HostRow};
+use world::{Begin, Event, HostRow, Poll};
 
 /// The last life so far, and what it knows of moments.
 #[derive(Drop)]
@@ -47,6 +48,7 @@ pub struct LinesSoFar {
     pub rows: UnlikeRows,
     pub files: UnlikeFiles,
     pub fails: Vec<FailLine>,
+    pub polls: Vec<Option<Poll>>,
     /// The lives before the last one.
     pub past: Vec<LifeLines>,
     pub last: Option<LastLife>,
@@ -119,6 +121,12 @@ fn fail_in(rest: &[u8]) -> Option<FailLine>
     ensures { result ≡ after_blank fail_at rest.now }
 {
     fail_of(strip_word(rest, b" ")?)
+}
+
+fn poll_in(rest: &[u8]) -> Option<Option<Poll>>
+    ensures { result ≡ after_blank poll_at rest.now }
+{
+    poll_of(strip_word(rest, b" ")?)
 }
 
 fn begin_in(alloc: Global, count: u32, rest: &[u8]) -> Result<Option<Begin>, NoMemory>
@@ -239,6 +247,7 @@ impl LinesSoFar {
             rows: UnlikeRows::new(alloc),
             files: UnlikeFiles::new(alloc),
             fails: Vec::new(alloc),
+            polls: Vec::new(alloc),
             past: Vec::new(alloc),
             last: None,
         }
@@ -250,10 +259,16 @@ impl LinesSoFar {
         self.last.is_none()
     }
 
+    fn before_polls(&self) -> bool
+        ensures { result ≡ before_polls (lines_read self.now) }
+    {
+        self.polls.is_empty() && self.before_lives()
+    }
+
     fn before_fails(&self) -> bool
         ensures { result ≡ before_fails (lines_read self.now) }
     {
-        self.fails.is_empty() && self.before_lives()
+        self.fails.is_empty() && self.before_polls()
     }
 
     fn before_files(&self) -> bool
@@ -284,7 +299,8 @@ impl LinesSoFar {
             Word::Interface => self.ifaces.len() < MOST_INTERFACES && self.before_rows(),
             Word::Row => self.before_files(),
             Word::File => self.before_fails(),
-            Word::Fail | Word::Hook => self.before_lives(),
+            Word::Fail => self.before_polls(),
+            Word::Hook => self.before_lives(),
             Word::Start => may_begin(&self.last),
             Word::Turn => is_going_on(&self.last),
             Word::Crash => has_begun(&self.last),
@@ -352,6 +368,18 @@ impl LinesSoFar {
         Ok(Some(LinesSoFar { fails, ..self }))
     }
 
+    #[tactic(auto, unfolding(crate::specs::NextLines::with_line))]
+    fn with_poll(self, rest: &[u8]) -> Result<Option<LinesSoFar>, NoMemory>
+        ensures { IfOk result (λ o. option_map lines_read o ≡ with_line (lines_read self) Word.Hook rest.now) }
+    {
+        let Some(answer) = poll_in(rest) else {
+            return Ok(None);
+        };
+        let mut polls = self.polls;
+        polls.push(answer)?;
+        Ok(Some(LinesSoFar { polls, ..self }))
+    }
+
     /// With a life more.
     fn with_begin(self, alloc: Global, begin: Begin) -> Result<LinesSoFar, NoMemory>
         ensures { IfOk result (λ lines. lines_read lines ≡ with_start (lines_read self) begin) }
@@ -414,12 +442,13 @@ impl LinesSoFar {
         ensures { IfOk result (λ o. option_map lines_read o ≡ with_line (lines_read self) word rest.now) }
     {
         match word {
-            Word::Head | Word::Hook => Ok(None),
+            Word::Head => Ok(None),
             Word::Conf => self.with_conf(rest),
             Word::Interface => self.with_interface(rest),
             Word::Row => self.with_row(rest),
             Word::File => self.with_file(alloc, rest),
             Word::Fail => self.with_fail(rest),
+            Word::Hook => self.with_poll(rest),
             Word::Start => self.with_start(alloc, rest),
             Word::Turn => self.with_turn(alloc, rest),
             Word::Crash => Ok(self.with_crash(rest)),
@@ -443,7 +472,6 @@ impl LinesSoFar {
         }
         match self.with_line(alloc, word, rest)? {
             Some(next) => Ok(next),
-            None if is_unbuilt(word, rest) => Err(LineFault::Bad(ScriptCause::NotBuilt)),
             None => Err(LineFault::Bad(ScriptCause::Form)),
         }
     }
@@ -463,6 +491,7 @@ impl LinesSoFar {
             rows: self.rows.into_vec(),
             files: self.files.into_vec(),
             fails: self.fails,
+            polls: self.polls,
             lives,
         })
     }

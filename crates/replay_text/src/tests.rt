@@ -1,8 +1,8 @@
 use super::*;
 use net_types::{IfIndex, Ip4, Ip6, Net, Net4};
-use script_model::CrashKind;
+use script_model::{CrashKind, FailDevice, FailLine};
 use std::test::*;
-use world::{Event, HostRow, Via};
+use world::{Event, HostRow, Poll, Via};
 
 #[test]
 fn a_route(rt: HostRuntime) -> Result<(), Fail> {
@@ -36,7 +36,7 @@ fn a_route(rt: HostRuntime) -> Result<(), Fail> {
 
 #[test]
 fn refusals(rt: HostRuntime) {
-    use crate::script::ScriptCause::{Form, NotBuilt, NotText, Order, Word};
+    use crate::script::ScriptCause::{Form, NotText, Order, Word};
     let bad: [(&[u8], u64, ScriptCause); 21] = [
         (b"", 1, Word),
         (b"c:noarp\n", 1, Word),
@@ -109,11 +109,12 @@ fn refusals(rt: HostRuntime) {
             2,
             Form,
         ),
-        (b"dhcpcd-script 1\nhook ended 255\nturns\n", 2, NotBuilt),
+        (b"dhcpcd-script 1\nhook ended 255\nturns\n", 3, Word),
+        // a hook's answer before a call that fails
         (
-            b"dhcpcd-script 1\nfail hooks 1\nstart 0 0 up -\n",
-            2,
-            NotBuilt,
+            b"dhcpcd-script 1\nhook run\nfail hooks 1\nstart 0 0 up -\n",
+            3,
+            Order,
         ),
         // a hook's answer within a life
         (b"dhcpcd-script 1\nstart 0 0 up -\nhook run\n", 3, Order),
@@ -156,10 +157,30 @@ fn a_stopped_life(rt: HostRuntime) -> Result<(), Fail> {
 }
 
 #[test]
-fn lives_over_one_store(rt: HostRuntime) -> Result<(), Fail> {
+fn answers_of_hooks(rt: HostRuntime) -> Result<(), Fail> {
     let text =
-        b"dhcpcd-script 1\nfile duid 00ff\nfile eth0.lease4.new -\nfail store 3\nfail hooks 1\nstart 0 0 up -\n";
-    assert!(rt; read_script(rt.alloc(), text).is_err());
+        b"dhcpcd-script 1\nfail hooks 2\nfail link 1\nhook run\nhook ended 255\nhook failed\nhook ended 0\nstart 0 0 up -\n";
+    let script = read_script(rt.alloc(), text).ok().ok_or("it is a script")?;
+    let fail = FailLine {
+        device: FailDevice::Hooks,
+        number: 2,
+    };
+    assert!(rt; script.fails.first() == Some(&fail));
+    let answers = [
+        Some(Poll::Running),
+        Some(Poll::Ended(255)),
+        None,
+        Some(Poll::Ended(0)),
+    ];
+    assert_eq!(rt; script.polls.len(), 4);
+    for (told, answer) in script.polls.iter().zip(answers) {
+        assert!(rt; *told == answer);
+    }
+    Ok(())
+}
+
+#[test]
+fn lives_over_one_store(rt: HostRuntime) -> Result<(), Fail> {
     let text =
         b"dhcpcd-script 1\nfile duid 00ff\nfile eth0.lease4.new -\nfail store 3\nstart 0 0 up -\nturn 1 0 stop\n\
         turn 5001 0 quiet\ncrash 0 old\nstart 9 0 up -\ncrash - new\nstart 5 0 up -\nturn 6 0 quiet\n";

@@ -25,15 +25,7 @@ is_same_device device other = false
 abbrev pub failing_calls : FailDevice → List FailLine → List ℕ
 failing_calls device fails = map (λ fail. fail.number) (filter (λ fail. is_same_device fail.device device) fails)
 
--- devices whose failing calls are built: the link, the store and the host
-abbrev pub IsBuiltDevice : FailDevice → Type 0
-IsBuiltDevice Link = Unit {0}
-IsBuiltDevice Store = Unit {0}
-IsBuiltDevice Host = Unit {0}
-IsBuiltDevice device = ⊥
-
--- lines that are built; calls count from 1
+-- calls count from 1
 pub record FitsFail (fail : FailLine) : Type 0 where
-  pub built : IsBuiltDevice fail.device
   pub first : 1 ≤ fail.number
   pub bits : fail.number < 2 ^ 64

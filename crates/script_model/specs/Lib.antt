@@ -4,6 +4,7 @@ pub mod RowSpellings
 pub mod Lines
 pub mod TurnSpellings
 pub mod FailingCalls
+pub mod HookAnswers
 pub mod FirstFiles
 pub mod Crashes
 pub mod ScriptTexts

@@ -11,6 +11,10 @@ use Rattle.world.specs.declared.wakes.Begin.{Begin}
 use Rattle.world.specs.declared.wakes.Event.{Event}
 use Rattle.world.specs.declared.wakes.Event.TheVariants.{Frame, Carrier, Duplicate, Release, Rebind, Stop, Quiet, End}
 use Rattle.world.specs.declared.rows.HostRow.{HostRow}
+use Rattle.world.specs.declared.hooking.Poll.{Poll}
+use Rattle.world.specs.declared.hooking.Poll.TheVariants.{Running, Ended}
+use Rattle.world.specs.declared.reasons.Reason.{Reason}
+use Rattle.world.specs.Reasons.{reason_word}
 use Rattle.world.specs.StoreCalls.{Reading, Found, Missing, Unread}
 use Rattle.world.specs.RowText.{row_text}
 use Rattle.script_model.specs.IfaceSets.{is_up}
@@ -31,6 +35,13 @@ pub data Line : Type 0 where
   Settled : (done : Bool) → Line
   Read : (name : List ℕ) → (reading : Reading) → Line
   Turn : (at salt : ℕ) → (event : Event) → (bytes : List ℕ) → Line
+  -- what a poll of a job's child said, nothing where it failed
+  HookPolled : (number : ℕ) → (answer : Option Poll) → Line
+  HookAbandoned : (number : ℕ) → Line
+  HookDropped : (number : ℕ) → (reason : Reason) → (name : List ℕ) → Line
+  HookStarted : (number : ℕ) → (reason : Reason) → (name : List ℕ) → (done : Bool) → Line
+  -- a variable of the job that was started
+  Variable : (name value : List ℕ) → Line
   Send : (iface : IfIndex) → (bytes : List ℕ) → (taken : Bool) → Line
   HostListed : (count : ℕ) → Line
   Row : (row : HostRow) → Line
@@ -94,6 +105,15 @@ abbrev pub moment_text : Option ℕ → List ℕ
 moment_text None = codes "none"
 moment_text (Some at) = decimal at
 
+abbrev pub poll_text : Option Poll → List ℕ
+poll_text (Some Running) = codes "run"
+poll_text (Some (Ended status)) = codes "ended " ++ decimal status
+poll_text None = codes "failed"
+
+-- which job, why it runs and on which interface
+abbrev pub job_text : ℕ → Reason → List ℕ → List ℕ
+job_text number reason name = decimal number ++ codes " " ++ reason_word reason ++ codes " " ++ name
+
 -- a line without its line feed
 unfoldable pub line_words : Line → List ℕ
 line_words Head = codes "dhcpcd-transcript 1"
@@ -111,6 +131,11 @@ line_words (Removed name done) = codes "store remove " ++ name ++ codes " " ++ o
 line_words (Settled done) = codes "store settle " ++ outcome_text done
 line_words (Read name reading) = codes "store read " ++ name ++ codes " " ++ reading_text reading
 line_words (Turn at salt event bytes) = turn_text at salt event bytes
+line_words (HookPolled number answer) = codes "hook poll " ++ decimal number ++ codes " " ++ poll_text answer
+line_words (HookAbandoned number) = codes "hook abandon " ++ decimal number
+line_words (HookDropped number reason name) = codes "hook drop " ++ job_text number reason name
+line_words (HookStarted number reason name done) = codes "hook start " ++ job_text number reason name ++ codes " " ++ outcome_text done
+line_words (Variable name value) = codes "var " ++ name ++ codes "=" ++ value
 line_words (Send iface bytes taken) = codes "send " ++ decimal iface.number ++ codes " " ++ hex_text bytes ++ codes " " ++ outcome_text taken
 line_words (HostListed count) = codes "host list ok " ++ decimal count
 line_words (Row row) = codes "row " ++ row_text row

@@ -3,6 +3,7 @@ use Rattle.std.specs.Prelude.{ℕ, List, [], ◌∷◌, ◌++◌, Option}
 use Rattle.net_types.specs.declared.interface.IfSpec.{IfSpec}
 use Rattle.world.specs.declared.wakes.Begin.{Begin}
 use Rattle.world.specs.declared.rows.HostRow.{HostRow}
+use Rattle.world.specs.declared.hooking.Poll.{Poll}
 use Rattle.world.specs.FileLists.{StoreFile}
 use Rattle.world.specs.LinkCalls.{Given}
 use Rattle.script_model.specs.declared.failing.FailLine.{FailLine}
@@ -25,6 +26,8 @@ pub record ScriptLines : Type 0 where
   pub files : List StoreFile
   -- the calls that fail
   pub fails : List FailLine
+  -- what polls of hooks answer in order, over all lives; nothing where a poll fails
+  pub polls : List (Option Poll)
   -- the lives, one after another over the same host and store
   pub lives : List LifeScript
 

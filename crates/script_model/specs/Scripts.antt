@@ -1,4 +1,4 @@
--- Which scripts are built.
+-- Which scripts there are.
 use Rattle.std.specs.Prelude.{ℕ, ◌≡◌, ◌+◌, ◌^◌, ◌<◌, ◌≤◌, List, [], ◌∷◌, length, All, AllPairs, IfSome, IsTrue, is_some}
 use Rattle.net_types.specs.declared.interface.IfSpec.{IfSpec}
 use Rattle.net_types.specs.AddressText.{FitsIp6, FitsMac}
@@ -10,6 +10,7 @@ use Rattle.world.specs.LinkCalls.{Given}
 use Rattle.world.specs.RowOrder.{in_row_order}
 use Rattle.world.specs.Rows.{IsRow}
 use Rattle.script_model.specs.FailingCalls.{FitsFail}
+use Rattle.script_model.specs.HookAnswers.{FitsAnswer}
 use Rattle.script_model.specs.FirstFiles.{FitsFile, UnlikeNames}
 use Rattle.script_model.specs.Crashes.{FitsCrash}
 use Rattle.script_model.specs.ScriptTexts.{ScriptLines, LifeScript}
@@ -85,6 +86,7 @@ pub record FitsScript (script : ScriptLines) : Type 0 where
   pub files : All FitsFile script.files
   pub unlike : AllPairs UnlikeNames script.files
   pub fails : All FitsFail script.fails
+  pub polls : All FitsAnswer script.polls
   pub some : 1 ≤ length script.lives
   pub parted : CrashBetween script.lives
   pub lives : All (FitsLife (length script.ifaces)) script.lives

@@ -1,4 +1,6 @@
 pub mod Dhcp4Settings
 pub mod Dhcp6Settings
+pub mod ResolverSettings
+pub mod HookSettings
 pub mod Fitting
 pub mod ManagedRows

@@ -1,6 +1,8 @@
-//! What the DHCPv6 client of an interface is told to ask for.
+//! What the DHCPv6 client of an interface is told to ask for, and who gets what of a delegated prefix.
 ghost use Rattle.std.specs.Prelude.{◌≡◌, IfOk};
 
+use crate::outlet::Outlet;
+use prefix_share::Share;
 use std::alloc::{AllocError, Global};
 use std::marker::Model;
 use v6_options::IaKind;
@@ -14,6 +16,17 @@ pub struct IaConf {
     pub hint: u8,
 }
 
+/// What another interface gets of the prefixes of an `ia_pd` (RFC 3633, section 12.1).
+#[derive(Clone, Copy, Debug, PartialEq, Eq)]
+pub struct ShareConf {
+    /// The IAID of the `ia_pd`.
+    pub iaid: u32,
+    /// The subnet of a prefix.
+    pub share: Share,
+    /// Where its rows lead.
+    pub outlet: Outlet,
+}
+
 /// What the DHCPv6 client of an interface asks for.
 #[derive(Drop)]
 pub struct Dhcp6Conf {
@@ -21,6 +34,8 @@ pub struct Dhcp6Conf {
     pub rapid: bool,
     /// In the order of the configuration.
     pub ias: Vec<IaConf>,
+    /// Who gets what of the prefixes, in the order of the IAs, and for each as its line has them.
+    pub shares: Vec<ShareConf>,
 }
 
 impl Model for Dhcp6Conf {
@@ -28,7 +43,7 @@ impl Model for Dhcp6Conf {
 
     ghost Value = { Dhcp6Settings };
 
-    ghost view = { λ conf. record { rapid = conf.rapid; ias = conf.ias.items } };
+    ghost view = { λ conf. record { rapid = conf.rapid; ias = conf.ias.items; shares = conf.shares.items } };
 }
 
 impl Dhcp6Conf {
@@ -39,6 +54,7 @@ impl Dhcp6Conf {
         Ok(Dhcp6Conf {
             rapid: self.rapid,
             ias: self.ias.to_vec(alloc)?,
+            shares: self.shares.to_vec(alloc)?,
         })
     }
 }

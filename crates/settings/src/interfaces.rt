@@ -2,10 +2,12 @@ ghost use Rattle.std.specs.Prelude.{◌≡◌, IfOk};
 
 use crate::dhcp4_conf::Dhcp4Conf;
 use crate::dhcp6_conf::Dhcp6Conf;
-use net_types::{IfSpec, Ip4, Net4};
+use crate::hook_conf::HookConf;
+use crate::resolver_conf::ResolverConf;
+use net_types::{IfSpec, Ip4, Net4, Net6};
 use std::alloc::{AllocError, Global};
 
-/// What the configuration says of an interface, as far as it is built.
+/// What the configuration says of an interface.
 #[derive(Drop)]
 pub struct IfConf {
     /// `ipv4only`: DHCPv6 doesn't run.
@@ -34,12 +36,18 @@ pub struct IfConf {
     pub metric: Option<u32>,
     /// `static ip_address`.
     pub address: Option<Net4>,
+    /// `static ip6_address`.
+    pub address6: Option<Net6>,
     /// The first of `static routers`, which goes before the routers of a lease.
     pub router: Option<Ip4>,
     /// What its DHCPv4 client says and wants.
     pub dhcp4: Dhcp4Conf,
     /// What its DHCPv6 client asks for.
     pub dhcp6: Dhcp6Conf,
+    /// What the resolver is told of it.
+    pub resolver: ResolverConf,
+    /// What its hooks run.
+    pub hooks: HookConf,
 }
 
 impl IfConf {
@@ -61,9 +69,12 @@ impl IfConf {
             reboot: self.reboot,
             metric: self.metric,
             address: self.address,
+            address6: self.address6,
             router: self.router,
             dhcp4: self.dhcp4.to_owned(alloc)?,
             dhcp6: self.dhcp6.to_owned(alloc)?,
+            resolver: self.resolver.to_owned(alloc)?,
+            hooks: self.hooks.to_owned(alloc)?,
         })
     }
 }

@@ -3,8 +3,14 @@
 
 mod dhcp4_conf;
 mod dhcp6_conf;
+mod hook_conf;
 mod interfaces;
+mod outlet;
+mod resolver_conf;
 
 pub use dhcp4_conf::{Dhcp4Conf, Identifier};
-pub use dhcp6_conf::{Dhcp6Conf, IaConf};
+pub use dhcp6_conf::{Dhcp6Conf, IaConf, ShareConf};
+pub use hook_conf::{HookConf, Script};
 pub use interfaces::{IfConf, Managed};
+pub use outlet::Outlet;
+pub use resolver_conf::ResolverConf;

@@ -1,6 +1,7 @@
 mod CarrierSteps
 mod Fields
 mod Holding
+mod HookFields
 mod LineReading
 pub mod LinesLaws
 mod Named

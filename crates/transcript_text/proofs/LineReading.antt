@@ -18,14 +18,19 @@ use Rattle.world.specs.declared.wakes.Begin.{Begin}
 use Rattle.world.specs.declared.wakes.Event.{Event}
 use Rattle.world.specs.declared.wakes.Event.TheVariants.{Frame, Carrier, Duplicate, Release, Rebind, Stop, Quiet, End}
 use Rattle.world.specs.declared.rows.HostRow.{HostRow}
+use Rattle.world.specs.declared.hooking.Poll.{Poll}
+use Rattle.world.specs.declared.hooking.Poll.TheVariants.{Running, Ended}
+use Rattle.world.specs.declared.reasons.Reason.{Reason}
+use Rattle.world.specs.Reasons.{reason_word}
 use Rattle.world.specs.FileNames.{IsFileName}
 use Rattle.world.specs.StoreCalls.{Reading, Found, Missing, Unread}
 use Rattle.world.specs.RowText.{row_text}
 use Rattle.world.specs.Rows.{IsRow}
 use Rattle.script_model.specs.Lines as Model
-use Rattle.script_model.specs.Lines.{Line, line_words, outcome_text, event_text, up_text, reading_text, moment_text}
-use Rattle.transcript_text.specs.Fits.{FitsLine, FitsEvent, FitsReading, FitsMoment, LinesApart}
+use Rattle.script_model.specs.Lines.{Line, line_words, outcome_text, event_text, up_text, reading_text, moment_text, poll_text, job_text}
+use Rattle.transcript_text.specs.Fits.{FitsLine, FitsEvent, FitsReading, FitsMoment, FitsPoll, FitsVariable, LinesApart}
 use Rattle.transcript_text.proofs.Fields.{after, cut, number_in, hex_in, ip6_in, net_in, mac_in, name_in, cut_number, cut_name, cut_file, cut_hex, file_lacks, number_found, number_whole, hex_whole, ip6_whole, net_whole, mac_whole, name_whole}
+use Rattle.transcript_text.proofs.HookFields.{reason_in, reason_whole, cut_reason, cut_interface, cut_variable, variable_parts}
 use Rattle.transcript_text.proofs.UpLaws.{bits_of, numbers_in, up_whole}
 use Rattle.transcript_text.proofs.RowReading.{index_in, row_in, row_whole}
 
@@ -149,6 +154,51 @@ turn_whole at salt event bytes h =
     let both = event_whole event bytes h.2 in
     simp append_assoc (rw (cut_number at (decimal salt ++ 32 ∷ event_text event bytes) h.0, cut_number salt (event_text event bytes) h.1, number_whole at h.0, number_whole salt h.1, both.0, both.1) refl)
 
+unfoldable pub poll_in : List ℕ → Option Poll
+poll_in =
+    after (codes "run") (λ text. Some Running)
+    (after (codes "ended ") (λ text. Some (Ended (number_in text))) (λ text. None))
+
+poll_whole : (answer : Option Poll) → FitsPoll answer → poll_in (poll_text answer) ≡ answer
+unfolding poll_in strip_word
+poll_whole (Some Running) h = refl
+poll_whole (Some (Ended status)) h =
+    let small : status < 2 ^ 64 = omega (arith, h) in
+    ap (λ n. Some (Ended n)) (number_whole status small)
+poll_whole None h = refl
+
+unfoldable pub polled_in : List ℕ → Line
+polled_in text = Model.HookPolled (number_in (cut text).0) (poll_in (cut text).1)
+
+polled_whole : (number : ℕ) (answer : Option Poll) → FitsLine (Model.HookPolled number answer) → polled_in (decimal number ++ codes " " ++ poll_text answer) ≡ Model.HookPolled number answer
+unfolding polled_in
+polled_whole number answer h = simp append_assoc (rw (cut_number number (poll_text answer) h.0, number_whole number h.0, poll_whole answer h.1) refl)
+
+unfoldable pub dropped_in : List ℕ → Line
+dropped_in text = Model.HookDropped (number_in (cut text).0) (reason_in (cut (cut text).1).0) (cut (cut text).1).1
+
+dropped_whole : (number : ℕ) (reason : Reason) (name : List ℕ) → FitsLine (Model.HookDropped number reason name) → dropped_in (job_text number reason name) ≡ Model.HookDropped number reason name
+unfolding dropped_in
+dropped_whole number reason name h =
+    simp append_assoc (rw (cut_number number (reason_word reason ++ 32 ∷ name) h.0, cut_reason reason name, number_whole number h.0, reason_whole reason) refl)
+
+unfoldable pub started_in : List ℕ → Line
+started_in text =
+    Model.HookStarted (number_in (cut text).0) (reason_in (cut (cut text).1).0) (cut (cut (cut text).1).1).0 (done_in (cut (cut (cut text).1).1).1)
+
+started_whole : (number : ℕ) (reason : Reason) (name : List ℕ) (done : Bool) → FitsLine (Model.HookStarted number reason name done) → started_in (job_text number reason name ++ codes " " ++ outcome_text done) ≡ Model.HookStarted number reason name done
+unfolding started_in
+started_whole number reason name done h =
+    simp append_assoc (
+    rw (cut_number number (reason_word reason ++ 32 ∷ (name ++ 32 ∷ outcome_text done)) h.0, cut_reason reason (name ++ 32 ∷ outcome_text done), cut_interface name (outcome_text done) h.1, number_whole number h.0, reason_whole reason, done_whole done) refl)
+
+unfoldable pub variable_in : List ℕ → Line
+variable_in text = Model.Variable (variable_parts text).0 (variable_parts text).1
+
+variable_whole : (name value : List ℕ) → FitsVariable name value → variable_in (name ++ codes "=" ++ value) ≡ Model.Variable name value
+unfolding variable_in
+variable_whole name value h = simp append_assoc (rw (cut_variable name value h.parted) refl)
+
 unfoldable pub send_in : List ℕ → Line
 send_in text = Model.Send (index_in (cut text).0) (hex_in (cut (cut text).1).0) (done_in (cut (cut text).1).1)
 
@@ -250,6 +300,11 @@ line_in =
     (after (codes "store settle ") (λ text. Model.Settled (done_in text))
     (after (codes "store read ") read_in
     (after (codes "turn ") turn_in
+    (after (codes "hook poll ") polled_in
+    (after (codes "hook abandon ") (λ text. Model.HookAbandoned (number_in text))
+    (after (codes "hook drop ") dropped_in
+    (after (codes "hook start ") started_in
+    (after (codes "var ") variable_in
     (after (codes "send ") send_in
     (after (codes "host list ok ") (λ text. Model.HostListed (number_in text))
     (after (codes "row ") listed_row_in
@@ -259,7 +314,7 @@ line_in =
     (after (codes "until ") (λ text. Model.Until (number_at (2 ^ 64) text))
     (after (codes "hold addr ") hold_in
     (after (codes "end") (λ text. Model.EndOfLife)
-    (λ text. Model.Head)))))))))))))))))))))))
+    (λ text. Model.Head))))))))))))))))))))))))))))
 
 pub line_whole : (line : Line) → FitsLine line → line_in (line_words line) ≡ line
 unfolding line_in line_words strip_word
@@ -278,6 +333,11 @@ line_whole (Model.Removed name done) h = call_whole Model.Removed name done h
 line_whole (Model.Settled done) h = ap Model.Settled (done_whole done)
 line_whole (Model.Read name reading) h = read_whole name reading h.0 h.1
 line_whole (Model.Turn at salt event bytes) h = turn_whole at salt event bytes h
+line_whole (Model.HookPolled number answer) h = polled_whole number answer h
+line_whole (Model.HookAbandoned number) h = ap Model.HookAbandoned (number_whole number h)
+line_whole (Model.HookDropped number reason name) h = dropped_whole number reason name h
+line_whole (Model.HookStarted number reason name done) h = started_whole number reason name done h
+line_whole (Model.Variable name value) h = variable_whole name value h
 line_whole (Model.Send iface bytes taken) h = send_whole iface bytes taken h
 line_whole (Model.HostListed count) h = ap Model.HostListed (number_whole count h)
 line_whole (Model.Row row) h = listed_row_whole row h

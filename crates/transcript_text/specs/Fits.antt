@@ -1,11 +1,13 @@
 -- The lines that a transcript can have: numbers of the daemon's types, names as they are allowed, rows that a host can hold.
-use Rattle.std.specs.Prelude.{◌≡◌, ℕ, ◌<◌, ◌^◌, List, [], length, Option, Some, None}
+use Rattle.std.specs.Prelude.{◌≡◌, ℕ, ◌<◌, ◌^◌, List, [], length, Option, Some, None, IsTrue}
 use Rattle.std.specs.List.{AllByRecursion}
 use Rattle.net_types.specs.AddressText.{FitsIp6, FitsMac, FitsNet}
-use Rattle.net_types.specs.NameText.{FitsName}
-use Rattle.net_types.specs.Marks.{AreBytes}
+use Rattle.net_types.specs.NameText.{is_name, FitsName}
+use Rattle.net_types.specs.Marks.{Lacks, AreBytes}
 use Rattle.world.specs.declared.wakes.Event.{Event}
 use Rattle.world.specs.declared.wakes.Event.TheVariants.{Frame, Carrier, Duplicate, Release, Rebind, Stop, Quiet, End}
+use Rattle.world.specs.declared.hooking.Poll.{Poll}
+use Rattle.world.specs.declared.hooking.Poll.TheVariants.{Running, Ended}
 use Rattle.world.specs.FileNames.{IsFileName}
 use Rattle.world.specs.StoreCalls.{Reading, Found, Missing, Unread}
 use Rattle.world.specs.Rows.{IsRow}
@@ -35,6 +37,17 @@ abbrev pub FitsMoment : Option ℕ → Type 0
 FitsMoment (Some at) = IsWord at
 FitsMoment None = Unit {0}
 
+abbrev pub FitsPoll : Option Poll → Type 0
+FitsPoll (Some Running) = Unit {0}
+FitsPoll (Some (Ended status)) = status < 2 ^ 32
+FitsPoll None = Unit {0}
+
+-- a variable of a hook: its name ends at the first `=`, and both stand in one line
+pub record FitsVariable (name value : List ℕ) : Type 0 where
+  pub parted : Lacks 61 name
+  pub name_within : Lacks 10 name
+  pub value_within : Lacks 10 value
+
 abbrev pub FitsLine : Line → Type 0
 FitsLine Model.Head = Unit {0}
 FitsLine (Model.Conf text) = Unit {0}
@@ -51,6 +64,11 @@ FitsLine (Model.Removed name done) = IsFileName name
 FitsLine (Model.Settled done) = Unit {0}
 FitsLine (Model.Read name reading) = IsFileName name × FitsReading reading
 FitsLine (Model.Turn at salt event bytes) = IsWord at × IsWord salt × FitsEvent event bytes
+FitsLine (Model.HookPolled number answer) = IsWord number × FitsPoll answer
+FitsLine (Model.HookAbandoned number) = IsWord number
+FitsLine (Model.HookDropped number reason name) = IsWord number × IsTrue (is_name name)
+FitsLine (Model.HookStarted number reason name done) = IsWord number × IsTrue (is_name name)
+FitsLine (Model.Variable name value) = FitsVariable name value
 FitsLine (Model.Send iface bytes taken) = (iface.number < 2 ^ 32) × AreBytes bytes
 FitsLine (Model.HostListed count) = IsWord count
 FitsLine (Model.Row row) = IsRow row

@@ -7,7 +7,7 @@ use Rattle.script_model.specs.Lines as Model
 use Rattle.transcript_text.specs.declared.lines.Reading.{Reading}
 use Rattle.transcript_text.specs.declared.lines.Reading.TheVariants.{Found, Missing, Unread}
 use Rattle.transcript_text.specs.declared.lines.TranscriptLine.{TranscriptLine}
-use Rattle.transcript_text.specs.declared.lines.TranscriptLine.TheVariants.{Head, Conf, Notice, Interface, Life, Start, Asides, AsidesFailed, Wrote, Synced, Renamed, Removed, Settled, Read, Turn, Send, HostListed, Row, HostListFailed, HostDel, HostAdd, Until, Hold, EndOfLife}
+use Rattle.transcript_text.specs.declared.lines.TranscriptLine.TheVariants.{Head, Conf, Notice, Interface, Life, Start, Asides, AsidesFailed, Wrote, Synced, Renamed, Removed, Settled, Read, Turn, HookPolled, HookAbandoned, HookDropped, HookStarted, Variable, Send, HostListed, Row, HostListFailed, HostDel, HostAdd, Until, Hold, EndOfLife}
 
 abbrev pub reading_of : Reading → Store.Reading
 reading_of (Found bytes) = Store.Found bytes.now
@@ -30,6 +30,11 @@ line_of (Removed name done) = Model.Removed name.now done
 line_of (Settled done) = Model.Settled done
 line_of (Read name reading) = Model.Read name.now (reading_of reading)
 line_of (Turn at salt event bytes) = Model.Turn at salt event bytes.now
+line_of (HookPolled number answer) = Model.HookPolled number answer
+line_of (HookAbandoned number) = Model.HookAbandoned number
+line_of (HookDropped number reason name) = Model.HookDropped number reason name.now
+line_of (HookStarted number reason name done) = Model.HookStarted number reason name.now done
+line_of (Variable name value) = Model.Variable name.now value.now
 line_of (Send iface bytes taken) = Model.Send iface bytes.now taken
 line_of (HostListed count) = Model.HostListed count
 line_of (Row row) = Model.Row row.now

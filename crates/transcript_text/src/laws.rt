@@ -2,7 +2,7 @@
 ghost use Rattle.transcript_text.specs.Fits.{LinesApart};
 
 /// Unlike lines have unlike texts: what a line's text is determines the line. It holds of the lines that a transcript
-/// can have so far: numbers of their types, names of interfaces and files as they are allowed, rows of IPv4.
+/// can have: numbers of their types, names of interfaces, files and variables as they are allowed, rows that a host can hold.
 pub fn lines_apart()
     ensures { LinesApart }
 {}

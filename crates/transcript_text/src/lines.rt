@@ -1,6 +1,6 @@
 //! What a transcript is made of.
 use net_types::{IfIndex, IfSpec, Net};
-use world::{Begin, Event, HostRow};
+use world::{Begin, Event, HostRow, Poll, Reason};
 
 /// What reading a file of the store gave.
 #[derive(Clone, Copy, Debug)]
@@ -65,6 +65,31 @@ pub enum TranscriptLine<'a> {
         salt: u64,
         event: Event,
         bytes: &'a [u8],
+    },
+    /// What a poll of the child of a hook job said; nothing where the poll failed.
+    HookPolled {
+        number: u64,
+        answer: Option<Poll>,
+    },
+    /// The child of a hook job is waited for no longer.
+    HookAbandoned(u64),
+    /// A hook job was dropped before it was started; the name is that of its interface.
+    HookDropped {
+        number: u64,
+        reason: Reason,
+        name: &'a str,
+    },
+    /// A hook job was started; the name is that of its interface. Its variables follow.
+    HookStarted {
+        number: u64,
+        reason: Reason,
+        name: &'a str,
+        done: bool,
+    },
+    /// A variable of the hook job that was started.
+    Variable {
+        name: &'a str,
+        value: &'a str,
     },
     /// A frame offered to the link, and whether it was taken.
     Send {

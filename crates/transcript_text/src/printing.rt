@@ -3,7 +3,7 @@ ghost use Rattle.std.specs.Prelude.{◌≡◌, ◌∷◌, [], ◌++◌, codes, d
 ghost use Rattle.std.specs.String.{string_bytes};
 ghost use Rattle.world.specs.RowText.{row_text};
 ghost use Rattle.script_model.specs.Lines as Lines;
-ghost use Rattle.script_model.specs.Lines.{line_text, carrier_text, event_text, outcome_text};
+ghost use Rattle.script_model.specs.Lines.{line_text, carrier_text, event_text, job_text, outcome_text};
 ghost use Rattle.transcript_text.specs.Pieces.{piece_text};
 ghost use Rattle.transcript_text.specs.Printed.{line_of, reading_of};
 
@@ -11,7 +11,7 @@ use crate::appending::append_bytes;
 use crate::lines::{Reading, TranscriptLine};
 use crate::pieces::{Piece, append_pieces};
 use net_types::{IfIndex, IfSpec, NoMemory};
-use world::{Begin, Event, HostRow};
+use world::{Begin, Event, HostRow, Poll, Reason, reason_text};
 
 const BLANK: Piece<'static> = Piece::Word(b" ");
 
@@ -186,6 +186,73 @@ fn print_turn(
 }
 
 #[tactic(auto, unfolding(script_model::specs::Lines::line_words), using(std::proofs::Common::append_assoc))]
+fn print_polled(number: u64, answer: Option<Poll>, into: &mut Vec<u8>) -> Result<(), NoMemory>
+    ensures ok { OnOk result (into.new.items ≡ into.old.items ++ line_text (Lines.HookPolled number answer)) }
+    ensures err { OnErr result (into.new.items ≡ into.old.items) }
+{
+    let (word, status) = match answer {
+        Some(Poll::Running) => (Piece::Word(b"run"), Piece::Word(b"")),
+        Some(Poll::Ended(status)) => (Piece::Word(b"ended "), Piece::Number(u64::from(status))),
+        None => (Piece::Word(b"failed"), Piece::Word(b"")),
+    };
+    append_pieces(
+        &[
+            Piece::Word(b"hook poll "),
+            Piece::Number(number),
+            BLANK,
+            word,
+            status,
+            LINE_END,
+        ],
+        into,
+    )
+}
+
+/// Appends a word, the number of a hook job, why it runs and on which interface, and what ends the line.
+#[tactic(auto, using(std::proofs::Common::append_assoc))]
+fn print_job<'a>(
+    word: &'a [u8],
+    number: u64,
+    reason: Reason,
+    name: &'a str,
+    end: Piece<'a>,
+    into: &mut Vec<u8>,
+) -> Result<(), NoMemory>
+    ensures ok { OnOk result (into.new.items ≡ into.old.items ++ (word.now ++ job_text number reason name.now) ++ piece_text end.entry) }
+    ensures err { OnErr result (into.new.items ≡ into.old.items) }
+{
+    append_pieces(
+        &[
+            Piece::Word(word),
+            Piece::Number(number),
+            BLANK,
+            Piece::Word(reason_text(reason).as_bytes()),
+            BLANK,
+            Piece::Word(name.as_bytes()),
+            end,
+        ],
+        into,
+    )
+}
+
+#[tactic(auto, unfolding(script_model::specs::Lines::line_words), using(std::proofs::Common::append_assoc))]
+fn print_variable<'a>(name: &'a str, value: &'a str, into: &mut Vec<u8>) -> Result<(), NoMemory>
+    ensures ok { OnOk result (into.new.items ≡ into.old.items ++ line_text (Lines.Variable name.now value.now)) }
+    ensures err { OnErr result (into.new.items ≡ into.old.items) }
+{
+    append_pieces(
+        &[
+            Piece::Word(b"var "),
+            Piece::Word(name.as_bytes()),
+            Piece::Word(b"="),
+            Piece::Word(value.as_bytes()),
+            LINE_END,
+        ],
+        into,
+    )
+}
+
+#[tactic(auto, unfolding(script_model::specs::Lines::line_words), using(std::proofs::Common::append_assoc))]
 fn print_send(iface: IfIndex, bytes: &[u8], taken: bool, into: &mut Vec<u8>) -> Result<(), NoMemory>
     ensures ok { OnOk result (into.new.items ≡ into.old.items ++ line_text (Lines.Send iface bytes.now taken)) }
     ensures err { OnErr result (into.new.items ≡ into.old.items) }
@@ -294,6 +361,20 @@ pub fn print_line(line: &TranscriptLine<'_>, into: &mut Vec<u8>) -> Result<(), N
             event,
             bytes,
         } => print_turn(at, salt, event, bytes, into),
+        Line::HookPolled { number, answer } => print_polled(number, answer, into),
+        Line::HookAbandoned(number) => print_number(b"hook abandon ", number, into),
+        Line::HookDropped {
+            number,
+            reason,
+            name,
+        } => print_job(b"hook drop ", number, reason, name, LINE_END, into),
+        Line::HookStarted {
+            number,
+            reason,
+            name,
+            done,
+        } => print_job(b"hook start ", number, reason, name, outcome(done), into),
+        Line::Variable { name, value } => print_variable(name, value, into),
         Line::Send {
             iface,
             bytes,

@@ -3,7 +3,7 @@ use net_types::{IfIndex, Ip6, Net, Net6, NoMemory};
 use std::alloc::Global;
 use std::str;
 use std::test::Fail;
-use world::{Event, HostRow, Via};
+use world::{Event, HostRow, Poll, Reason, Via};
 
 const ONE: IfIndex = IfIndex { number: 1 };
 
@@ -45,6 +45,7 @@ fn prints_what_examples_do_not_show(rt: HostRuntime) -> Result<(), Fail> {
         event,
         bytes: b"".as_slice(),
     };
+    let polled = |answer| TranscriptLine::HookPolled { number: 7, answer };
     let lines = [
         TranscriptLine::Notice {
             line: 12,
@@ -90,6 +91,25 @@ fn prints_what_examples_do_not_show(rt: HostRuntime) -> Result<(), Fail> {
         turn(Event::Release { iface: 1 }),
         turn(Event::Rebind { iface: 1 }),
         turn(Event::Stop),
+        polled(Some(Poll::Running)),
+        polled(Some(Poll::Ended(255))),
+        polled(None),
+        TranscriptLine::HookAbandoned(7),
+        TranscriptLine::HookDropped {
+            number: 8,
+            reason: Reason::NoCarrier,
+            name: "eth0",
+        },
+        TranscriptLine::HookStarted {
+            number: 9,
+            reason: Reason::Bound6,
+            name: "eth0",
+            done: false,
+        },
+        TranscriptLine::Variable {
+            name: "new_domain_name",
+            value: "a=b c",
+        },
         TranscriptLine::HostListFailed,
         TranscriptLine::HostAdd {
             row: &ROUTE,
@@ -113,6 +133,13 @@ fn prints_what_examples_do_not_show(rt: HostRuntime) -> Result<(), Fail> {
          turn 5 18446744073709551615 release 1\n\
          turn 5 18446744073709551615 rebind 1\n\
          turn 5 18446744073709551615 stop\n\
+         hook poll 7 run\n\
+         hook poll 7 ended 255\n\
+         hook poll 7 failed\n\
+         hook abandon 7\n\
+         hook drop 8 NOCARRIER eth0\n\
+         hook start 9 BOUND6 eth0 failed\n\
+         var new_domain_name=a=b c\n\
          host list failed\n\
          host add route 1 ::/0 via fe80::1 metric 1002 failed\n"
     );

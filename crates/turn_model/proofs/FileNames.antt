@@ -10,8 +10,8 @@ use Rattle.world.proofs.NameOrder.{unlike_name}
 use Rattle.settings.specs.declared.interfaces.Managed.{Managed}
 use Rattle.client_model.specs.ClientSettings.{runs_dhcp4}
 use Rattle.client_model.specs.ClientSettings6.{runs_dhcp6, some_need_duid}
-use Rattle.turn_model.specs.KeptFiles.{Keeps, Duid, Lease4, Lease6}
-use Rattle.turn_model.specs.Loading.{duid_file, lease4_file, lease6_file}
+use Rattle.turn_model.specs.KeptFiles.{Keeps, Duid, Lease4, Lease6, Resolver}
+use Rattle.turn_model.specs.Loading.{duid_file, resolver_file, lease4_file, lease6_file}
 use Rattle.turn_model.specs.FilesInLife.{AreNamedApart, Filed, filed_if, filed_for, filed_by}
 
 -- a name is neither another nor its aside
@@ -83,6 +83,10 @@ duid_ends : EndsIn 100 duid_file
 unfolding last_of
 duid_ends = record { last = refl; other = λ e. absurd (omega (arith, e)) }
 
+resolver_ends : EndsIn 102 resolver_file
+unfolding last_of
+resolver_ends = record { last = refl; other = λ e. absurd (omega (arith, e)) }
+
 ends4 : (m : Managed) → EndsIn 52 (lease4_file m)
 unfolding last_of
 ends4 m = record { last = last_is 0 (name_text m.spec.name) 46 (codes "lease4"); other = λ e. absurd (omega (arith, e)) }
@@ -117,6 +121,22 @@ duid_four duid m =
 duid_six : (duid : List ℕ) (m : Managed) → Apart (filed (Duid duid) duid_file) (filed6 m)
 duid_six duid m =
     apart 100 54 (filed (Duid duid) duid_file) (filed6 m) duid_ends (ends6 m) (ends_differ 100 54 duid_file (lease6_file m) duid_ends (ends6 m) (λ e. absurd (omega (arith, e))))
+
+abbrev filed_resolver : Filed
+filed_resolver = filed Resolver resolver_file
+
+resolver_four : (m : Managed) → Apart filed_resolver (filed4 m)
+resolver_four m =
+    apart 102 52 filed_resolver (filed4 m) resolver_ends (ends4 m) (ends_differ 102 52 resolver_file (lease4_file m) resolver_ends (ends4 m) (λ e. absurd (omega (arith, e))))
+
+resolver_six : (m : Managed) → Apart filed_resolver (filed6 m)
+resolver_six m =
+    apart 102 54 filed_resolver (filed6 m) resolver_ends (ends6 m) (ends_differ 102 54 resolver_file (lease6_file m) resolver_ends (ends6 m) (λ e. absurd (omega (arith, e))))
+
+duid_resolver : (duid : List ℕ) → Apart (filed (Duid duid) duid_file) filed_resolver
+duid_resolver duid =
+    apart 100 102 (filed (Duid duid) duid_file) filed_resolver duid_ends resolver_ends
+    (ends_differ 100 102 duid_file resolver_file duid_ends resolver_ends (λ e. absurd (omega (arith, e))))
 
 -- ---- all of them
 
@@ -164,11 +184,28 @@ any_of : (managed : List Managed) → AllByRecursion (λ (m : Managed). Unit {0}
 any_of [] = tt
 any_of (m ∷ managed) = (tt, any_of managed)
 
-with_duid : (is_kept : Bool) (duid : List ℕ) (managed : List Managed) → AreApart (flat_map filed_for managed)
-    → AreApart (filed_if is_kept (Duid duid) duid_file ++ flat_map filed_for managed)
+-- one file more, behind the others
+from_last : (one last : Filed) (files : List Filed) → AllByRecursion (Apart one) files → Apart one last → AllByRecursion (Apart one) (files ++ last ∷ [])
+from_last one last [] those here = (here, tt)
+from_last one last (file ∷ files) those here = (those.0, from_last one last files those.1 here)
+
+with_last : (last : Filed) (files : List Filed) → AllByRecursion (Apart last) files → AreApart files → AreApart (files ++ last ∷ [])
+with_last last [] those are = (tt, tt)
+with_last last (file ∷ files) those are =
+    (from_last file last files are.0 (record { one = those.0.two; two = those.0.one }), with_last last files those.1 are.1)
+
+with_resolver : (managed : List Managed) → AreApart (flat_map filed_for managed) → AreApart (flat_map filed_for managed ++ filed_if true Resolver resolver_file)
+with_resolver managed are =
+    with_last filed_resolver (flat_map filed_for managed)
+    (from_all filed_resolver (λ m. Unit {0}) (λ m other. resolver_four m) (λ m other. resolver_six m) managed (any_of managed)) are
+
+with_duid : (is_kept : Bool) (duid : List ℕ) (managed : List Managed) → AreApart (flat_map filed_for managed ++ filed_if true Resolver resolver_file)
+    → AreApart (filed_if is_kept (Duid duid) duid_file ++ (flat_map filed_for managed ++ filed_if true Resolver resolver_file))
 with_duid true duid managed are =
-    (from_all (filed (Duid duid) duid_file) (λ m. Unit {0}) (λ m other. duid_four duid m) (λ m other. duid_six duid m) managed (any_of managed), are)
+    let one : Filed = filed (Duid duid) duid_file in
+    let leases = from_all one (λ m. Unit {0}) (λ m other. duid_four duid m) (λ m other. duid_six duid m) managed (any_of managed) in
+    (from_last one filed_resolver (flat_map filed_for managed) leases (duid_resolver duid), are)
 with_duid false duid managed are = are
 
 pub are_apart : (duid : List ℕ) (managed : List Managed) → AreNamedApart managed → AreApart (filed_by duid managed)
-are_apart duid managed h = with_duid (some_need_duid managed) duid managed (leases_apart managed h)
+are_apart duid managed h = with_duid (some_need_duid managed) duid managed (with_resolver managed (leases_apart managed h))

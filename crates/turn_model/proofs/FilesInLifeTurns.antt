@@ -3,23 +3,25 @@ use Rattle.std.proofs.Common.{◌≡◌, ℕ, true, List, [], ◌∷◌, ◌++�
 use Rattle.net_types.specs.declared.interface.IfSpec.{IfSpec}
 use Rattle.machine.specs.Moment.{moment_of}
 use Rattle.world.specs.declared.wakes.Begin.{Begin}
+use Rattle.world.specs.declared.wakes.Wake.{Wake}
 use Rattle.world.specs.declared.rows.HostRow.{HostRow}
 use Rattle.world.specs.FileLists.{StoreFile, file_name}
 use Rattle.world.specs.LinkCalls.{Given}
 use Rattle.world.specs.NamedLists.{InNameOrder}
 use Rattle.settings.specs.declared.interfaces.Managed.{Managed}
+use Rattle.hook_child.specs.Supervision.{Supervision}
 use Rattle.client_model.specs.Clients.{ClientStep}
-use Rattle.device_calls.specs.Calls.{Call, Read, made}
-use Rattle.device_calls.specs.Worlds.{World, Ran, run, answer_to, asked_first}
+use Rattle.device_calls.specs.Calls.{Call}
+use Rattle.device_calls.specs.Worlds.{World, Ran, run}
 use Rattle.device_calls.proofs.Programs.{ran_both}
 use Rattle.turn_model.specs.KeptFiles.{KeptFile}
 use Rattle.turn_model.specs.Loading.{FilesLoaded, duid_with, files_of}
 use Rattle.turn_model.specs.FilesInLife.{AreNamedApart, filed_by, all_done, KeepsFiles}
 use Rattle.turn_model.specs.Foretold.{told_wake, told_bytes, woken, ran_turn, ran_opening}
 use Rattle.turn_model.specs.HostInLife.{Running, running_opened, running_turned, running_after, life_run}
-use Rattle.turn_model.specs.Opening.{resolver_file, outlook_from, opening_step}
-use Rattle.turn_model.specs.Turns.{Life, Outlook, acting, outlook_of, step_of, until, turn_moment, stop_after, turn_asks}
-use Rattle.turn_model.proofs.Acting.{offered, hosted, kept, lives, ran_is, store_before, ran_clearing, ran_loading, world_read, ran_step, opening_ran}
+use Rattle.turn_model.specs.Opening.{outlook_from, opening_step}
+use Rattle.turn_model.specs.Turns.{Life, Outlook, acting, outlook_with, step_of, until, turn_moment, stop_after}
+use Rattle.turn_model.proofs.Acting.{offered, hosted, hooked, kept, lives, ran_is, store_before, ran_polling, ran_turn_step, turn_ran, store_polled, ran_clearing, ran_loading, ran_step, opening_ran}
 use Rattle.turn_model.proofs.Bringing.{files_in, done_parts}
 use Rattle.turn_model.proofs.FileNames.{are_apart, AreApart}
 use Rattle.turn_model.proofs.Keeping.{all_filed, AreKnown, Kept, are_kept}
@@ -50,15 +52,18 @@ module _ (managed : List Managed) (apart : AreNamedApart managed) where
     abbrev second : Ran (Option (List HostRow))
     second = hosted managed outlook step moment stop world
 
-    abbrev third : Ran (List KeptFile)
-    third = kept managed outlook step moment stop world
+    abbrev third : Ran Supervision
+    third = hooked managed outlook step moment stop world
 
-    store_same : files_in world ≡ files_in second.world
+    abbrev fourth : Ran (List KeptFile)
+    fourth = kept managed outlook step moment stop world
+
+    store_same : files_in world ≡ files_in third.world
     store_same = ap (λ s. s.told.files) (sym (store_before managed outlook step moment stop world))
 
-    it : Kept step.client.ifaces outlook.files (files_in second.world) third
+    it : Kept step.client.ifaces outlook.files (files_in third.world) fourth
     it =
-        are_kept step.client.ifaces outlook.files second.world
+        are_kept step.client.ifaces outlook.files third.world
         (subst AreApart (sym before.filed) (are_apart before.duid managed apart))
         (subst (InNameOrder file_name) store_same before.order)
         (subst (λ (s : List StoreFile). AreKnown s outlook.files) store_same before.known)
@@ -67,12 +72,14 @@ module _ (managed : List Managed) (apart : AreNamedApart managed) where
     last = lives managed outlook step moment stop world
 
     abbrev whole : Ran Life
-    whole = ran_both first (ran_both second (ran_both third last))
+    whole = ran_both first (ran_both second (ran_both third (ran_both fourth last)))
 
-    files_done : all_done whole.calls ≡ true → all_done third.calls ≡ true
+    files_done : all_done whole.calls ≡ true → all_done fourth.calls ≡ true
     files_done e =
-        subst (λ (calls : List Call). all_done calls ≡ true) (append-nil third.calls)
-        (done_parts second.calls (third.calls ++ []) (done_parts first.calls (second.calls ++ (third.calls ++ [])) e).1).1
+        let kept_calls : List Call = fourth.calls ++ [] in
+        let later : all_done (third.calls ++ kept_calls) ≡ true =
+        (done_parts second.calls (third.calls ++ kept_calls) (done_parts first.calls (second.calls ++ (third.calls ++ kept_calls)) e).1).1 in
+        subst (λ (calls : List Call). all_done calls ≡ true) (append-nil fourth.calls) (done_parts third.calls kept_calls later).1
 
     acting_keeps : Keeps managed (run (acting managed outlook step moment stop) world)
     acting_keeps = subst (Keeps managed) (sym (ran_is managed outlook step moment stop world)) (record {
@@ -85,22 +92,6 @@ module _ (managed : List Managed) (apart : AreNamedApart managed) where
       };
     })
 
-  -- ---- a turn
-
-  turn_keeps : (life : Running) (given : Given) → Stands managed life.life.files (files_in life.world) → Keeps managed (ran_turn managed life.life life.world given)
-  unfolding turn_asks
-  turn_keeps life given before =
-      acting_keeps (outlook_of life.life) (step_of life.life (told_wake given) (told_bytes given)) (turn_moment life.life (told_wake given))
-      (stop_after life.life.stop (told_wake given).event (turn_moment life.life (told_wake given)))
-      (woken (until life.life) (told_wake given) (told_bytes given) life.world) before
-
-  after_stands : (turns : List Given) (life : Running) → Stands managed life.life.files (files_in life.world)
-      → Stands managed (running_after managed turns life).life.files (files_in (running_after managed turns life).world)
-  after_stands [] life before = before
-  after_stands (given ∷ coming) life before = after_stands coming (running_turned managed life given) (turn_keeps life given before).stands
-
-  -- ---- the opening
-
   -- calls before these
   more_before : (ran : Ran Life) (calls : List Call) → Keeps managed ran → Keeps managed (record ran { calls = calls ++ ran.calls })
   more_before ran calls k = record {
@@ -112,6 +103,28 @@ module _ (managed : List Managed) (apart : AreNamedApart managed) where
       kept = λ e. k.keeps.kept (done_parts calls ran.calls e).1;
     };
   }
+
+  -- ---- a turn
+
+  turn_keeps : (life : Running) (given : Given) → Stands managed life.life.files (files_in life.world) → Keeps managed (ran_turn managed life.life life.world given)
+  turn_keeps life given before =
+      let wake : Wake = told_wake given in
+      let world : World = woken (until life.life) wake (told_bytes given) life.world in
+      let polled : Ran Supervision = ran_polling managed life.life wake (told_bytes given) world in
+      let stands : Stands managed life.life.files (files_in polled.world) =
+      subst (λ (s : List StoreFile). Stands managed life.life.files s)
+      (ap (λ s. s.told.files) (sym (store_polled managed life.life wake (told_bytes given) world))) before in
+      subst (Keeps managed) (sym (turn_ran managed life.life wake (told_bytes given) world))
+      (more_before (ran_turn_step managed life.life wake (told_bytes given) world) polled.calls
+      (acting_keeps (outlook_with life.life polled.result) (step_of life.life wake (told_bytes given)) (turn_moment life.life wake)
+      (stop_after life.life.stop wake.event (turn_moment life.life wake)) polled.world stands))
+
+  after_stands : (turns : List Given) (life : Running) → Stands managed life.life.files (files_in life.world)
+      → Stands managed (running_after managed turns life).life.files (files_in (running_after managed turns life).world)
+  after_stands [] life before = before
+  after_stands (given ∷ coming) life before = after_stands coming (running_turned managed life given) (turn_keeps life given before).stands
+
+  -- ---- the opening
 
   module _ (specs : List IfSpec) (world : World) (order : InNameOrder file_name (files_in world)) where
     abbrev begin : Begin
@@ -139,15 +152,13 @@ module _ (managed : List Managed) (apart : AreNamedApart managed) where
 
     step_keeps : Keeps managed (ran_step managed specs begin world)
     step_keeps =
-        acting_keeps (outlook_from managed loaded_all.result) (opening_step managed loaded_all.result specs begin) (moment_of begin.at) None (world_read managed specs begin world) read_stands
+        acting_keeps (outlook_from managed loaded_all.result) (opening_step managed loaded_all.result specs begin) (moment_of begin.at) None loaded_all.world read_stands
 
     opening_keeps : Keeps managed (ran_opening managed specs world)
     opening_keeps =
         let last : Ran Life = ran_step managed specs begin world in
-        let call : Call = made (Read resolver_file) (answer_to (Read resolver_file) loaded_all.world) in
         subst (Keeps managed) (sym (opening_ran managed specs begin world))
-        (more_before (ran_both loaded_all (asked_first call last)) cleared.calls
-        (more_before (asked_first call last) loaded_all.calls (more_before last (call ∷ []) step_keeps)))
+        (more_before (ran_both loaded_all last) cleared.calls (more_before last loaded_all.calls step_keeps))
 
     pub opening_files : KeepsFiles managed (ran_opening managed specs world).calls (running_opened managed specs world)
     opening_files = opening_keeps.keeps

@@ -6,7 +6,7 @@ use Rattle.world.specs.FileNames.{aside_of}
 use Rattle.world.specs.LinkCalls.{Given}
 use Rattle.world.specs.NamedLists.{InNameOrder}
 use Rattle.settings.specs.declared.interfaces.Managed.{Managed}
-use Rattle.device_calls.specs.Calls.{Ask, AnswerTo, Offer, ListRows, Change, ListAsides, Read, WriteAside, SyncAside, RenameAside, RemoveFile, Settle}
+use Rattle.device_calls.specs.Calls.{Ask, AnswerTo, Offer, ListRows, Change, ListAsides, Read, WriteAside, SyncAside, RenameAside, RemoveFile, Settle, Start, Poll, Abandon, Drop}
 use Rattle.device_calls.specs.Programs.{Asks, Done, Then}
 use Rattle.device_calls.specs.Worlds.{World, Ran, run, answer_to, world_with}
 use Rattle.turn_model.specs.Turns.{Life, turn_asks, until, is_over, is_end}
@@ -35,6 +35,10 @@ asked_in_order (RenameAside name) done world order =
 asked_in_order (RemoveFile name) done world order =
     gated (InNameOrder file_name) done (drop_file name (files_in world)) (files_in world) ((dropped name (files_in world)).order order) order
 asked_in_order Settle done world order = order
+asked_in_order (Start job) done world order = order
+asked_in_order (Poll number) answer world order = order
+asked_in_order (Abandon number) answer world order = order
+asked_in_order (Drop job) answer world order = order
 
 -- a program of them
 ran_in_order : {A : Type 0} (asks : Asks A) (world : World) → InOrder world → InOrder (run asks world).world

@@ -3,6 +3,7 @@ use Rattle.std.proofs.Common.{ℕ, ◌≡◌, List, [], ◌∷◌, None, refl, s
 use Rattle.net_types.specs.declared.interface.IfSpec.{IfSpec}
 use Rattle.world.specs.LinkCalls.{Given}
 use Rattle.settings.specs.declared.interfaces.Managed.{Managed}
+use Rattle.settings.specs.ManagedRows.{SharesAreManaged}
 use Rattle.world.specs.declared.wakes.Begin.{Begin}
 use Rattle.client_model.specs.Clients.{Client, ClientStep, rows_of}
 use Rattle.machine.specs.Moment.{moment_of}
@@ -27,8 +28,8 @@ pub record Sound (managed : List Managed) (failing : List ℕ) (running : Runnin
   pub table : TrueTable managed (table_of running)
   pub fails : running.world.host.failing ≡ failing
 
-wants : (managed : List Managed) (client : Client) → managed_in client.ifaces ≡ managed → Wantable managed (rows_of client)
-wants managed client same = subst (λ (m : List Managed). Wantable m (rows_of client)) same (wantable client.ifaces)
+wants : (managed : List Managed) (client : Client) → SharesAreManaged managed → managed_in client.ifaces ≡ managed → Wantable managed (rows_of client)
+wants managed client shares same = subst (λ (m : List Managed). Wantable m (rows_of client)) same (wantable client.ifaces (subst SharesAreManaged (sym same) shares))
 
 -- ---- a table turned
 
@@ -38,22 +39,22 @@ record Turned (managed : List Managed) (failing : List ℕ) (before : Table) (af
   table : table_of after ≡ table_turned managed failing (rows_of after.life.client) before
   fails : after.world.host.failing ≡ failing
 
-turned_sound : (managed : List Managed) (failing : List ℕ) (before : Table) (after : Running) → Turned managed failing before after → TrueTable managed before → Sound managed failing after
-turned_sound managed failing before after turned true_before = record {
+turned_sound : (managed : List Managed) (shares : SharesAreManaged managed) (failing : List ℕ) (before : Table) (after : Running) → Turned managed failing before after → TrueTable managed before → Sound managed failing after
+turned_sound managed shares failing before after turned true_before = record {
   same = turned.same;
-  table = subst (λ (t : Table). TrueTable managed t) (sym turned.table) (turn_true failing managed (rows_of after.life.client) (wants managed after.life.client turned.same) before true_before);
+  table = subst (λ (t : Table). TrueTable managed t) (sym turned.table) (turn_true failing managed (rows_of after.life.client) (wants managed after.life.client shares turned.same) before true_before);
   fails = turned.fails;
 }
 
-turned_others : (managed : List Managed) (failing : List ℕ) (before : Table) (after : Running) → Turned managed failing before after → TrueTable managed before → other_rows managed after.world.host.told.rows ≡ other_rows managed before.told.rows
-turned_others managed failing before after turned true_before =
-    ap (λ (t : Table). other_rows managed t.told.rows) turned.table ∙ turn_leaves_others failing managed (rows_of after.life.client) (wants managed after.life.client turned.same) before true_before
+turned_others : (managed : List Managed) (shares : SharesAreManaged managed) (failing : List ℕ) (before : Table) (after : Running) → Turned managed failing before after → TrueTable managed before → other_rows managed after.world.host.told.rows ≡ other_rows managed before.told.rows
+turned_others managed shares failing before after turned true_before =
+    ap (λ (t : Table). other_rows managed t.told.rows) turned.table ∙ turn_leaves_others failing managed (rows_of after.life.client) (wants managed after.life.client shares turned.same) before true_before
 
-turned_holds : (managed : List Managed) (failing : List ℕ) (before : Table) (after : Running) → Turned managed failing before after → TrueTable managed before
+turned_holds : (managed : List Managed) (shares : SharesAreManaged managed) (failing : List ℕ) (before : Table) (after : Running) → Turned managed failing before after → TrueTable managed before
     → NoneFails managed failing (rows_of after.life.client) before → Holds managed (rows_of after.life.client) before.told.rows after.world.host.told.rows
-turned_holds managed failing before after turned true_before none =
+turned_holds managed shares failing before after turned true_before none =
     subst (λ (t : Table). Holds managed (rows_of after.life.client) before.told.rows t.told.rows) (sym turned.table)
-    (turn_holds failing managed (rows_of after.life.client) (wants managed after.life.client turned.same) before true_before none)
+    (turn_holds failing managed (rows_of after.life.client) (wants managed after.life.client shares turned.same) before true_before none)
 
 -- ---- by an opening, and by a turn
 
@@ -97,40 +98,40 @@ turn_here managed failing running given sound =
 
 -- ---- over a life
 
-after_sound : (managed : List Managed) (failing : List ℕ) (turns : List Given) (running : Running) → Sound managed failing running → Sound managed failing (running_after managed turns running)
-after_sound managed failing [] running sound = sound
-after_sound managed failing (given ∷ coming) running sound =
-    after_sound managed failing coming (running_turned managed running given) (turned_sound managed failing (table_of running) (running_turned managed running given) (turn_here managed failing running given sound) sound.table)
+after_sound : (managed : List Managed) (shares : SharesAreManaged managed) (failing : List ℕ) (turns : List Given) (running : Running) → Sound managed failing running → Sound managed failing (running_after managed turns running)
+after_sound managed shares failing [] running sound = sound
+after_sound managed shares failing (given ∷ coming) running sound =
+    after_sound managed shares failing coming (running_turned managed running given) (turned_sound managed shares failing (table_of running) (running_turned managed running given) (turn_here managed failing running given sound) sound.table)
 
-after_others : (managed : List Managed) (failing : List ℕ) (turns : List Given) (running : Running) → Sound managed failing running
+after_others : (managed : List Managed) (shares : SharesAreManaged managed) (failing : List ℕ) (turns : List Given) (running : Running) → Sound managed failing running
     → other_rows managed (running_after managed turns running).world.host.told.rows ≡ other_rows managed running.world.host.told.rows
-after_others managed failing [] running sound = refl
-after_others managed failing (given ∷ coming) running sound =
-    after_others managed failing coming (running_turned managed running given) (turned_sound managed failing (table_of running) (running_turned managed running given) (turn_here managed failing running given sound) sound.table)
-    ∙ turned_others managed failing (table_of running) (running_turned managed running given) (turn_here managed failing running given sound) sound.table
+after_others managed shares failing [] running sound = refl
+after_others managed shares failing (given ∷ coming) running sound =
+    after_others managed shares failing coming (running_turned managed running given) (turned_sound managed shares failing (table_of running) (running_turned managed running given) (turn_here managed failing running given sound) sound.table)
+    ∙ turned_others managed shares failing (table_of running) (running_turned managed running given) (turn_here managed failing running given sound) sound.table
 
-module _ (managed : List Managed) (specs : List IfSpec) (world : World) (s : InRowOrder world.host.told.rows) where
+module _ (managed : List Managed) (specs : List IfSpec) (world : World) (shares : SharesAreManaged managed) (s : InRowOrder world.host.told.rows) where
   first_table : TrueTable managed (unknown_table world.host.told)
   first_table = record { in_order = s; known = tt }
 
   pub opening_holds : HoldsUnlessFailed managed world.host.failing world.host.told.rows (unknown_table world.host.told) (running_opened managed specs world)
-  opening_holds none = turned_holds managed world.host.failing (unknown_table world.host.told) (running_opened managed specs world) (opening_turned managed specs world) first_table none
+  opening_holds none = turned_holds managed shares world.host.failing (unknown_table world.host.told) (running_opened managed specs world) (opening_turned managed specs world) first_table none
 
   opening_sound : Sound managed world.host.failing (running_opened managed specs world)
-  opening_sound = turned_sound managed world.host.failing (unknown_table world.host.told) (running_opened managed specs world) (opening_turned managed specs world) first_table
+  opening_sound = turned_sound managed shares world.host.failing (unknown_table world.host.told) (running_opened managed specs world) (opening_turned managed specs world) first_table
 
   pub lived_sound : (turns : List Given) → Sound managed world.host.failing (life_run managed specs world turns)
-  lived_sound turns = after_sound managed world.host.failing turns (running_opened managed specs world) opening_sound
+  lived_sound turns = after_sound managed shares world.host.failing turns (running_opened managed specs world) opening_sound
 
   pub others_in_life : (turns : List Given) → other_rows managed (life_run managed specs world turns).world.host.told.rows ≡ other_rows managed world.host.told.rows
   others_in_life turns =
-      after_others managed world.host.failing turns (running_opened managed specs world) opening_sound
-      ∙ turned_others managed world.host.failing (unknown_table world.host.told) (running_opened managed specs world) (opening_turned managed specs world) first_table
+      after_others managed shares world.host.failing turns (running_opened managed specs world) opening_sound
+      ∙ turned_others managed shares world.host.failing (unknown_table world.host.told) (running_opened managed specs world) (opening_turned managed specs world) first_table
 
   pub turn_in_life : (earlier : List Given) (given : Given)
       → HoldsUnlessFailed managed world.host.failing world.host.told.rows (table_of (life_run managed specs world earlier)) (running_turned managed (life_run managed specs world earlier) given)
   turn_in_life earlier given none =
       let before : Running = life_run managed specs world earlier in
       let sound : Sound managed world.host.failing (life_run managed specs world earlier) = lived_sound earlier in
-      let holds = turned_holds managed world.host.failing (table_of before) (running_turned managed before given) (turn_here managed world.host.failing before given sound) sound.table none in
+      let holds = turned_holds managed shares world.host.failing (table_of before) (running_turned managed before given) (turn_here managed world.host.failing before given sound) sound.table none in
       record { as_wanted = holds.as_wanted; others_stay = holds.others_stay ∙ others_in_life earlier }

@@ -1,8 +1,10 @@
 pub mod HostRuns
+pub mod Asking
 pub mod Leaving
 pub mod Loading
 pub mod Acting
 pub mod HostInLifeTurns
+pub mod HooksApart
 mod FileNames
 pub mod UnlikeNames
 mod Bringing

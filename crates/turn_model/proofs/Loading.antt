@@ -18,10 +18,10 @@ use Rattle.client_model.specs.KeptLeases.{Beginning, lease_spelled, own_lease, k
 use Rattle.client_model.specs.KeptLeases6.{lease6_spelled, own_lease6, kept6_by}
 use Rattle.client_model.proofs.KeptTexts.{is_reading}
 use Rattle.client_model.proofs.KeptTexts6.{is_reading6}
-use Rattle.device_calls.specs.Calls.{Call}
-use Rattle.device_calls.specs.Programs.{Asks, Done, after, Makes}
+use Rattle.device_calls.specs.Calls.{Call, Read}
+use Rattle.device_calls.specs.Programs.{Asks, Done, Then, after, Makes}
 use Rattle.device_calls.proofs.Programs.{MakesBoth, makes_both}
-use Rattle.turn_model.specs.Loading.{reading_if, Loaded, loaded, loading_one, loading, FilesLoaded, files_loaded, loading_files, duid_file, lease4_file, lease6_file, duid_with, beginning_of, beginnings_of}
+use Rattle.turn_model.specs.Loading.{reading_if, Loaded, loaded, loading_one, loading, FilesLoaded, files_loaded, loading_files, duid_file, resolver_file, lease4_file, lease6_file, duid_with, beginning_of, beginnings_of}
 
 -- what was asked first, what then, and what both made
 record MadeOf {A B C : Type 0} (first : Asks A) (then_that : Asks B) (make : A → B → C) (result : C) : Type 0 where
@@ -65,9 +65,14 @@ all_are_loaded (m ∷ managed) calls all makes =
 pub files_are_loaded : (managed : List Managed) (calls : List Call) (files : FilesLoaded) → Makes (loading_files managed) calls files
     → map managed_of files.ifaces ≡ managed
 files_are_loaded managed calls files makes =
-    let made : MadeOf (reading_if (some_need_duid managed) duid_file) (loading managed) files_loaded files =
-    made_of (reading_if (some_need_duid managed) duid_file) (loading managed) files_loaded calls files makes in
-    ap (λ (f : FilesLoaded). map managed_of f.ifaces) made.is ∙ all_are_loaded managed made.later made.b made.makes_later
+    let duid_asks : Asks (Option Reading) = reading_if (some_need_duid managed) duid_file in
+    let resolver_asks : Option Reading → List Loaded → Asks FilesLoaded =
+    λ duid ifaces. Then (Read resolver_file) (λ resolver. Done (files_loaded duid ifaces resolver)) in
+    let first : MakesBoth duid_asks (λ duid. after (loading managed) (resolver_asks duid)) calls files =
+    makes_both duid_asks (λ duid. after (loading managed) (resolver_asks duid)) calls files makes in
+    let later : MakesBoth (loading managed) (resolver_asks first.between) first.later files =
+    makes_both (loading managed) (resolver_asks first.between) first.later files first.makes_later in
+    ap (λ (f : FilesLoaded). map managed_of f.ifaces) later.makes_later.result_is ∙ all_are_loaded managed later.first later.between later.makes_first
 
 -- the interfaces begin in their order
 pub beginnings_managed : (duid : List ℕ) (all : List Loaded) → map (λ (b : Beginning). b.managed) (map (beginning_of duid) all) ≡ map managed_of all

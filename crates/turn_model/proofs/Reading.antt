@@ -11,12 +11,13 @@ use Rattle.world.proofs.NameOrder.{drop_in_order}
 use Rattle.settings.specs.declared.interfaces.Managed.{Managed}
 use Rattle.client_model.specs.ClientSettings.{runs_dhcp4}
 use Rattle.client_model.specs.ClientSettings6.{runs_dhcp6, some_need_duid}
-use Rattle.device_calls.specs.Calls.{ListAsides, RemoveFile}
-use Rattle.device_calls.specs.Programs.{Asks, Done, after}
+use Rattle.client_model.specs.HostDuid.{host_duid}
+use Rattle.device_calls.specs.Calls.{ListAsides, Read, RemoveFile}
+use Rattle.device_calls.specs.Programs.{Asks, Done, Then, after}
 use Rattle.device_calls.specs.Worlds.{World, Ran, run, fails_store, answer_to, world_with}
 use Rattle.device_calls.proofs.Programs.{run_after, ran_both}
-use Rattle.turn_model.specs.KeptFiles.{Keeps, Duid, Lease4, Lease6, KeptFile}
-use Rattle.turn_model.specs.Loading.{duid_file, lease4_file, lease6_file, reading_if, Loaded, loaded, loading_one, loading, FilesLoaded, files_loaded, loading_files, known_by, file_with, files_by, duid_with, files_of}
+use Rattle.turn_model.specs.KeptFiles.{Keeps, Duid, Lease4, Lease6, Resolver, KeptFile}
+use Rattle.turn_model.specs.Loading.{duid_file, resolver_file, lease4_file, lease6_file, reading_if, Loaded, loaded, loading_one, loading, FilesLoaded, files_loaded, loading_files, known_by, file_with, files_by, duid_with, files_of}
 use Rattle.turn_model.specs.FilesInLife.{KnownTruly, Filed, filed_as, filed_if, filed_for, filed_by}
 use Rattle.turn_model.specs.Opening.{removing, clearing_listed, clearing}
 use Rattle.turn_model.proofs.Bringing.{files_in}
@@ -71,14 +72,14 @@ joined one others before a b between later first rest = record {
   known = all_known before a b first.known (subst (λ (s : List StoreFile). AreKnown s b) first.same rest.known);
 }
 
--- what was read first and what then make one
-both_ran : {A B C : Type 0} (first : Asks A) (then_that : Asks B) (make : A → B → C) (world : World)
-    → run (after first (λ a. after then_that (λ b. Done (make a b)))) world
+-- what was read first, and what then, lead to more
+both_ran : {A B C : Type 0} (first : Asks A) (then_that : Asks B) (more : A → B → Asks C) (world : World)
+    → run (after first (λ a. after then_that (λ b. more a b))) world
     ≡ ran_both (run first world) (ran_both (run then_that (run first world).world)
-    (run (Done (make (run first world).result (run then_that (run first world).world).result)) (run then_that (run first world).world).world))
-both_ran {A} {B} {C} first then_that make world =
-    run_after first (λ a. after then_that (λ b. Done (make a b))) world
-    ∙ ap (λ (ran : Ran C). ran_both (run first world) ran) (run_after then_that (λ b. Done (make (run first world).result b)) (run first world).world)
+    (run (more (run first world).result (run then_that (run first world).world).result) (run then_that (run first world).world).world))
+both_ran {A} {B} {C} first then_that more world =
+    run_after first (λ a. after then_that (λ b. more a b)) world
+    ∙ ap (λ (ran : Ran C). ran_both (run first world) ran) (run_after then_that (λ b. more (run first world).result b) (run first world).world)
 
 abbrev ReadFor : Managed → World → Ran Loaded → Type 0
 ReadFor m world ran = IsRead (filed_for m) (files_in world) (files_by ran.result) ran.world
@@ -91,7 +92,7 @@ iface_read m world =
     let keeps6 : Keeps = Lease6 m.spec.index.number in
     let first : Ran (Option Reading) = run ask4 world in
     let rest : Ran (Option Reading) = run ask6 first.world in
-    subst (ReadFor m world) (sym (both_ran ask4 ask6 (loaded m) world))
+    subst (ReadFor m world) (sym (both_ran ask4 ask6 (λ lease4 lease6. Done (loaded m lease4 lease6)) world))
     (joined (filed_if (runs_dhcp4 m.conf) keeps4 (lease4_file m)) (filed_if (runs_dhcp6 m.conf) keeps6 (lease6_file m)) (files_in world)
     (file_with keeps4 (lease4_file m) first.result) (file_with keeps6 (lease6_file m) rest.result) first.world rest.world
     (one_read (runs_dhcp4 m.conf) keeps4 (lease4_file m) world) (one_read (runs_dhcp6 m.conf) keeps6 (lease6_file m) first.world))
@@ -104,7 +105,7 @@ all_read [] world = record { same = refl; filed = refl; known = tt }
 all_read (m ∷ managed) world =
     let first : Ran Loaded = run (loading_one m) world in
     let rest : Ran (List Loaded) = run (loading managed) first.world in
-    subst (ReadAll (m ∷ managed) world) (sym (both_ran (loading_one m) (loading managed) (λ one more. one ∷ more) world))
+    subst (ReadAll (m ∷ managed) world) (sym (both_ran (loading_one m) (loading managed) (λ one more. Done (one ∷ more)) world))
     (joined (filed_for m) (flat_map filed_for managed) (files_in world) (files_by first.result) (flat_map files_by rest.result) first.world rest.world
     (iface_read m world) (all_read managed first.world))
 
@@ -116,8 +117,14 @@ files_read managed world =
     let ask : Asks (Option Reading) = reading_if (some_need_duid managed) duid_file in
     let first : Ran (Option Reading) = run ask world in
     let rest : Ran (List Loaded) = run (loading managed) first.world in
-    let keeps : Keeps = Duid (duid_with managed (files_loaded first.result rest.result)) in
-    subst (ReadFiles managed world) (sym (both_ran ask (loading managed) files_loaded world))
-    (joined (filed_if (some_need_duid managed) keeps duid_file) (flat_map filed_for managed) (files_in world)
-    (file_with keeps duid_file first.result) (flat_map files_by rest.result) first.world rest.world
-    (one_read (some_need_duid managed) keeps duid_file world) (all_read managed first.world))
+    let resolver : Ran (Option Reading) = run (reading_if true resolver_file) rest.world in
+    let keeps : Keeps = Duid (host_duid managed first.result) in
+    let leases : List Filed = flat_map filed_for managed in
+    let resolver_filed : List Filed = filed_if true Resolver resolver_file in
+    let resolver_kept : List KeptFile = file_with Resolver resolver_file resolver.result in
+    subst (ReadFiles managed world) (sym (both_ran ask (loading managed) (λ duid ifaces. Then (Read resolver_file) (λ reading. Done (files_loaded duid ifaces reading))) world))
+    (joined (filed_if (some_need_duid managed) keeps duid_file) (leases ++ resolver_filed) (files_in world)
+    (file_with keeps duid_file first.result) (flat_map files_by rest.result ++ resolver_kept) first.world resolver.world
+    (one_read (some_need_duid managed) keeps duid_file world)
+    (joined leases resolver_filed (files_in first.world) (flat_map files_by rest.result) resolver_kept rest.world resolver.world
+    (all_read managed first.world) (one_read true Resolver resolver_file rest.world)))

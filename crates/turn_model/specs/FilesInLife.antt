@@ -13,8 +13,8 @@ use Rattle.script_model.specs.Scripts.{Unlike}
 use Rattle.client_model.specs.ClientSettings.{runs_dhcp4}
 use Rattle.client_model.specs.ClientSettings6.{runs_dhcp6, some_need_duid}
 use Rattle.device_calls.specs.Calls.{Call, store_call}
-use Rattle.turn_model.specs.KeptFiles.{Known, Holds, Unknown, Unread, Keeps, Duid, Lease4, Lease6, KeptFile, wanted_in, is_left}
-use Rattle.turn_model.specs.Loading.{duid_file, lease4_file, lease6_file}
+use Rattle.turn_model.specs.KeptFiles.{Known, Holds, Unknown, Unread, Keeps, Duid, Lease4, Lease6, Resolver, KeptFile, wanted_in, is_left}
+use Rattle.turn_model.specs.Loading.{duid_file, lease4_file, lease6_file, resolver_file}
 use Rattle.device_calls.specs.Worlds.{World}
 use Rattle.turn_model.specs.Foretold.{ran_opening, ran_turn, foretold_life}
 use Rattle.turn_model.specs.HostInLife.{Running, running_opened, running_turned, life_run}
@@ -41,9 +41,10 @@ abbrev pub filed_for : Managed → List Filed
 filed_for m =
     filed_if (runs_dhcp4 m.conf) (Lease4 m.spec.index.number) (lease4_file m) ++ filed_if (runs_dhcp6 m.conf) (Lease6 m.spec.index.number) (lease6_file m)
 
--- the DUID, where some interface needs it, and the leases
+-- the DUID, where some interface needs it, the leases, and what the resolver is told
 abbrev pub filed_by : (duid : List ℕ) → List Managed → List Filed
-filed_by duid managed = filed_if (some_need_duid managed) (Duid duid) duid_file ++ flat_map filed_for managed
+filed_by duid managed =
+    filed_if (some_need_duid managed) (Duid duid) duid_file ++ (flat_map filed_for managed ++ filed_if true Resolver resolver_file)
 
 abbrev pub filed_as : KeptFile → Filed
 filed_as file = record { keeps = file.keeps; name = file.name }
@@ -62,7 +63,7 @@ KnownTruly Unread reads = Unit {0}
 abbrev pub wanted_of : Running → KeptFile → Option (List ℕ)
 wanted_of running file = wanted_in running.life.client.ifaces file.keeps
 
--- The file is the text of what it keeps, and there is none where no lease is kept; or it couldn't be read, and is left alone.
+-- The file is the text of what it keeps, and there is none where it keeps nothing; or it couldn't be read, and is left alone.
 abbrev pub IsAsKept : Running → KeptFile → Type 0
 IsAsKept running file =
     (reads running file ≡ wanted_of running file) ⊎ ((file.known ≡ Unread) × (is_left file.keeps (wanted_of running file) ≡ true))

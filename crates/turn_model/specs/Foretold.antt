@@ -2,6 +2,7 @@
 use Rattle.std.specs.Prelude.{ℕ, ◌||◌, if◌then◌else◌, List, [], ◌∷◌, take, drop, Option, Some}
 use Rattle.net_types.specs.declared.interface.IfSpec.{IfSpec}
 use Rattle.world.specs.declared.wakes.Wake.{Wake}
+use Rattle.world.specs.HookCalls.{HooksTold}
 use Rattle.world.specs.HostCalls.{HostTold}
 use Rattle.world.specs.LinkCalls.{Given, frame_len, cut_wake, waited}
 use Rattle.world.specs.StoreCalls.{StoreTold}
@@ -57,14 +58,15 @@ opening_of managed specs world =
     let ran = ran_opening managed specs world in
     record { begin = world.link.told.begin; calls = ran.calls; life = ran.result }
 
--- what a life leaves to the next one: how many frames were offered, the host and the store
+-- what a life leaves to the next one: how many frames were offered, the host, the store and the hooks
 pub record Left : Type 0 where
   pub sent : ℕ
   pub host : Told HostTold (List ℕ)
   pub store : Told StoreTold StoreFails
+  pub hooks : Told HooksTold (List ℕ)
 
 abbrev pub left_in : World → Left
-left_in world = record { sent = world.link.told.sends; host = world.host; store = world.store }
+left_in world = record { sent = world.link.told.sends; host = world.host; store = world.store; hooks = world.hooks }
 
 -- a life that devices foretell
 pub record ForetoldLife : Type 0 where

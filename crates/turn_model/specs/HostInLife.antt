@@ -4,6 +4,7 @@ use Rattle.net_types.specs.declared.interface.IfSpec.{IfSpec}
 use Rattle.world.specs.declared.rows.HostRow.{HostRow}
 use Rattle.world.specs.LinkCalls.{Given}
 use Rattle.settings.specs.declared.interfaces.Managed.{Managed}
+use Rattle.settings.specs.ManagedRows.{SharesAreManaged}
 use Rattle.client_model.specs.Clients.{rows_of}
 use Rattle.host_model.specs.HostTable.{Table, NoneFails, Holds, InRowOrder, other_rows, unknown_table}
 use Rattle.device_calls.specs.Worlds.{World}
@@ -42,16 +43,16 @@ HoldsUnlessFailed managed failing first before after =
 
 -- so after the opening, from any host,
 abbrev pub OpeningHoldsWanted : Type 0
-OpeningHoldsWanted = (managed : List Managed) (specs : List IfSpec) (world : World) → InRowOrder world.host.told.rows
+OpeningHoldsWanted = (managed : List Managed) (specs : List IfSpec) (world : World) → SharesAreManaged managed → InRowOrder world.host.told.rows
     → HoldsUnlessFailed managed world.host.failing world.host.told.rows (unknown_table world.host.told) (running_opened managed specs world)
 
 -- and after every turn
 abbrev pub TurnsHoldWanted : Type 0
-TurnsHoldWanted = (managed : List Managed) (specs : List IfSpec) (world : World) (earlier : List Given) (given : Given) → InRowOrder world.host.told.rows
+TurnsHoldWanted = (managed : List Managed) (specs : List IfSpec) (world : World) (earlier : List Given) (given : Given) → SharesAreManaged managed → InRowOrder world.host.told.rows
     → let before = life_run managed specs world earlier in
     HoldsUnlessFailed managed world.host.failing world.host.told.rows (table_of before) (running_turned managed before given)
 
 -- The rows of others stay, whatever fails.
 abbrev pub OthersStay : Type 0
-OthersStay = (managed : List Managed) (specs : List IfSpec) (world : World) (turns : List Given) → InRowOrder world.host.told.rows
+OthersStay = (managed : List Managed) (specs : List IfSpec) (world : World) (turns : List Given) → SharesAreManaged managed → InRowOrder world.host.told.rows
     → other_rows managed (life_run managed specs world turns).world.host.told.rows ≡ other_rows managed world.host.told.rows

@@ -6,6 +6,7 @@ use Rattle.lease6_text.specs.LeaseLines.{lease6_text}
 use Rattle.duid_text.specs.DuidTexts.{duid_text}
 use Rattle.client_model.specs.declared.interfaces.Iface.{Iface}
 use Rattle.client_model.specs.Clients.{kept_lease, kept_lease6}
+use Rattle.client_model.specs.ResolverParts.{resolver_wanted}
 use Rattle.device_calls.specs.Calls.{WriteAside, SyncAside, RenameAside, RemoveFile, Settle}
 use Rattle.device_calls.specs.Programs.{Asks, Done, Then, after}
 
@@ -18,11 +19,12 @@ pub data Known : Type 0 where
   -- the opening couldn't read it, and nothing was to be kept in it since
   Unread : Known
 
--- what a file keeps: the DUID of the host, or a lease of the interface of a number
+-- what a file keeps: the DUID of the host, a lease of the interface of a number, or what the resolver is told
 pub data Keeps : Type 0 where
   Duid : (bytes : List ℕ) → Keeps
   Lease4 : (iface : ℕ) → Keeps
   Lease6 : (iface : ℕ) → Keeps
+  Resolver : Keeps
 
 pub record KeptFile : Type 0 where
   pub keeps : Keeps
@@ -31,11 +33,12 @@ pub record KeptFile : Type 0 where
 
 -- ---- what a file is to hold
 
--- the text of what it keeps; where no lease is kept there is to be no file
+-- the text of what it keeps; where no lease is kept, or the resolver is told nothing, there is to be no file
 abbrev pub wanted_in : List Iface → Keeps → Option (List ℕ)
 wanted_in ifaces (Duid bytes) = Some (duid_text bytes)
 wanted_in ifaces (Lease4 iface) = option_map lease4_text (kept_lease iface ifaces)
 wanted_in ifaces (Lease6 iface) = option_map lease6_text (kept_lease6 iface ifaces)
+wanted_in ifaces Resolver = resolver_wanted ifaces
 
 abbrev pub same_content : Option (List ℕ) → Option (List ℕ) → Bool
 same_content None None = true
@@ -43,11 +46,13 @@ same_content None (Some b) = false
 same_content (Some a) None = false
 same_content (Some a) (Some b) = bytes_eq a b
 
--- A file that couldn't be read is left alone: that of a lease until one is kept, that of the DUID for good.
+-- A file that couldn't be read is left alone: that of a lease until one is kept, that of the DUID for good. That of the resolver
+-- isn't.
 abbrev pub is_left : Keeps → (wanted : Option (List ℕ)) → Bool
 is_left (Duid bytes) wanted = true
 is_left (Lease4 iface) wanted = is_none wanted
 is_left (Lease6 iface) wanted = is_none wanted
+is_left Resolver wanted = false
 
 -- whether nothing is to be done
 abbrev pub is_settled : Keeps → Known → (wanted : Option (List ℕ)) → Bool

@@ -1,8 +1,10 @@
 pub mod KeptFiles
 pub mod Loading
+pub mod Hooking
 pub mod Turns
 pub mod Opening
 pub mod Lives
 pub mod Foretold
+pub mod HooksApart
 pub mod HostInLife
 pub mod FilesInLife

@@ -11,12 +11,15 @@ use Rattle.client_model.specs.KeptLeases.{Beginning, kept_by}
 use Rattle.client_model.specs.KeptLeases6.{kept6_by}
 use Rattle.device_calls.specs.Calls.{Read}
 use Rattle.device_calls.specs.Programs.{Asks, Done, Then, after}
-use Rattle.turn_model.specs.KeptFiles.{Known, Holds, Unread, Keeps, Duid, Lease4, Lease6, KeptFile}
+use Rattle.turn_model.specs.KeptFiles.{Known, Holds, Unread, Keeps, Duid, Lease4, Lease6, Resolver, KeptFile}
 
 -- ---- the names of the files
 
 abbrev pub duid_file : List ℕ
 duid_file = codes "duid"
+
+abbrev pub resolver_file : List ℕ
+resolver_file = codes "resolv.conf"
 
 abbrev pub lease4_file : Managed → List ℕ
 lease4_file managed = name_text managed.spec.name ++ codes ".lease4"
@@ -24,7 +27,8 @@ lease4_file managed = name_text managed.spec.name ++ codes ".lease4"
 abbrev pub lease6_file : Managed → List ℕ
 lease6_file managed = name_text managed.spec.name ++ codes ".lease6"
 
--- ---- what is read: the DUID where some interface needs it, and each interface's leases where their protocols run
+-- ---- what is read: the DUID where some interface needs it, each interface's leases where their protocols run, and what the
+-- resolver is told
 
 abbrev pub reading_if : (is_kept : Bool) → (name : List ℕ) → Asks (Option Reading)
 reading_if true name = Then (Read name) (λ reading. Done (Some reading))
@@ -53,13 +57,16 @@ loading (managed ∷ others) = after (loading_one managed) (λ first. after (loa
 pub record FilesLoaded : Type 0 where
   pub duid : Option Reading
   pub ifaces : List Loaded
+  pub resolver : Reading
 
-abbrev pub files_loaded : Option Reading → List Loaded → FilesLoaded
-files_loaded duid ifaces = record { duid = duid; ifaces = ifaces }
+abbrev pub files_loaded : Option Reading → List Loaded → (resolver : Reading) → FilesLoaded
+files_loaded duid ifaces resolver = record { duid = duid; ifaces = ifaces; resolver = resolver }
 
 abbrev pub loading_files : List Managed → Asks FilesLoaded
 loading_files managed =
-    after (reading_if (some_need_duid managed) duid_file) (λ duid. after (loading managed) (λ ifaces. Done (files_loaded duid ifaces)))
+    after (reading_if (some_need_duid managed) duid_file) (λ duid.
+    after (loading managed) (λ ifaces.
+    Then (Read resolver_file) (λ resolver. Done (files_loaded duid ifaces resolver))))
 
 -- ---- what is known then
 
@@ -81,8 +88,11 @@ files_by one =
 abbrev pub duid_with : List Managed → FilesLoaded → List ℕ
 duid_with managed files = host_duid managed files.duid
 
+-- that of the resolver is the last
 abbrev pub files_of : List Managed → FilesLoaded → List KeptFile
-files_of managed files = file_with (Duid (duid_with managed files)) duid_file files.duid ++ flat_map files_by files.ifaces
+files_of managed files =
+    file_with (Duid (duid_with managed files)) duid_file files.duid
+    ++ (flat_map files_by files.ifaces ++ file_with Resolver resolver_file (Some files.resolver))
 
 -- ---- how the interfaces begin
 

@@ -1,12 +1,13 @@
 -- The opening of a life: asides are cleared, the files read, and then what the client's opening asks, by the parts of a turn.
-use Rattle.std.specs.Prelude.{ℕ, List, [], ◌∷◌, codes, Option, Some, None}
+use Rattle.std.specs.Prelude.{ℕ, List, [], ◌∷◌, Option, Some, None}
 use Rattle.net_types.specs.declared.interface.IfSpec.{IfSpec}
 use Rattle.world.specs.declared.wakes.Begin.{Begin}
 use Rattle.settings.specs.declared.interfaces.Managed.{Managed}
 use Rattle.client_model.specs.Clients.{ClientStep, opening}
 use Rattle.machine.specs.Moment.{moment_of}
-use Rattle.device_calls.specs.Calls.{ListAsides, Read, RemoveFile, Settle}
+use Rattle.device_calls.specs.Calls.{ListAsides, RemoveFile, Settle}
 use Rattle.device_calls.specs.Programs.{Asks, Done, Then, after}
+use Rattle.hook_child.specs.Supervision.{idle}
 use Rattle.turn_model.specs.Loading.{FilesLoaded, loading_files, files_of, beginnings_of}
 use Rattle.turn_model.specs.Turns.{Life, Outlook, acting}
 
@@ -24,13 +25,9 @@ clearing_listed (Some (name ∷ names)) = removing (name ∷ names)
 abbrev pub clearing : Asks (Unit {0})
 clearing = Then ListAsides clearing_listed
 
--- the resolver's file is read too
-abbrev pub resolver_file : List ℕ
-resolver_file = codes "resolv.conf"
-
--- nothing is known of the host's rows yet
+-- nothing is known of the host's rows yet, and no job waits
 abbrev pub outlook_from : List Managed → FilesLoaded → Outlook
-outlook_from managed files = record { known = None; files = files_of managed files }
+outlook_from managed files = record { known = None; files = files_of managed files; hooks = idle }
 
 -- the client's opening: `specs` are all interfaces of the host
 abbrev pub opening_step : List Managed → FilesLoaded → List IfSpec → Begin → ClientStep
@@ -40,5 +37,4 @@ unfoldable pub opening_asks : List Managed → List IfSpec → Begin → Asks Li
 opening_asks managed specs begin =
     after clearing (λ _.
     after (loading_files managed) (λ files.
-    Then (Read resolver_file) (λ _.
-    acting managed (outlook_from managed files) (opening_step managed files specs begin) (moment_of begin.at) None)))
+    acting managed (outlook_from managed files) (opening_step managed files specs begin) (moment_of begin.at) None))

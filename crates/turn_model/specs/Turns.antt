@@ -14,6 +14,8 @@ use Rattle.host_model.specs.declared.changes.HostChange.{HostChange}
 use Rattle.host_model.specs.HostTurn.{changes, applied}
 use Rattle.device_calls.specs.Calls.{Offer, ListRows, Change}
 use Rattle.device_calls.specs.Programs.{Asks, Done, Then, after}
+use Rattle.hook_child.specs.Supervision.{Supervision}
+use Rattle.turn_model.specs.Hooking.{hooking, hooks_due, polling}
 use Rattle.turn_model.specs.KeptFiles.{KeptFile, keeping, file_retry_at}
 
 -- a life between two turns
@@ -23,6 +25,8 @@ pub record Life : Type 0 where
   pub known : Option (List HostRow)
   -- the files that it keeps
   pub files : List KeptFile
+  -- the jobs of hooks that wait, and the child that runs
+  pub hooks : Supervision
   -- the moment of the last turn, in milliseconds since 1970
   pub now : ℕ
   -- the moment of the stop, once it came
@@ -60,7 +64,8 @@ end_at (Some at) = Some (at + 5000)
 -- the moment that the next wait is asked for
 abbrev pub until : Life → Option ℕ
 until life =
-    earlier (client_due life.client.ifaces) (earlier (retry_at life.known life.now) (earlier (file_retry_at life.files life.now) (end_at life.stop)))
+    earlier (client_due life.client.ifaces) (earlier (retry_at life.known life.now) (earlier (hooks_due life.hooks life.now)
+    (earlier (file_retry_at life.files life.now) (end_at life.stop))))
 
 abbrev pub is_past : Option ℕ → ℕ → Bool
 is_past None now = false
@@ -112,18 +117,20 @@ hosting managed wanted (Some known) = changing (changes known wanted) (Some know
 
 -- ---- the turn
 
--- what is known of the outside: of the host's rows, and of the files
+-- what is known of the outside: of the host's rows, of the files, and of hooks
 pub record Outlook : Type 0 where
   pub known : Option (List HostRow)
   pub files : List KeptFile
+  pub hooks : Supervision
 
 -- what a step of the client asks, by what is known of the outside, and the life then
 abbrev pub acting : List Managed → Outlook → ClientStep → (moment : ℕ) → (stop : Option ℕ) → Asks Life
 acting managed outlook step moment stop =
     after (offering step.sends 0) (λ unsent.
     after (hosting managed (rows_of step.client) outlook.known) (λ known.
+    after (hooking moment step.jobs outlook.hooks) (λ hooks.
     after (keeping step.client.ifaces outlook.files) (λ files.
-    Done (record { client = step.client; known = known; files = files; now = moment; stop = stop; unsent = unsent }))))
+    Done (record { client = step.client; known = known; files = files; hooks = hooks; now = moment; stop = stop; unsent = unsent })))))
 
 -- the turn as the interfaces meet it
 abbrev pub input_of : Life → Wake → List ℕ → Turn
@@ -132,9 +139,10 @@ input_of life wake bytes = record { at = turn_moment life wake; salt = wake.salt
 abbrev pub step_of : Life → Wake → List ℕ → ClientStep
 step_of life wake bytes = client_turned (input_of life wake bytes) life.client
 
-abbrev pub outlook_of : Life → Outlook
-outlook_of life = record { known = life.known; files = life.files }
+abbrev pub outlook_with : Life → (hooks : Supervision) → Outlook
+outlook_with life hooks = record { known = life.known; files = life.files; hooks = hooks }
 
 unfoldable pub turn_asks : List Managed → Life → Wake → List ℕ → Asks Life
 turn_asks managed life wake bytes =
-    acting managed (outlook_of life) (step_of life wake bytes) (turn_moment life wake) (stop_after life.stop wake.event (turn_moment life wake))
+    after (polling (turn_moment life wake) life.hooks) (λ hooks.
+    acting managed (outlook_with life hooks) (step_of life wake bytes) (turn_moment life wake) (stop_after life.stop wake.event (turn_moment life wake)))

@@ -1,9 +1,11 @@
+ghost use Rattle.turn_model.specs.HooksApart.{HooksChangeNothing, WaitsByHooks};
 ghost use Rattle.turn_model.specs.FilesInLife.{LeavesFilesInOrder, OpeningKeepsFiles, TurnsKeepFiles, UnlikeAreNamedApart};
 ghost use Rattle.turn_model.specs.HostInLife.{OpeningHoldsWanted, TurnsHoldWanted, OthersStay};
 
 /// Law of a life over devices that tell what they hold and which of their calls fail, from any host and over any store: after
 /// the opening, and after every turn, in which no host call failed, whatever failed before, the host has exactly the rows that
-/// the client then wants on managed interfaces; and the rows of others are as at the beginning, whatever fails.
+/// the client then wants on managed interfaces; and the rows of others are as at the beginning, whatever fails. Each share of a
+/// delegated prefix is to be of a managed interface.
 pub fn a_life_holds_the_wanted_rows()
     ensures opening { OpeningHoldsWanted }
     ensures turns { TurnsHoldWanted }
@@ -12,8 +14,9 @@ pub fn a_life_holds_the_wanted_rows()
 
 /// Law of the files that such a life keeps, over any store whose files stand in order, where no two interfaces have one name:
 /// after the opening and after every turn, whatever fails, what is known of a file is so; and where no call that was to change
-/// files failed in it, whatever failed before, each file is the text of the DUID, or of the lease that its interface keeps. There is none
-/// where no lease is kept. A file that the opening could not read is left alone until a lease is kept in it.
+/// files failed in it, whatever failed before, each file is the text of the DUID, of the lease that its interface keeps, or of what
+/// the resolver is told. There is none where no lease is kept, or the resolver is told nothing. A file that the opening could not read
+/// is left alone until a lease is kept in it; that of the resolver isn't.
 pub fn a_life_keeps_its_files()
     ensures opening { OpeningKeepsFiles }
     ensures turns { TurnsKeepFiles }
@@ -27,4 +30,12 @@ pub fn a_life_leaves_files_in_order()
 /// Law: interfaces that are unlike, as those of a script are, have unlike names.
 pub fn unlike_interfaces_are_named_apart()
     ensures { UnlikeAreNamedApart }
+{}
+
+/// Law: hooks change nothing but their own calls: in every life what their polls answer, and which of their starts fail, leaves the
+/// frames, the host, the files and what the client is. Between two lives that are the same but for their hooks the next wait is
+/// asked another moment only where a child runs or a job waits.
+pub fn hooks_change_nothing()
+    ensures lives { HooksChangeNothing }
+    ensures waits { WaitsByHooks }
 {}

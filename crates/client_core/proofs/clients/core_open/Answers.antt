@@ -1,4 +1,4 @@
-use Rattle.std.proofs.Common.{List, ap, map, subst, sym, ◌∙◌}
+use Rattle.std.proofs.Common.{List, [], ap, map, subst, sym, ◌∙◌}
 use Rattle.machine.specs.Moment.{moment_of}
 use Rattle.net_types.specs.declared.address.Mac.{Mac}
 use Rattle.client_model.specs.Interfaces.{opened}
@@ -19,9 +19,9 @@ invariant_of-core c = record { fit = c.in_ok-ifaces.ensures.fit; brings = c.in_o
 
 pub returns-clause-steps : goal.returns-clause-steps
 returns-clause-steps c =
-    subst (λ (own : List Mac). Steps (joined own (map (opened c.args.begin.up (moment_of c.args.begin.at) c.args.begin.salt) (map beginning_of c.args.beginnings.items)))
+    subst (λ (own : List Mac). Steps (joined own [] (map (opened c.args.begin.up (moment_of c.args.begin.at) c.args.begin.salt) (map beginning_of c.args.beginnings.items)))
     (record { own = c.in_ok-own.own.items; ifaces = c.in_ok-ifaces.ifaces.items }) (asked_in c.opened_ifaces.new.outs)) c.in_ok-own.ensures
-    (joined_steps (opened c.args.begin.up (moment_of c.args.begin.at) c.args.begin.salt) (map beginning_of c.args.beginnings.items) c.in_ok-own.own.items
+    (joined_steps (opened c.args.begin.up (moment_of c.args.begin.at) c.args.begin.salt) (map beginning_of c.args.beginnings.items) c.in_ok-own.own.items []
     c.in_ok-ifaces.ifaces.items (asked_in c.new-outs.result) (asked_in c.opened_ifaces.new.outs) c.new-outs.ensures c.in_ok-ifaces.ensures.goes)
 
 pub returns-clause-on_interfaces : goal.returns-clause-on_interfaces

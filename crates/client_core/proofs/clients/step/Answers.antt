@@ -1,16 +1,18 @@
-use Rattle.std.proofs.Common.{List, sym, ap, subst}
+use Rattle.std.proofs.Common.{◌≡◌, List, [], ◌++◌, map, sym, ap, subst}
 use Rattle.std.specs.Global.{Vec}
 use Rattle.std.specs.Vec.{with_items}
 use Rattle.net_types.specs.declared.address.Mac.{Mac}
 use Rattle.client_model.specs.IfaceTurns.{Turn, iface_turned}
 use Rattle.client_model.specs.Clients.{Client}
+use Rattle.client_model.specs.Jobs.{jobs_along}
+use Rattle.world.specs.HookCalls.{Job, job_of}
 use Rattle.client_model.specs.declared.interfaces.Iface.{Iface}
 use Rattle.client_model.specs.Fitting.{AreIfaces}
 use Rattle.iface_core.specs.Inputs.{turn_of}
 use Rattle.iface_core.specs.Outcomes.{asked_in}
 use Rattle.client_core.specs.Running.{IsRunning}
 use Rattle.client_core.specs.Stepping.{GoAll}
-use Rattle.client_core.proofs.Joined.{joined_on, in_place, placed, turned_steps, untouched_in_place}
+use Rattle.client_core.proofs.Joined.{joined_on, in_place, placed, turned_steps, untouched_in_place, turned_jobs}
 use Rattle.client_core.proofs.clients.step.Goals as goal
 
 pub turn_all-requires-clause-running : goal.turn_all-requires-clause-running
@@ -49,3 +51,14 @@ returns-clause-untouched c =
     untouched_in_place c.args.core c.deref.result.now turn c.in_ok-touched.touched.items c.core.inside.ifaces c.deref_mut.result.now c.turn_all.new.ifaces
     (asked_in c.new-outs.result) (asked_in c.turn_all.new.outs) (ap (λ (client : Client). client.ifaces) c.core.view_is)
     c.in_ok-touched.ensures.goes c.deref_mut.ensures.value c.in_ok-touched.ensures.untouched
+
+pub returns-clause-jobs : goal.returns-clause-jobs
+returns-clause-jobs c =
+    let turn : Turn = turn_of c.args.turn in
+    let all : Vec Iface = c.core.inside.ifaces in
+    let before : List Job = map job_of c.new-jobs.result.items in
+    let made : List Job = map job_of c.turn_all.new.jobs.items in
+    turned_jobs c.args.core c.core.inside.own.items turn all.items made before c.core.view_is (ap (map job_of) c.new-jobs.ensures.items)
+    (subst (λ (own : List Mac). made ≡ before ++ jobs_along [] all.items (map (iface_turned own turn) all.items)) c.deref.ensures.value
+    (subst (λ (ifaces : List Iface). made ≡ before ++ jobs_along [] ifaces (map (iface_turned c.deref.result.now turn) ifaces)) c.deref_mut.ensures.value
+    c.in_ok-touched.ensures.jobs))

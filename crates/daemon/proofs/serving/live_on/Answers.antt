@@ -10,7 +10,7 @@ pub returns-clause-ok : goal.returns-clause-ok
 returns-clause-ok g c =
     serves c.args.managed.now c.args.specs.now c.in_ok-start.start (life_of c.in_ok-life.life) (g.W.Outside.seen c.args.outside.now) (g.W.Outside.seen c.begin.new.outside) (g.W.Outside.seen c.open.new.outside) c.new-text.result.items c.open.new.text.items c.deref.result.now (g.O.Sink.written c.args.out.now) (g.O.Sink.written c.write_all.new.out)
     c.in_ok-start.ensures.ok.1 c.in_ok-life.ensures.made c.new-text.ensures.items c.deref.ensures.value
-    (life_of c.in_ok-last.last) (g.W.Outside.seen c.take_turns.new.outside) (g.O.Sink.written c.take_turns.new.out) (g.O.Sink.written c.close.new.out) c.in_ok-write_all.ensures.ok.1 c.in_ok-last.ensures.ok c.in_ok-close.ensures.ok.1
+    (life_of c.in_ok-last.last) (g.W.Outside.seen c.take_turns.new.outside) (g.O.Sink.written c.take_turns.new.out) (g.O.Sink.written c.close.new.out) c.in_ok-write_all.ensures.ok.1 c.in_ok-last.ensures.ok c.in_ok-last.ensures.child c.in_ok-close.ensures.ok.1
 
 pub returns-in_err-start-clause-cut : goal.returns-in_err-start-clause-cut
 returns-in_err-start-clause-cut g c =

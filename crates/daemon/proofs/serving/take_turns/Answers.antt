@@ -11,6 +11,7 @@ pub wakes-init : goal.wakes-init
 wakes-init g c = record {
   turns = takes_none c.args.managed.now (life_of c.args.life) (g.W.Outside.seen c.args.outside.now) (g.O.Sink.written c.args.out.now);
   orderly = c.requires.orderly;
+  child = c.requires.child;
   going = c.requires.going;
   out = omega arith;
   link = omega arith;
@@ -23,9 +24,10 @@ pub wakes-preserved : goal.wakes-preserved
 wakes-preserved g c =
     let woken = rw c.in-On.is at c.in_ok-last.ensures.ok in
     record {
-      turns = takes_more c.args.managed.now (life_of c.args.life) (life_of c.wakes.life) (life_of c.in-On.next) (g.W.Outside.seen c.args.outside.now) (g.W.Outside.seen c.wakes.outside) _ (g.O.Sink.written c.args.out.now) (g.O.Sink.written c.wakes.out) _ c.wakes.counter c.wakes.invariant.turns woken.1;
+      turns = takes_more c.args.managed.now (life_of c.args.life) (life_of c.wakes.life) (life_of c.in-On.next) (g.W.Outside.seen c.args.outside.now) (g.W.Outside.seen c.wakes.outside) _ (g.O.Sink.written c.args.out.now) (g.O.Sink.written c.wakes.out) _ c.wakes.counter c.wakes.invariant.turns woken.2;
       orderly = woken.0;
-      going = woken.1.going;
+      child = woken.1;
+      going = woken.2.going;
       out = omega (arith, c.wakes.invariant.out, c.in_ok-last.ensures.later.0);
       link = omega (arith, c.wakes.invariant.link, c.in_ok-last.ensures.later.1);
       steady = λ never. c.in_ok-last.ensures.steady (c.wakes.invariant.stays ∙ never) ∙ c.wakes.invariant.steady never;
@@ -36,7 +38,12 @@ wakes-preserved g c =
 pub returns-in-Over-clause-ok : goal.returns-in-Over-clause-ok
 returns-in-Over-clause-ok g c =
     let woken = rw c.in-Over.is at c.in_ok-last.ensures.ok in
-    takes_last c.args.managed.now (life_of c.args.life) (life_of c.wakes.life) (life_of c.in-Over.last) (g.W.Outside.seen c.args.outside.now) (g.W.Outside.seen c.wakes.outside) _ (g.O.Sink.written c.args.out.now) (g.O.Sink.written c.wakes.out) _ c.wakes.counter c.wakes.invariant.turns woken
+    takes_last c.args.managed.now (life_of c.args.life) (life_of c.wakes.life) (life_of c.in-Over.last) (g.W.Outside.seen c.args.outside.now) (g.W.Outside.seen c.wakes.outside) _ (g.O.Sink.written c.args.out.now) (g.O.Sink.written c.wakes.out) _ c.wakes.counter c.wakes.invariant.turns woken.1
+
+pub returns-in-Over-clause-child : goal.returns-in-Over-clause-child
+returns-in-Over-clause-child g c =
+    let woken = rw c.in-Over.is at c.in_ok-last.ensures.ok in
+    woken.0
 
 pub returns-in_err-buf-clause-cut : goal.returns-in_err-buf-clause-cut
 returns-in_err-buf-clause-cut g c =

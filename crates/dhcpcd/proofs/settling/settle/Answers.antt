@@ -1,9 +1,10 @@
-use Rattle.std.proofs.Common.{Ok, sym, subst, ◌∙◌}
+use Rattle.std.proofs.Common.{Ok, ap, subst, ◌∙◌}
 use Rattle.conf_text.specs.Configurations.{IsConfOf}
 use Rattle.conf_text.specs.Contents.{configuration}
+use Rattle.conf_text.specs.Settings.{managed_of}
 use Rattle.daemon.proofs.Causes.{error_is}
 use Rattle.dhcpcd.specs.Refusals.{IsConfRefused, IsRefused}
-use Rattle.dhcpcd.proofs.Refusals.{refused_conf, refused_unbuilt, refused_hooks, settled}
+use Rattle.dhcpcd.proofs.Refusals.{refused_conf, settled}
 use Rattle.dhcpcd.proofs.settling.settle.Goals as goal
 
 pub returns-in_err-conf-clause-bad : goal.returns-in_err-conf-clause-bad
@@ -12,21 +13,8 @@ returns-in_err-conf-clause-bad c =
     (refused_conf c.in_err-conf.field-0.0 c.args.bytes.now c.in_ok-script.script c.in_ok-script.ensures.found
     (subst (λ text. IsConfRefused text c.in_err-conf.field-0.0) c.deref.ensures.value c.in_err-conf.ensures.bad))
 
-pub returns-in_err-managed-clause-bad : goal.returns-in_err-managed-clause-bad
-returns-in_err-managed-clause-bad c =
-    error_is c.from_residual-in_err-managed.result c.in_err-managed.field-0.0 (IsRefused c.args.bytes.now) c.from_residual-in_err-managed.ensures.1
-    (refused_unbuilt c.in_err-managed.field-0.0 c.args.bytes.now c.in_ok-script.script (configuration c.in_ok-conf.conf) c.in_ok-script.ensures.found
-    (subst (λ text. IsConfOf text (Ok (configuration c.in_ok-conf.conf))) c.deref.ensures.value c.in_ok-conf.ensures.found) c.in_err-managed.ensures.bad)
-
-pub returns-in-Some-clause-bad : goal.returns-in-Some-clause-bad
-returns-in-Some-clause-bad c =
-    subst (IsRefused c.args.bytes.now) (sym c.not_built.ensures)
-    (refused_hooks c.args.bytes.now c.in_ok-script.script (configuration c.in_ok-conf.conf) c.in-Some.line c.in_ok-script.ensures.found
-    (subst (λ text. IsConfOf text (Ok (configuration c.in_ok-conf.conf))) c.deref.ensures.value c.in_ok-conf.ensures.found) c.in_ok-managed.ensures.built
-    (sym c.unbuilt_hooks.ensures ∙ c.in-Some.is))
-
-pub returns-in-None-clause-found : goal.returns-in-None-clause-found
-returns-in-None-clause-found c =
+pub returns-clause-found : goal.returns-clause-found
+returns-clause-found c =
     settled c.args.bytes.now (record { script = c.in_ok-script.script; conf = c.in_ok-conf.conf; managed = c.in_ok-managed.managed }) c.in_ok-script.ensures.found
-    (subst (λ text. IsConfOf text (Ok (configuration c.in_ok-conf.conf))) c.deref.ensures.value c.in_ok-conf.ensures.found) c.in_ok-managed.ensures.built
-    (sym c.unbuilt_hooks.ensures ∙ c.in-None.is) c.in_ok-managed.ensures.found
+    (subst (λ text. IsConfOf text (Ok (configuration c.in_ok-conf.conf))) c.deref.ensures.value c.in_ok-conf.ensures.found)
+    (c.in_ok-managed.ensures ∙ ap (managed_of (configuration c.in_ok-conf.conf)) c.deref-2.ensures.value)

@@ -5,6 +5,7 @@ use Rattle.frame_link.specs.Frames.{frame_in}
 use Rattle.frame_link.specs.Packets.{arp_in, announcement_text}
 use Rattle.host_tables.specs.Precedence.{outranks}
 use Rattle.v6_client.specs.Runs.{carrier_turned, tick_turned}
+use Rattle.client_model.specs.ResolverParts.{resolver_wanted}
 use Rattle.turn_model.specs.Turns.{turn_asks}
 use Rattle.turn_model.specs.Opening.{opening_asks}
 use Rattle.turn_model.specs.HostInLife.{running_opened}
@@ -20,11 +21,11 @@ pub returns-clause-made : goal.returns-clause-made
 returns-clause-made c = are_made (interface ∷ []) seven_given (running_opened (interface ∷ []) (interface.spec ∷ []) devices)
 
 pub returns-clause-wanted : goal.returns-clause-wanted
-unfolding frame_in arp_in outranks turn_asks opening_asks tick_turned carrier_turned
+unfolding frame_in arp_in outranks resolver_wanted turn_asks opening_asks tick_turned carrier_turned
 returns-clause-wanted c = refl
 
 pub returns-clause-shown : goal.returns-clause-shown
-unfolding frame_in arp_in turn_asks opening_asks tick_turned carrier_turned
+unfolding frame_in arp_in resolver_wanted turn_asks opening_asks tick_turned carrier_turned
 returns-clause-shown c = refl
 
 -- each frame since the fourth turn announces the chosen address

@@ -16,7 +16,7 @@ returns c =
     let arrival : (ℕ → Arrival) = λ (at : ℕ). arrival_at at (heard_shown c.args.heard.now) in
     let out : OutContent = out_content c.in_ok-out.out in
     let is : IsStep4 (heard_step c.args.salt (arrival c.args.at) old) (brought (arrival c.args.at) old) c.heard4.new.c out =
-    subst (λ (at : ℕ). IsStep4 (heard_step c.args.salt (arrival at) old) (brought (arrival at) old) c.heard4.new.c out) (as_told c.args.at c.requires)
+    subst (λ (at : ℕ). IsStep4 (heard_step c.args.salt (arrival at) old) (brought (arrival at) old) c.heard4.new.c out) (as_told c.args.at c.requires.at)
     c.in_ok-out.ensures.step in
     on_ok_weaker c.follow.result
     (goes_dhcp4 c.args.at c.holds_lease-held.result c.args.iface.now c.follow.new.iface (heard_step c.args.salt (arrival c.args.at) old)

@@ -9,6 +9,6 @@ use Rattle.iface_core.proofs.dhcp6.hear_message6.Goals as goal
 pub returns : goal.returns
 returns c =
     on_ok_weaker c.follow.result
-    (goes_heard6 c.args.iface.now c.heard6.new.c c.args.at c.args.salt (asked_in c.args.outs.now) (asked_in c.follow.new.outs) (as_told c.args.at c.requires)
+    (goes_heard6 c.args.iface.now c.heard6.new.c c.args.at c.args.salt (asked_in c.args.outs.now) (asked_in c.follow.new.outs) (as_told c.args.at c.requires.at)
     (heard_shown c.args.heard.now) (out_content c.in_ok-out.out) c.in_ok-out.ensures.step)
     c.follow.ensures

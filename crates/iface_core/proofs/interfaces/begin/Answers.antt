@@ -3,9 +3,9 @@ use Rattle.client_model.specs.declared.interfaces.Iface.{Iface}
 use Rattle.client_model.specs.Dhcp4Steps.{arms, begin_dhcp4}
 use Rattle.client_model.specs.Dhcp6Steps.{begin_dhcp6}
 use Rattle.client_model.specs.IfaceSteps.{IfaceStep}
-use Rattle.client_model.proofs.SameInterfaces.{arms_same, begin6_same}
+use Rattle.client_model.proofs.SameInterfaces.{arms_same, begin_same, begin6_same}
 use Rattle.iface_core.specs.Outcomes.{asked_in}
-use Rattle.iface_core.proofs.Following6.{goes_about}
+use Rattle.iface_core.proofs.Following6.{fits_about, goes_about}
 use Rattle.iface_core.proofs.interfaces.begin.Goals as goal
 
 pub returns : goal.returns
@@ -17,3 +17,9 @@ returns c =
     (asked_in c.args.outs.now) (asked_in c.begin_dhcp4.new.outs) (asked_in c.begin_dhcp6.new.outs) (arms_same c.args.at first.iface)
     (begin6_same c.args.at c.args.salt armed) c.in_ok-begin_dhcp4.ensures c.arm_unless_held.ensures)
     c.begin_dhcp6.ensures
+
+pub begin_dhcp6-requires-clause-fits : goal.begin_dhcp6-requires-clause-fits
+begin_dhcp6-requires-clause-fits c =
+    let first : IfaceStep = begin_dhcp4 c.args.at c.args.salt c.args.iface.now in
+    fits_about c.args.iface.now first (arms c.args.at) c.begin_dhcp4.new.iface c.arm_unless_held.new.iface (asked_in c.args.outs.now) (asked_in c.begin_dhcp4.new.outs)
+    (begin_same c.args.at c.args.salt c.args.iface.now) (arms_same c.args.at first.iface) c.in_ok-begin_dhcp4.ensures c.arm_unless_held.ensures c.requires.fits

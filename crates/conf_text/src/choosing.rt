@@ -1,0 +1,66 @@
+//! Which interfaces are managed, and what is said of an interface.
+ghost use Rattle.std.specs.Prelude.{◌≡◌, find, map, option_map};
+ghost use Rattle.std.specs.List.{list_any};
+ghost use Rattle.std.specs.Option.{option_copied};
+ghost use Rattle.conf_text.specs.Choosing.{first_said, is_managed, is_meant, scope_for, spec_named};
+ghost use Rattle.conf_text.specs.Contents.{block_content, configuration};
+ghost use Rattle.conf_text.specs.Places.{is_named};
+
+use crate::conf::{Block, Conf};
+use crate::reader::is_named;
+use conf_directives::Pattern;
+use net_types::{IfSpec, Name};
+
+#[tactic(auto, unfolding(net_types::specs::NameText::name_text))]
+fn is_meant(name: &Name, pattern: &Pattern) -> bool
+    ensures { result ≡ is_meant name.now pattern.now }
+{
+    match pattern {
+        Pattern::Exactly(other) => is_named(name, other),
+        Pattern::Any => true,
+        Pattern::Beginning(front) => name.as_bytes().starts_with(front.as_bytes()),
+    }
+}
+
+fn is_among(name: &Name, patterns: &[Pattern]) -> bool
+    ensures { result ≡ list_any (is_meant name.now) patterns.now }
+{
+    patterns.iter().any(|pattern| is_meant(name, pattern))
+}
+
+/// Whether an interface of this name is managed.
+pub fn is_managed(conf: &Conf, name: &Name) -> bool
+    ensures { result ≡ is_managed (configuration conf.now) name.now }
+{
+    !is_among(name, &conf.denied) && (conf.allowed.is_empty() || is_among(name, &conf.allowed))
+}
+
+fn found<'a>(blocks: &'a [Block], name: &Name) -> Option<&'a Block>
+    ensures { option_copied result ≡ find (λ block. is_named name.now block.name) blocks.now }
+{
+    blocks.iter().find(|block| is_named(name, &block.name))
+}
+
+/// The blocks of an interface, where it has some.
+pub fn block_of<'a>(blocks: &'a [Block], name: &Name) -> Option<&'a Block>
+    ensures { option_map block_content (option_copied result) ≡ find (λ block. is_named name.now block.name) (map block_content blocks.now) }
+{
+    found(blocks, name)
+}
+
+/// The interface of this name.
+pub fn spec_named<'a>(ifaces: &'a [IfSpec], name: &Name) -> Option<&'a IfSpec>
+    ensures { option_copied result ≡ spec_named ifaces.now name.now }
+{
+    ifaces.iter().find(|spec| is_named(name, &spec.name))
+}
+
+/// The metric that is said of an interface: its block's, else the global one.
+pub fn metric_said(conf: &Conf, name: &Name) -> Option<u32>
+    ensures { result ≡ first_said (scope_for (configuration conf.now).blocks name.now).metric (configuration conf.now).global.metric }
+{
+    match block_of(&conf.blocks, name) {
+        Some(block) => block.scope.metric.or(conf.global.metric),
+        None => conf.global.metric,
+    }
+}

@@ -1,0 +1,7 @@
+use Rattle.device_calls.specs.Calls.{Abandon}
+use Rattle.device_calls.proofs.Doing.{does_one}
+use Rattle.daemon.proofs.Parts.{if_ok}
+use Rattle.daemon.proofs.hooks.abandon.Goals as goal
+
+pub returns-clause-does : goal.returns-clause-does
+returns-clause-does g c = if_ok c.say.result (λ x prints. does_one (Abandon c.args.number) x _ _ _ _ c.abandon.ensures.one prints) c.say.ensures
