@@ -1,0 +1,4 @@
+pub mod PortLaws
+pub mod IfaceLaws
+pub mod LiveLaws
+pub mod SpecsRead

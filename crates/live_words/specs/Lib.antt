@@ -1,0 +1,2 @@
+pub mod LiveWords
+pub mod LiveReading

@@ -1,0 +1,91 @@
+//! The words that name interfaces, read.
+ghost use Rattle.std.specs.Prelude.{◌≡◌, ◌≤◌, length, map, option_map};
+ghost use Rattle.std.specs.List.{list_all};
+ghost use Rattle.std.specs.String.{string_bytes};
+ghost use Rattle.net_types.specs.Cutting.{field_at};
+ghost use Rattle.net_types.specs.NameText.{name_at};
+ghost use Rattle.live_words.specs.LiveWords.{equals_sign};
+ghost use Rattle.live_words.specs.LiveReading.{named_at, specs_at, is_unlike, all_unlike, ifaces_at};
+
+use crate::listed::{Interfaces, MOST_INTERFACES};
+use net_types::{IfIndex, IfSpec, Mac, Name, mac_of, name_of, split_at_byte};
+
+/// The name before the first `=`, and the text after it.
+fn name_field_of(word: &[u8]) -> Option<(Name, &[u8])>
+    ensures { option_map (λ p. (p.0, p.1.now)) result ≡ field_at equals_sign name_at word.now }
+{
+    let (part, rest) = split_at_byte(word, b'=')?;
+    let name = name_of(part)?;
+    Some((name, rest))
+}
+
+/// The name and hardware address that a word spells.
+#[tactic(auto, unfolding(crate::specs::LiveReading::named_at))]
+fn named_of(word: &[u8]) -> Option<(Name, Mac)>
+    ensures { result ≡ named_at word.now }
+{
+    let (name, rest) = name_field_of(word)?;
+    let mac = mac_of(rest)?;
+    Some((name, mac))
+}
+
+/// The interfaces that the words spell, numbered from 1.
+fn specs_of(words: &[String]) -> Option<Interfaces>
+    requires { length words.now ≤ 64 }
+    ensures { result ≡ specs_at 1 (map string_bytes words.now) }
+{
+    let mut specs = Interfaces::new();
+    let mut number = 1;
+    for word in words {
+        let (name, mac) = named_of(word.as_bytes())?;
+        let index = IfIndex { number };
+        specs.push(IfSpec { index, name, mac });
+        number += 1;
+    }
+    Some(specs)
+}
+
+#[tactic(auto, unfolding(net_types::specs::NameText::name_text))]
+fn is_unlike(one: &IfSpec, other: &IfSpec) -> bool
+    ensures { result ≡ is_unlike one.now other.now }
+{
+    one.name.as_bytes() != other.name.as_bytes() && one.mac.bytes != other.mac.bytes
+}
+
+fn is_unlike_all(spec: &IfSpec, others: &[IfSpec]) -> bool
+    ensures { result ≡ list_all (is_unlike spec.now) others.now }
+{
+    others.iter().all(|other| is_unlike(spec, other))
+}
+
+/// Whether all names and all hardware addresses are unlike.
+fn all_unlike(specs: &[IfSpec]) -> bool
+    ensures { result ≡ all_unlike specs.now }
+{
+    match specs.split_first() {
+        None => true,
+        Some((spec, others)) => {
+            if is_unlike_all(spec, others) {
+                all_unlike(others)
+            } else {
+                false
+            }
+        }
+    }
+}
+
+/// The interfaces that the words spell: 1 to 64 of them, with unlike names and hardware addresses.
+#[tactic(auto, unfolding(crate::specs::LiveReading::ifaces_at))]
+pub fn ifaces_of(words: &[String]) -> Option<Interfaces>
+    ensures { result ≡ ifaces_at (map string_bytes words.now) }
+{
+    if words.is_empty() || words.len() > MOST_INTERFACES {
+        return None;
+    }
+    let specs = specs_of(words)?;
+    if all_unlike(specs.as_slice()) {
+        Some(specs)
+    } else {
+        None
+    }
+}

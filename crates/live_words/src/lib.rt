@@ -1,0 +1,13 @@
+//! The words of `live`: two ports, a folder, a script, and the interfaces.
+#![tactic(auto)]
+
+mod iface_words;
+mod listed;
+mod places;
+mod reading;
+
+pub use listed::Interfaces;
+pub use reading::live_words;
+
+#[cfg(test)]
+mod tests;

@@ -1,0 +1,89 @@
+-- In the life of interfaces that a configuration manages each variable of a job is printable.
+use Rattle.std.proofs.Common.{ℕ, List, ◌++◌, flat_map, refl, sym, subst}
+use Rattle.std.specs.List.{AllByRecursion, Contains}
+use Rattle.std.proofs.lemmas.List.Elements.{All-contains, All-from_recursion}
+use Rattle.net_types.proofs.AllLaws.{all_join, all_map}
+use Rattle.net_types.proofs.MarkLaws.{only-append}
+use Rattle.net_types.specs.declared.interface.IfSpec.{IfSpec}
+use Rattle.net_types.specs.Marks.{IsPrintable, is_printable}
+use Rattle.world.specs.HookCalls.{Job, Variable}
+use Rattle.settings.specs.Fitting.{AreManaged}
+use Rattle.settings.specs.declared.interfaces.Managed.{Managed}
+use Rattle.conf_text.proofs.ConfFits.{settings_fit}
+use Rattle.hook_env.specs.declared.situation.Stage.{Stage}
+use Rattle.hook_env.specs.declared.situation.Stage.TheVariants.{Before, Now}
+use Rattle.hook_env.specs.Stages.{prefix}
+use Rattle.turn_model.specs.Lives.{Met, OpeningMet, turns_calls}
+use Rattle.safe_texts.specs.ConfiguredTexts.{ConfiguredLivesAreLives, HasPlainVariables, IsConfiguredLife, IsPlainVariable, IsPlainlyConfigured, VariablesArePrintable}
+use Rattle.safe_texts.specs.Grammars.{Form}
+use Rattle.safe_texts.specs.ResolverLines.{HasServers}
+use Rattle.safe_texts.specs.SafeJobs.{IsSafeJob, job_in}
+use Rattle.safe_texts.specs.SafeVariables.{HELD_FORMS, IsNamed, IsSafe, JOB_FORMS, OfHeld, OfJob}
+use Rattle.safe_texts.proofs.LifeJobs.{life_jobs_are_safe}
+use Rattle.safe_texts.proofs.PlainConfigurations.{configured_texts_are_safe}
+
+-- what holds of each holds of one among them
+among_all : {A : Type 0} (P : A → Type 0) (xs : List A) (x : A) → AllByRecursion P xs → Contains xs x → P x
+among_all P xs x all among = All-contains P xs x (All-from_recursion P xs all) among
+
+-- ---- names
+
+abbrev PlainRow : List ℕ × Form → Type 0
+PlainRow row = IsPrintable row.0
+
+job_rows : AllByRecursion PlainRow JOB_FORMS
+job_rows = (refl, (refl, (refl, (refl, tt))))
+
+held_rows : AllByRecursion PlainRow HELD_FORMS
+held_rows =
+    (refl, (refl, (refl, (refl, (refl, (refl, (refl, (refl, (refl, (refl, (refl, (refl, (refl, (refl, (refl, (refl, (refl, (refl, (refl, tt)))))))))))))))))))
+
+prefix_plain : (stage : Stage) → IsPrintable (prefix stage)
+prefix_plain Before = refl
+prefix_plain Now = refl
+
+name_plain : {name : List ℕ} {form : Form} → IsNamed name form → IsPrintable name
+name_plain (OfJob word form among) = among_all PlainRow JOB_FORMS (word, form) job_rows among
+name_plain (OfHeld stage word form among) =
+    only-append is_printable (prefix stage) word (prefix_plain stage) (among_all PlainRow HELD_FORMS (word, form) held_rows among)
+
+-- ---- variables
+
+variable_plain : (variable : Variable) → IsSafe variable → IsPlainVariable variable
+variable_plain variable safe = record { name = name_plain safe.named; value = safe.printable }
+
+module _ (managed : List Managed) (plain : AllByRecursion IsPlainlyConfigured managed) where
+  job_plain : (job : Job) → IsSafeJob managed job → HasPlainVariables job
+  job_plain job safe =
+      subst (AllByRecursion IsPlainVariable) (sym safe.vars)
+      (all_join IsPlainVariable safe.made safe.holder.conf.hooks.env (all_map IsSafe IsPlainVariable variable_plain safe.made safe.safe)
+      (among_all IsPlainlyConfigured managed safe.holder plain safe.among).env)
+
+-- ---- lives
+
+module _ (text : List ℕ) (managed : List Managed) (specs : List IfSpec) (opening : OpeningMet) (mets : List Met) (life : IsConfiguredLife text managed specs opening mets) where
+  all_plain : AllByRecursion IsPlainlyConfigured managed
+  all_plain = subst (AllByRecursion IsPlainlyConfigured) (sym life.manages) (configured_texts_are_safe text life.conf life.reads specs)
+
+  all_fit : AreManaged managed
+  all_fit = subst AreManaged (sym life.manages) (settings_fit text life.conf life.reads specs life.each).fit
+
+  all_printable : AllByRecursion HasPlainVariables (flat_map job_in (opening.calls ++ turns_calls opening.life mets))
+  all_printable =
+      all_map (IsSafeJob managed) HasPlainVariables (job_plain managed all_plain) (flat_map job_in (opening.calls ++ turns_calls opening.life mets))
+      (life_jobs_are_safe managed specs opening mets all_fit life.opens life.turns)
+
+  all_servers : AllByRecursion HasServers managed
+  all_servers = all_map IsPlainlyConfigured HasServers (λ m one. one.servers) managed all_plain
+
+pub variables_are_printable : VariablesArePrintable
+variables_are_printable text managed specs opening mets life = all_printable text managed specs opening mets life
+
+pub configured_lives_are_lives : ConfiguredLivesAreLives
+configured_lives_are_lives text managed specs opening mets life octets = record {
+  fit = all_fit text managed specs opening mets life;
+  servers = all_servers text managed specs opening mets life;
+  opens = life.opens;
+  turns = life.turns;
+  octets = octets;
+}

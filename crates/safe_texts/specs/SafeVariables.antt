@@ -1,0 +1,63 @@
+-- Which variables a hook is given of an event, and what their values are made of (dhcpcd-run-hooks(8)).
+use Rattle.std.specs.Prelude.{ℕ, List, [], ◌∷◌, ◌++◌, codes}
+use Rattle.std.specs.List.{AllByRecursion, Contains}
+use Rattle.net_types.specs.Marks.{IsPrintable}
+use Rattle.net_types.specs.NameText.{FitsName}
+use Rattle.world.specs.HookCalls.{Variable}
+use Rattle.hook_env.specs.declared.situation.Stage.{Stage}
+use Rattle.hook_env.specs.Jobs.{made_variables}
+use Rattle.hook_env.specs.Situations.{SituationContent}
+use Rattle.hook_env.specs.Stages.{prefix}
+use Rattle.safe_texts.specs.Grammars.{Form, HasForm, One, Several, Word, Number, InterfaceName, DomainName, Address4, Network4, Address6, Network6}
+
+-- of the interface and the event
+abbrev pub JOB_FORMS : List (List ℕ × Form)
+JOB_FORMS =
+    (codes "interface", One InterfaceName)
+    ∷ (codes "reason", One Word)
+    ∷ (codes "ifcarrier", One Word)
+    ∷ (codes "ifmetric", One Number)
+    ∷ []
+
+-- of what was held, with `old_` before the name, and of what is held, with `new_`
+abbrev pub HELD_FORMS : List (List ℕ × Form)
+HELD_FORMS =
+    (codes "ip_address", One Address4)
+    ∷ (codes "subnet_cidr", One Number)
+    ∷ (codes "subnet_mask", One Address4)
+    ∷ (codes "broadcast_address", One Address4)
+    ∷ (codes "routers", Several Address4)
+    ∷ (codes "domain_name_servers", Several Address4)
+    ∷ (codes "domain_name", One DomainName)
+    ∷ (codes "domain_search", Several DomainName)
+    ∷ (codes "host_name", One DomainName)
+    ∷ (codes "interface_mtu", One Number)
+    ∷ (codes "ntp_servers", Several Address4)
+    ∷ (codes "classless_static_routes", Several Network4)
+    ∷ (codes "dhcp_lease_time", One Number)
+    ∷ (codes "dhcp_server_identifier", One Address4)
+    ∷ (codes "dhcp6_addresses", Several Address6)
+    ∷ (codes "dhcp6_prefixes", Several Network6)
+    ∷ (codes "dhcp6_name_servers", Several Address6)
+    ∷ (codes "dhcp6_domain_search", Several DomainName)
+    ∷ (codes "delegated_address", One Network6)
+    ∷ []
+
+-- the variable of this name has a value of this form
+pub data IsNamed : (name : List ℕ) → Form → Type 0 where
+  OfJob : (word : List ℕ) (form : Form) → Contains JOB_FORMS (word, form) → IsNamed word form
+  OfHeld : (stage : Stage) (word : List ℕ) (form : Form) → Contains HELD_FORMS (word, form) → IsNamed (prefix stage ++ word) form
+
+-- The name is one of these, and the value is of its form: it has no control character, and no byte past ASCII.
+pub record IsSafe (variable : Variable) : Type 0 where
+  pub form : Form
+  pub named : IsNamed variable.name form
+  pub formed : HasForm form variable.value
+  pub printable : IsPrintable variable.value
+
+abbrev pub AreSafe : List Variable → Type 0
+AreSafe variables = AllByRecursion IsSafe variables
+
+-- What is made of an event is so, whatever is held and whoever granted it.
+abbrev pub MadeVariablesAreSafe : Type 0
+MadeVariablesAreSafe = (situation : SituationContent) → FitsName situation.interface.name → AreSafe (made_variables situation)
