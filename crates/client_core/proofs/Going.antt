@@ -12,6 +12,7 @@ use Rattle.client_model.proofs.SameInterfaces.{turned_same}
 use Rattle.client_model.specs.Fitting.{FitsIface, AreIfaces}
 use Rattle.client_model.specs.WantedRows.{iface_rows, wanted_rows}
 use Rattle.iface_core.proofs.Staying.{turn_stays, stays_fit}
+use Rattle.client_core.specs.declared.kept.Kept.{Kept}
 use Rattle.client_core.specs.Running.{IsRunning}
 
 -- an interface after its turn
@@ -33,13 +34,13 @@ pub managed_fits : (own : List Mac) (turn : Turn) (old new : Iface) → FitsIfac
 managed_fits own turn old new fit goes = subst FitsManaged (sym (ap (λ (iface : Iface). iface.managed) goes ∙ turned_same own turn old)) fit.managed
 
 -- the rows that all want
-pub wanted_here : (ifaces : List Iface) (tables : List (List HostRow)) → IsRunning ifaces tables → wanted_of tables ≡ wanted_rows ifaces
-wanted_here ifaces tables running =
+pub wanted_here : (ifaces : List Iface) (kept : Kept) → IsRunning ifaces kept → wanted_of kept.tables ≡ wanted_rows ifaces
+wanted_here ifaces kept running =
     ap wanted_of running.brings ∙ ap unique_rows (flat_map-map (λ (rows : List HostRow). rows) iface_rows ifaces)
 
 -- ---- one of them in its place
 
-map_at : {X Y : Type 0} (f : X → Y) (xs : List X) (i : ℕ) (d : X) (e : Y) → i < length xs → get_or (map f xs) i e ≡ f (get_or xs i d)
+pub map_at : {X Y : Type 0} (f : X → Y) (xs : List X) (i : ℕ) (d : X) (e : Y) → i < length xs → get_or (map f xs) i e ≡ f (get_or xs i d)
 map_at f [] i d e lt = absurd (omega arith)
 map_at f (x ∷ xs) zero d e lt = refl
 map_at f (x ∷ xs) (suc i) d e lt = map_at f xs i d e (omega arith)

@@ -16,7 +16,7 @@ use Rattle.world.specs.HookCalls.{Job}
 use Rattle.client_model.specs.Clients.{Client, Sending, sends_of, joined, client_turned}
 use Rattle.client_model.specs.Fitting.{AreIfaces}
 use Rattle.iface_core.specs.Outcomes.{Asked}
-use Rattle.net_types.specs.declared.interface.IfIndex.{IfIndex}
+use Rattle.client_core.specs.declared.changes.Touched.{Touched}
 use Rattle.client_core.specs.Stepping.{GoAll, Steps, IsOnInterface}
 use Rattle.client_core.specs.Touched.{KeepsUntouched}
 use Rattle.client_core.proofs.Fit.{steps_on}
@@ -58,7 +58,7 @@ in_place own turn before old new asked asking all same =
     subst (λ (ys : List Iface). GoAll (iface_turned own turn) before.items ys asked asking) (sym (placed own turn before old new asked asking all same))
     (subst (λ (xs : List Iface). GoAll (iface_turned own turn) xs new asked asking) same all)
 
-pub untouched_in_place : (core : Client) (own : List Mac) (turn : Turn) (touched : List IfIndex) (before : Vec Iface) (old new : List Iface) (asked asking : Asked)
+pub untouched_in_place : (core : Client) (own : List Mac) (turn : Turn) (touched : Touched) (before : Vec Iface) (old new : List Iface) (asked asking : Asked)
     → before.items ≡ core.ifaces → GoAll (iface_turned own turn) old new asked asking → old ≡ before.items
     → KeepsUntouched touched old new → KeepsUntouched touched core.ifaces (with_items before new).items
 untouched_in_place core own turn touched before old new asked asking view all same kept =

@@ -1,11 +1,16 @@
+pub mod AtRest
 pub mod Destinations
 pub mod Fit
 pub mod Going
+pub mod HeardParts
 pub mod InPlace
 pub mod ItemRows
 pub mod JobsAlong
 pub mod Joined
 pub mod LeaseValues
 pub mod SaidFirst
+pub mod SameLists
 pub mod SameRows
+pub mod ToldLaws
+pub mod TwoEach
 pub mod Untouched

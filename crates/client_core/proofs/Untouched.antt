@@ -1,6 +1,6 @@
--- An interface that isn't touched keeps the leases that it kept, and tells the resolver what it told.
+-- An interface that isn't touched keeps the leases that it kept.
 use Rattle.std.proofs.Common.{ℕ, ◌≡◌, ◌+◌, Bool, true, false, ◌||◌, cond, List, [], ◌∷◌, ◌++◌, get_or, take, map, Option, Some, None, option_and_then, nat_eq, refl, sym, ap, subst, ◌∙◌}
-use Rattle.std.specs.Prelude.{find, flat_map}
+use Rattle.std.specs.Prelude.{find}
 use Rattle.std.specs.List.{AllByRecursion}
 use Rattle.std.proofs.lemmas.Bool.{eq-eqb, eqb-true}
 use Rattle.std.proofs.lemmas.List.{take_more}
@@ -10,14 +10,32 @@ use Rattle.net_types.proofs.CaseLaws.{split}
 use Rattle.client_model.specs.declared.interfaces.Iface.{Iface}
 use Rattle.client_model.specs.IfaceSteps.{index_of}
 use Rattle.client_model.specs.Clients.{kept_lease, kept_lease6}
-use Rattle.client_model.specs.ResolverParts.{iface_parts, some_text, resolver_wanted}
-use Rattle.resolver_text.specs.ResolverText.{resolver_text}
-use Rattle.client_core.specs.Touched.{is_touched, KeepsFiled, KeepsUntouched, noted}
+use Rattle.client_core.specs.declared.changes.Changes.{Changes}
+use Rattle.client_core.specs.declared.changes.Changes.TheVariants.{Nothing, Leases, All}
+use Rattle.client_core.specs.declared.changes.Resolver.{Resolver}
+use Rattle.client_core.specs.declared.changes.Touched.{Touched}
+use Rattle.client_core.specs.ToldParts.{all_told}
+use Rattle.client_core.specs.Touched.{is_touched, Compares, KeepsLeases, KeepsShown, KeepsUntouched, LeavesBut, may_keep, may_show, noted}
 use Rattle.client_core.proofs.InPlace.{Gone, next_of}
+use Rattle.client_core.proofs.ToldLaws.{wanted_stays}
 
--- an interface that isn't among those touched keeps its leases where it goes, and what it tells
+-- an interface that isn't among those touched keeps its leases where it goes
 abbrev pub Keeps : (Iface → Iface) → List IfIndex → Iface → Type 0
-Keeps go touched one = is_touched (index_of one) touched ≡ false → KeepsFiled one (go one)
+Keeps go touched one = is_touched (index_of one) touched ≡ false → KeepsLeases one (go one)
+
+-- ---- what the changes of an interface leave as it was
+
+pub shown_stays : (changes : Changes) (old new : Iface) → LeavesBut changes old new → may_show changes ≡ false → KeepsShown old new
+shown_stays Nothing old new leaves none = leaves.0
+shown_stays Leases old new leaves none = leaves
+shown_stays All old new leaves none = absurd cc
+
+pub leases_stay : (changes : Changes) (old new : Iface) → LeavesBut changes old new → may_keep changes ≡ false → KeepsLeases old new
+leases_stay Nothing old new leaves none = leaves.1
+leases_stay Leases old new leaves none = absurd cc
+leases_stay All old new leaves none = absurd cc
+
+-- ---- those noted
 
 first_none : (touched more : List IfIndex) (index : ℕ) → is_touched index (touched ++ more) ≡ false → is_touched index touched ≡ false
 first_none [] more index none = refl
@@ -37,15 +55,15 @@ last_one (other ∷ touched) last index same =
     (λ apart. ap (λ (b : Bool). b || is_touched index (touched ++ last ∷ [])) apart ∙ last_one touched last index same)
 
 new_keeps : (touched : List IfIndex) (is_one : Bool) (index : IfIndex) (iface new : Iface) → index.number ≡ index_of iface
-    → (is_one ≡ false → KeepsFiled iface new) → is_touched (index_of iface) (touched ++ noted is_one index) ≡ false
-    → KeepsFiled iface new
+    → (is_one ≡ false → KeepsLeases iface new) → is_touched (index_of iface) (touched ++ noted is_one index) ≡ false
+    → KeepsLeases iface new
 new_keeps touched false index iface new same kept none = kept refl
 new_keeps touched true index iface new same kept none =
     let never : true ≡ false = sym (last_one touched index (index_of iface) same) ∙ none in absurd cc
 
 pub untouched_more : (go : Iface → Iface) → ((one : Iface) → (go one).managed ≡ one.managed) → (xs ys : List Iface) (i : ℕ) (d new : Iface)
     (is_one : Bool) (touched more : List IfIndex) → Gone go xs ys i → new ≡ go (get_or ys i d) → more ≡ touched ++ noted is_one new.managed.spec.index
-    → (is_one ≡ false → KeepsFiled (get_or ys i d) new)
+    → (is_one ≡ false → KeepsLeases (get_or ys i d) new)
     → AllByRecursion (Keeps go touched) (take i xs) → AllByRecursion (Keeps go more) (take (i + 1) xs)
 untouched_more go same xs ys i d new is_one touched more gone goes adds kept all =
     let x : Iface = get_or xs i d in
@@ -54,8 +72,8 @@ untouched_more go same xs ys i d new is_one touched more gone goes adds kept all
     let index : new.managed.spec.index.number ≡ index_of x = ap (λ (one : Iface). index_of one) is ∙ ap (λ m. m.spec.index.number) (same x) in
     let longer : List IfIndex = touched ++ noted is_one new.managed.spec.index in
     let here : Keeps go longer x =
-    λ none. subst (λ (one : Iface). KeepsFiled x one) is
-    (new_keeps touched is_one new.managed.spec.index x new index (λ no. subst (λ (one : Iface). KeepsFiled one new) next (kept no)) none) in
+    λ none. subst (λ (one : Iface). KeepsLeases x one) is
+    (new_keeps touched is_one new.managed.spec.index x new index (λ no. subst (λ (one : Iface). KeepsLeases one new) next (kept no)) none) in
     subst (λ (ts : List IfIndex). AllByRecursion (Keeps go ts) (take (i + 1) xs)) (sym adds)
     (subst (λ (zs : List Iface). AllByRecursion (Keeps go longer) zs) (sym (take_more xs i d gone.at))
     (all_join (Keeps go longer) (take i xs) (x ∷ [])
@@ -103,30 +121,19 @@ module _ {X : Type 0} (of : Iface → Option X) (kept : ℕ → List Iface → O
   kept_by_one : (index : ℕ) (all : List Iface) (one : Iface) → Some one ≡ found_in index all → of one ≡ kept index all
   kept_by_one index all one found = ap (option_and_then of) found ∙ sym (kept_found index all)
 
--- ---- what the resolver is told
+-- ---- all that a turn leaves as it was
 
-parts_stay : (go : Iface → Iface) (touched : List IfIndex) (all : List Iface) → touched ≡ [] → AllByRecursion (Keeps go touched) all
-    → flat_map iface_parts (map go all) ≡ flat_map iface_parts all
-parts_stay go touched [] none keep = refl
-parts_stay go touched (one ∷ all) none keep =
-    ap (λ parts. parts ++ flat_map iface_parts (map go all)) (keep.0 (ap (is_touched (index_of one)) none)).parts
-    ∙ ap (λ parts. iface_parts one ++ parts) (parts_stay go touched all none keep.1)
-
-resolver_stays : (go : Iface → Iface) (touched : List IfIndex) (all : List Iface) → touched ≡ [] → AllByRecursion (Keeps go touched) all
-    → resolver_wanted (map go all) ≡ resolver_wanted all
-unfolding resolver_wanted
-resolver_stays go touched all none keep = ap (λ parts. some_text (resolver_text parts)) (parts_stay go touched all none keep)
-
-pub untouched_all : (go : Iface → Iface) → ((one : Iface) → (go one).managed ≡ one.managed) → (touched : List IfIndex) (all : List Iface)
-    → AllByRecursion (Keeps go touched) all → KeepsUntouched touched all (map go all)
-untouched_all go same touched all keep = record {
-  kept4 = kept_all (λ one. one.dhcp4.kept) kept_lease (λ index. refl) (λ index one others. refl) go same touched all
-      (all_map (Keeps go touched) (λ one. is_touched (index_of one) touched ≡ false → (go one).dhcp4.kept ≡ one.dhcp4.kept)
+pub untouched_all : (go : Iface → Iface) → ((one : Iface) → (go one).managed ≡ one.managed) → (touched : Touched) (all : List Iface)
+    → AllByRecursion (Keeps go touched.ifaces.items) all → Compares touched.resolver (all_told all) (all_told (map go all)) → KeepsUntouched touched all (map go all)
+untouched_all go same touched all keep tells = record {
+  kept4 = kept_all (λ one. one.dhcp4.kept) kept_lease (λ index. refl) (λ index one others. refl) go same touched.ifaces.items all
+      (all_map (Keeps go touched.ifaces.items) (λ one. is_touched (index_of one) touched.ifaces.items ≡ false → (go one).dhcp4.kept ≡ one.dhcp4.kept)
       (λ one keeps away. (keeps away).kept4) all keep);
-  kept6 = kept_all (λ one. one.dhcp6.kept) kept_lease6 (λ index. refl) (λ index one others. refl) go same touched all
-      (all_map (Keeps go touched) (λ one. is_touched (index_of one) touched ≡ false → (go one).dhcp6.kept ≡ one.dhcp6.kept)
+  kept6 = kept_all (λ one. one.dhcp6.kept) kept_lease6 (λ index. refl) (λ index one others. refl) go same touched.ifaces.items all
+      (all_map (Keeps go touched.ifaces.items) (λ one. is_touched (index_of one) touched.ifaces.items ≡ false → (go one).dhcp6.kept ≡ one.dhcp6.kept)
       (λ one keeps away. (keeps away).kept6) all keep);
-  resolver = λ none. resolver_stays go touched all none keep;
+  tells = tells;
+  resolver = λ unchanged. wanted_stays all (map go all) (subst (λ (r : Resolver). Compares r (all_told all) (all_told (map go all))) unchanged tells);
 }
 
 pub kept4_by_none : (index : ℕ) (all : List Iface) → None ≡ found_in index all → None ≡ kept_lease index all

@@ -1,11 +1,15 @@
--- Interfaces in a run, with the tables of the rows that they bring.
+-- Interfaces in a run, and what is kept of them beside them: of each place, what comes of the interface there.
 use Rattle.std.specs.Prelude.{◌≡◌, List, map}
-use Rattle.world.specs.declared.rows.HostRow.{HostRow}
+use Rattle.resolver_text.specs.Parts.{parts_content}
 use Rattle.client_model.specs.declared.interfaces.Iface.{Iface}
+use Rattle.client_model.specs.Interfaces.{iface_due}
 use Rattle.client_model.specs.Fitting.{AreIfaces}
 use Rattle.client_model.specs.WantedRows.{iface_rows}
+use Rattle.client_core.specs.declared.kept.Kept.{Kept}
+use Rattle.client_core.specs.ToldParts.{all_told}
 
--- the rows of each place are those of the interface there
-pub record IsRunning (ifaces : List Iface) (tables : List (List HostRow)) : Type 0 where
+pub record IsRunning (ifaces : List Iface) (kept : Kept) : Type 0 where
   pub fit : AreIfaces ifaces
-  pub brings : tables ≡ map iface_rows ifaces
+  pub brings : kept.tables ≡ map iface_rows ifaces
+  pub tells : parts_content kept.parts.items ≡ all_told ifaces
+  pub due : kept.dues ≡ map iface_due ifaces

@@ -20,15 +20,13 @@ ghost use Rattle.client_core.specs.Running.{IsRunning};
 ghost use Rattle.client_core.specs.Stepping.{Steps, GoAll, IsOnInterface};
 ghost use Rattle.client_core.specs.Touched.{KeepsUntouched};
 
+use crate::changes::Touched;
 use crate::hook_jobs::{iface_of, make_jobs};
-use crate::iface_tables::tables_of;
-use crate::resolver_parts::wanted_text;
+use crate::kept::Kept;
+use crate::told_parts::parts_text;
 use crate::turning::turn_all;
 use client_model::Iface;
-use host_tables::Tables;
-use iface_core::{
-    Beginning, Outs, Turn, earlier_of, iface_due, iface_kept, iface_kept6, iface_open,
-};
+use iface_core::{Beginning, Outs, Turn, iface_kept, iface_kept6, iface_open};
 use lease_text::Lease4;
 use lease6_text::Lease6;
 use machine::clamp_moment;
@@ -44,7 +42,8 @@ pub struct Core {
     alloc: Global,
     own: Vec<Mac>,
     ifaces: Vec<Iface>,
-    tables: Tables,
+    kept: Kept,
+    looks: u64,
 }
 
 impl Model for Core {
@@ -52,7 +51,7 @@ impl Model for Core {
 
     ghost view = { λ core. record { own = core.own.items; ifaces = core.ifaces.items } };
 
-    ghost invariant = { λ core. IsRunning core.ifaces.items core.tables };
+    ghost invariant = { λ core. IsRunning core.ifaces.items core.kept };
 }
 
 /// The interfaces as they are opened, one after another, and the jobs of hooks.
@@ -116,12 +115,13 @@ pub fn core_open(
     let mut outs = Outs::new(alloc);
     let mut jobs = Vec::new(alloc);
     let ifaces = opened_ifaces(alloc, beginnings, begin, &mut outs, &mut jobs)?;
-    let tables = tables_of(alloc, &ifaces)?;
+    let kept = Kept::of(alloc, &ifaces)?;
     let core = Core {
         alloc,
         own,
         ifaces,
-        tables,
+        kept,
+        looks: 0,
     };
     Ok(Opened { core, outs, jobs })
 }
@@ -134,8 +134,8 @@ pub struct Stepped {
     pub outs: Outs,
     /// The jobs of hooks, in order.
     pub jobs: Vec<HookJob>,
-    /// The interfaces that may keep another lease than before, or tell the resolver something else; all others keep what they kept.
-    pub touched: Vec<IfIndex>,
+    /// What it touched of what goes into files.
+    pub touched: Touched,
 }
 
 /// One turn: what comes of it, and what the outside is asked.
@@ -144,28 +144,30 @@ pub fn step(core: Core, turn: Turn<'_>) -> Result<Stepped, NoMemory>
     ensures steps { IfOk result (λ done. Steps (client_turned (turn_of turn.entry) core) done.core (asked_in done.outs)) }
     ensures jobs { IfOk result (λ done. map job_of done.jobs.items ≡ (client_turned (turn_of turn.entry) core).jobs) }
     ensures on_interfaces { IfOk result (λ done. AllByRecursion IsOnInterface (sends_in done.outs)) }
-    ensures untouched { IfOk result (λ done. KeepsUntouched done.touched.items core.ifaces done.core.ifaces) }
+    ensures untouched { IfOk result (λ done. KeepsUntouched done.touched core.ifaces done.core.ifaces) }
 {
     let Core {
         alloc,
         own,
         mut ifaces,
-        mut tables,
+        mut kept,
+        looks: _,
     } = core;
     let mut outs = Outs::new(alloc);
     let mut jobs = Vec::new(alloc);
-    let touched = turn_all(&mut ifaces, &mut tables, &turn, &own, &mut outs, &mut jobs)?;
+    let walk = turn_all(&mut ifaces, &mut kept, &turn, &own, &mut outs, &mut jobs)?;
     let core = Core {
         alloc,
         own,
         ifaces,
-        tables,
+        kept,
+        looks: walk.looks,
     };
     Ok(Stepped {
         core,
         outs,
         jobs,
-        touched,
+        touched: walk.touched,
     })
 }
 
@@ -174,7 +176,7 @@ pub fn rows(core: &Core) -> &BTreeSet<HostRow>
     ensures rows { result.now.keys ≡ rows_of core.now }
     ensures fit { AllByRecursion IsRow result.now.keys }
 {
-    core.tables.wanted()
+    core.kept.tables.wanted()
 }
 
 /// The DHCPv4 lease that the interface of this number keeps for its next start, held or not.
@@ -213,16 +215,17 @@ fn kept6_among(ifaces: &[Iface], index: IfIndex) -> Option<&Lease6>
 pub fn resolver_wanted(alloc: Global, core: &Core) -> Result<Option<String>, NoMemory>
     ensures { IfOk result (λ text. option_map string_bytes text ≡ resolver_wanted core.now.ifaces) }
 {
-    wanted_text(alloc, &core.ifaces)
+    parts_text(alloc, &core.kept.parts)
 }
 
 /// The next moment at which a machine is due.
 pub fn core_due(core: &Core) -> Option<u64>
     ensures { result ≡ client_due core.now.ifaces }
 {
-    let mut due = None;
-    for iface in &core.ifaces {
-        due = earlier_of(due, iface_due(iface));
-    }
-    due
+    core.kept.dues.first()
+}
+
+/// How many interfaces had a turn of their own in the last step. The others had nothing to do.
+pub fn looks(core: &Core) -> u64 {
+    core.looks
 }

@@ -1,6 +1,6 @@
-//! What the interfaces tell the resolver (resolv.conf(5)): a part for each lease, and for a static address.
+//! What an interface tells the resolver (resolv.conf(5)): a part for each lease, and for a static address.
 
-ghost use Rattle.std.specs.Prelude.{◌≡◌, ◌++◌, IfOk, OnOk, map};
+ghost use Rattle.std.specs.Prelude.{◌≡◌, IfOk, map};
 ghost use Rattle.std.specs.Option.{option_and_then, option_map};
 ghost use Rattle.std.specs.String.{string_bytes};
 ghost use Rattle.world.specs.Rows.{IsInterface};
@@ -10,19 +10,18 @@ ghost use Rattle.v4_options.specs.Numbers.{addrs_in};
 ghost use Rattle.v6_options.specs.Readers.{dns6_in, search6_in};
 ghost use Rattle.lease_text.specs.Leases.{lease_content, values_content};
 ghost use Rattle.lease6_text.specs.Leases.{lease6_content};
-ghost use Rattle.resolver_text.specs.Parts.{part_content, parts_content};
-ghost use Rattle.client_model.specs.Fitting.{AreIfaces};
+ghost use Rattle.resolver_text.specs.Parts.{part_content};
 ghost use Rattle.client_model.specs.WantedRows.{value_in};
-ghost use Rattle.client_model.specs.ResolverParts.{domain_names, first_said, has_part4, iface_parts, names4, part4_with, part6_with, part_of, parts4, parts6, read_as, resolver_parts, resolver_wanted, servers4, some_text, values_held};
+ghost use Rattle.client_model.specs.ResolverParts.{domain_names, first_said, has_part4, names4, part4_with, part6_with, part_of, read_as, servers4, values_held};
 
 use crate::iface_rows::is_in_force;
 use crate::kept_values::value_in;
 use client_model::Iface;
-use iface_core::{iface_lease, iface_lease6, metric_of};
+use iface_core::{iface_lease, metric_of};
 use lease_text::{Lease4, Value};
 use lease6_text::Lease6;
 use net_types::{Ip4, Ip6, NoMemory};
-use resolver_text::{Family, Part, Server, resolver};
+use resolver_text::{Family, Part, Server};
 use settings::{Managed, ResolverConf};
 use std::alloc::{AllocError, Global};
 use v4_options::code::{DOMAIN_NAME, DOMAIN_NAME_SERVERS, DOMAIN_SEARCH};
@@ -184,7 +183,7 @@ fn names6(alloc: Global, values: &[Value]) -> Result<Vec<String>, NoMemory>
 }
 
 /// What an interface says of servers and names.
-fn part_of(managed: &Managed, family: Family, servers: Vec<Server>, names: Vec<String>) -> Part
+pub fn part_of(managed: &Managed, family: Family, servers: Vec<Server>, names: Vec<String>) -> Part
     requires { IsInterface managed.now.spec.index.number }
     ensures { part_content result ≡ part_of managed.now family servers.items (map string_bytes names.items) }
 {
@@ -209,7 +208,11 @@ fn values_held(lease: Option<&Lease4>) -> &[Value]
 }
 
 /// The part of IPv4: what is configured goes before what the lease says (RFC 2132, RFC 3397).
-fn part4_with(alloc: Global, managed: &Managed, lease: Option<&Lease4>) -> Result<Part, NoMemory>
+pub fn part4_with(
+    alloc: Global,
+    managed: &Managed,
+    lease: Option<&Lease4>,
+) -> Result<Part, NoMemory>
     requires { IsInterface managed.now.spec.index.number }
     ensures { IfOk result (λ part. part_content part ≡ part4_with managed.now (option_map (λ lease. lease_content lease.now) lease.entry)) }
 {
@@ -221,7 +224,7 @@ fn part4_with(alloc: Global, managed: &Managed, lease: Option<&Lease4>) -> Resul
 }
 
 /// The part of a DHCPv6 lease (RFC 3646).
-fn part6_with(alloc: Global, managed: &Managed, lease: &Lease6) -> Result<Part, NoMemory>
+pub fn part6_with(alloc: Global, managed: &Managed, lease: &Lease6) -> Result<Part, NoMemory>
     requires { IsInterface managed.now.spec.index.number }
     ensures { IfOk result (λ part. part_content part ≡ part6_with managed.now (lease6_content lease.now)) }
 {
@@ -231,79 +234,8 @@ fn part6_with(alloc: Global, managed: &Managed, lease: &Lease6) -> Result<Part, 
 }
 
 /// Whether a lease is held, or a static address is in force.
-fn has_part4(iface: &Iface) -> bool
+pub fn has_part4(iface: &Iface) -> bool
     ensures { result ≡ has_part4 iface.now }
 {
     iface_lease(iface).is_some() || (is_in_force(iface) && iface.managed.conf.address.is_some())
-}
-
-/// Appends the part of IPv4, where there is one.
-fn push_part4(parts: &mut Vec<Part>, iface: &Iface) -> Result<(), NoMemory>
-    requires { IsInterface iface.now.managed.spec.index.number }
-    ensures { OnOk result (parts_content parts.new.items ≡ parts_content parts.old.items ++ parts4 iface.now) }
-{
-    if has_part4(iface) {
-        let alloc = *parts.allocator();
-        parts.push(part4_with(alloc, &iface.managed, iface_lease(iface))?)?;
-    }
-    Ok(())
-}
-
-/// Appends the part of a DHCPv6 lease, where one is held.
-fn push_part6(
-    parts: &mut Vec<Part>,
-    managed: &Managed,
-    lease: Option<&Lease6>,
-) -> Result<(), NoMemory>
-    requires { IsInterface managed.now.spec.index.number }
-    ensures { OnOk result (parts_content parts.new.items ≡ parts_content parts.old.items ++ parts6 managed.now (option_map (λ lease. lease6_content lease.now) lease.entry)) }
-{
-    let Some(lease) = lease else {
-        return Ok(());
-    };
-    let alloc = *parts.allocator();
-    parts.push(part6_with(alloc, managed, lease)?)?;
-    Ok(())
-}
-
-/// Appends the parts of an interface.
-fn push_parts(parts: &mut Vec<Part>, iface: &Iface) -> Result<(), NoMemory>
-    requires { IsInterface iface.now.managed.spec.index.number }
-    ensures { OnOk result (parts_content parts.new.items ≡ parts_content parts.old.items ++ iface_parts iface.now) }
-{
-    push_part4(parts, iface)?;
-    push_part6(parts, &iface.managed, iface_lease6(iface))
-}
-
-/// The parts of all interfaces.
-fn parts_of(alloc: Global, ifaces: &[Iface]) -> Result<Vec<Part>, NoMemory>
-    requires { AreIfaces ifaces.now }
-    ensures { IfOk result (λ parts. parts_content parts.items ≡ resolver_parts ifaces.now) }
-{
-    let mut parts = Vec::new(alloc);
-    for iface in ifaces {
-        push_parts(&mut parts, iface)?;
-    }
-    Ok(parts)
-}
-
-/// The text, where it isn't empty.
-fn some_text(text: String) -> Option<String>
-    ensures { option_map string_bytes result ≡ some_text (string_bytes text) }
-{
-    if text.is_empty() {
-        return None;
-    }
-    Some(text)
-}
-
-/// What these interfaces tell the resolver.
-#[tactic(auto, unfolding(client_model::specs::ResolverParts::resolver_wanted))]
-pub fn wanted_text(alloc: Global, ifaces: &[Iface]) -> Result<Option<String>, NoMemory>
-    requires { AreIfaces ifaces.now }
-    ensures { IfOk result (λ text. option_map string_bytes text ≡ resolver_wanted ifaces.now) }
-{
-    let parts = parts_of(alloc, ifaces)?;
-    let text = resolver(alloc, &parts)?;
-    Ok(some_text(text))
 }

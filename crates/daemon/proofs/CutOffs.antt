@@ -1,6 +1,7 @@
 -- Lives that are cut off.
-use Rattle.std.proofs.Common.{ℕ, ◌≡◌, false, List, [], ◌∷◌, ◌++◌, length, take, Option, Some, None, refl, sym, ap, subst, ◌∙◌, append_assoc, append-nil, arith}
+use Rattle.std.proofs.Common.{ℕ, ◌≡◌, ◌≤◌, ◌+◌, false, List, [], ◌∷◌, ◌++◌, length, take, Option, Some, None, refl, sym, ap, subst, ◌∙◌, append_assoc, append-nil, arith}
 use Rattle.std.specs.Prelude.{flat_map, IfSome}
+use Rattle.std.proofs.lemmas.List.{length-append}
 use Rattle.std.proofs.lemmas.List.Concat.{flat_map-append}
 use Rattle.world.specs.declared.wakes.Wake.{Wake}
 use Rattle.world.specs.LinkCalls.{Waited, frame_len}
@@ -19,7 +20,7 @@ use Rattle.daemon.specs.declared.serving.ServeEnd.TheVariants as ends
 use Rattle.daemon.specs.Waits.{WaitsThere}
 use Rattle.daemon.specs.Streams.{WritesLines, WritesSome, WritesFront}
 use Rattle.daemon.specs.Serving.{MakesTurn, AreWhole, Goes, Ends, HasServeCause}
-use Rattle.daemon.specs.Cuts.{Between, InTurn, AtEnd, cut_lines, cut_turns, turns_left, CutsAt, TellsUnlessMemory, WaitFails, BreaksOff}
+use Rattle.daemon.specs.Cuts.{Between, InTurn, AtEnd, cut_lines, cut_turns, turns_left, wakes_asked, CutsAt, TellsUnlessMemory, HandledAll, WaitFails, BreaksOff}
 use Rattle.daemon.proofs.Stretches.{turns-append, life_after-append, turns_calls-append, whole_then}
 use Rattle.daemon.proofs.Waitings.{woke}
 use Rattle.daemon.proofs.OneTurn.{turn_first, turn_tells}
@@ -73,9 +74,9 @@ tells_unless ends.NoMemory old mid new a b p q = tt
 
 -- ---- cut off between turns
 
-breaks_now : (end : ServeEnd) (managed : List Managed) (life : Life) (old new : Seen) (calls : List Call) (out : Option (List ℕ))
-    → CutsAt end life (Between (told_left managed life (world_of old))) calls → TellsUnlessMemory end old new calls → BreaksOff end managed life old new out out
-breaks_now end managed life old new calls out cuts tells = record {
+breaks_now : (end : ServeEnd) (allowed : ℕ) (managed : List Managed) (life : Life) (old new : Seen) (calls : List Call) (out : Option (List ℕ))
+    → CutsAt end life (Between (told_left managed life (world_of old))) calls → TellsUnlessMemory end old new calls → length calls ≤ allowed → HandledAll end 0 allowed → BreaksOff end allowed managed life old new out out
+breaks_now end allowed managed life old new calls out cuts tells fits all = record {
   mets = [];
   at = Between (told_left managed life (world_of old));
   calls = calls;
@@ -84,22 +85,32 @@ breaks_now end managed life old new calls out cuts tells = record {
   written = front_none out [];
   tells = tells;
   whole = left_whole managed life (world_of old);
+  within = omega (arith, fits);
+  all = all;
 }
 
-pub breaks_for_memory : (managed : List Managed) (life : Life) (old new : Seen) (out : Option (List ℕ)) → BreaksOff ends.NoMemory managed life old new out out
-breaks_for_memory managed life old new out = breaks_now ends.NoMemory managed life old new [] out tt tt
+pub breaks_for_memory : (allowed : ℕ) (managed : List Managed) (life : Life) (old new : Seen) (out : Option (List ℕ)) → BreaksOff ends.NoMemory allowed managed life old new out out
+breaks_for_memory allowed managed life old new out = breaks_now ends.NoMemory allowed managed life old new [] out tt tt (omega arith) tt
 
 -- the next wait failed, or wanted memory
 pub breaks_at_wait : (end : ServeEnd) (managed : List Managed) (life : Life) (old new : Seen) (asked : Option ℕ) (out : Option (List ℕ)) → asked ≡ until life → is_over life ≡ false
-    → WaitFails end asked old new → BreaksOff end managed life old new out out
+    → WaitFails end asked old new → BreaksOff end 1 managed life old new out out
 breaks_at_wait ends.End managed life old new asked out asked_is going fails = absurd fails
 breaks_at_wait ends.TurnsOver managed life old new asked out asked_is going fails = absurd fails
 breaks_at_wait ends.LinkFault managed life old new asked out asked_is going fails =
-    breaks_now ends.LinkFault managed life old new (Link (Waited asked None) ∷ []) out (ap (λ (a : Option ℕ). Link (Waited a None) ∷ []) asked_is, going) fails
+    breaks_now ends.LinkFault 1 managed life old new (Link (Waited asked None) ∷ []) out (ap (λ (a : Option ℕ). Link (Waited a None) ∷ []) asked_is, going) fails (omega arith) tt
 breaks_at_wait ends.WriteFault managed life old new asked out asked_is going fails = absurd fails
-breaks_at_wait ends.NoMemory managed life old new asked out asked_is going fails = breaks_for_memory managed life old new out
+breaks_at_wait ends.NoMemory managed life old new asked out asked_is going fails = breaks_for_memory 1 managed life old new out
 
 -- ---- cut off in the lines of a turn
+
+-- a device call cut the life off, and not the number of turns
+handled_other : (end : ServeEnd) (a b p q handled allowed : ℕ) → HasServeCause end a b p q → HandledAll end handled allowed
+handled_other ends.End a b p q handled allowed cause = tt
+handled_other ends.TurnsOver a b p q handled allowed cause = absurd cause
+handled_other ends.LinkFault a b p q handled allowed cause = tt
+handled_other ends.WriteFault a b p q handled allowed cause = tt
+handled_other ends.NoMemory a b p q handled allowed cause = tt
 
 cuts_in_turn : (end : ServeEnd) (a b : ℕ) (life : Life) (met : Met) (rest : List Met) → HasServeCause end a b 0 0 → CutsAt end life (InTurn met rest) (turn_calls life met)
 cuts_in_turn ends.End a b life met rest cause = absurd cause
@@ -112,7 +123,7 @@ pub breaks_in_turn : (end : ServeEnd) (managed : List Managed) (from to : Life) 
     → (made : MakesTurn managed from wake bytes to mid new text_old text) → text_old ≡ [] → written ≡ text → WritesSome out out_to written
     → is_over from ≡ false → is_end wake.event ≡ false → length buffer ≡ 2048 → bytes ≡ take (frame_len wake.event) buffer
     → WaitsThere asked old mid buffer (woke wake) → asked ≡ until from → HasServeCause end a b 0 0
-    → BreaksOff end managed from old new out out_to
+    → BreaksOff end 1 managed from old new out out_to
 breaks_in_turn end managed from to wake bytes buffer text_old text written asked old mid new out out_to a b made empty same some going more room front waits asked_is cause =
     let waits_here : WaitsThere (until from) old mid buffer (woke wake) = subst (λ (a : Option ℕ). WaitsThere a old mid buffer (woke wake)) asked_is waits in
     record {
@@ -126,14 +137,17 @@ breaks_in_turn end managed from to wake bytes buffer text_old text written asked
       whole = whole_then managed from to old new (met_with wake bytes made.calls to ∷ []) (told_left managed to (world_of new))
           (turn_first managed from to wake bytes buffer made.calls old mid new going more room front waits_here made.did)
           (left_whole managed to (world_of new));
+      within = omega arith;
+      all = handled_other end a b 0 0 0 1 cause;
     }
 
 -- ---- cut off later
 
 -- turns were taken, and then the life was cut off
-pub goes_breaks : (end : ServeEnd) (managed : List Managed) (from mid : Life) (old at_mid new : Seen) (out out_mid out_to : Option (List ℕ)) (mets : List Met)
-    → Goes managed from old out mid at_mid out_mid mets → BreaksOff end managed mid at_mid new out_mid out_to → BreaksOff end managed from old new out out_to
-goes_breaks end managed from mid old at_mid new out out_mid out_to mets p q =
+pub goes_breaks : (end : ServeEnd) (allowed then_allowed : ℕ) (managed : List Managed) (from mid : Life) (old at_mid new : Seen) (out out_mid out_to : Option (List ℕ)) (mets : List Met)
+    → length mets + then_allowed ≤ allowed → ((then_handled : ℕ) → HandledAll end then_handled then_allowed → HandledAll end (length mets + then_handled) allowed)
+    → Goes managed from old out mid at_mid out_mid mets → BreaksOff end then_allowed managed mid at_mid new out_mid out_to → BreaksOff end allowed managed from old new out out_to
+goes_breaks end allowed then_allowed managed from mid old at_mid new out out_mid out_to mets fits all p q =
     let last_is : life_after mid q.mets ≡ life_after from (mets ++ q.mets) = ap (λ (life : Life). life_after life q.mets) p.after ∙ sym (life_after-append from mets q.mets) in
     record {
       mets = mets ++ q.mets;
@@ -151,12 +165,23 @@ goes_breaks end managed from mid old at_mid new out out_mid out_to mets p q =
           (subst (λ (life : Life). TellsUnlessMemory end at_mid new (turns_calls life q.mets ++ q.calls)) p.after q.tells));
       whole = subst (λ (ms : List Met). AreWhole managed from old ms) (sym (append_assoc mets q.mets (turns_left q.at)))
           (whole_then managed from mid old at_mid mets (q.mets ++ turns_left q.at) p.foretold q.whole);
+      within = omega (arith, fits, q.within, length-append mets q.mets);
+      all = subst (λ (handled : ℕ). HandledAll end handled allowed) (sym (length-append mets q.mets)) (all (length q.mets) q.all);
     }
 
+-- more turns were allowed than were taken before a device call cut the life off
+pub goes_broken : (end : ServeEnd) (allowed then_allowed : ℕ) (managed : List Managed) (from mid : Life) (old at_mid new : Seen) (out out_mid out_to : Option (List ℕ)) (mets : List Met) (a b p q : ℕ)
+    → length mets + then_allowed ≤ allowed → HasServeCause end a b p q
+    → Goes managed from old out mid at_mid out_mid mets → BreaksOff end then_allowed managed mid at_mid new out_mid out_to → BreaksOff end allowed managed from old new out out_to
+goes_broken end allowed then_allowed managed from mid old at_mid new out out_mid out_to mets a b p q fits cause =
+    goes_breaks end allowed then_allowed managed from mid old at_mid new out out_mid out_to mets fits (λ then_handled all. handled_other end a b p q (length mets + then_handled) allowed cause)
+
 -- as many turns were taken as were allowed
-pub goes_over : (managed : List Managed) (from to : Life) (old new : Seen) (out out_to : Option (List ℕ)) (mets : List Met) → is_over to ≡ false → Goes managed from old out to new out_to mets → BreaksOff ends.TurnsOver managed from old new out out_to
-goes_over managed from to old new out out_to mets going p =
-    goes_breaks ends.TurnsOver managed from to old new new out out_to out_to mets p (breaks_now ends.TurnsOver managed to new new [] out_to (refl, going) (tells_none new))
+pub goes_over : (allowed : ℕ) (managed : List Managed) (from to : Life) (old new : Seen) (out out_to : Option (List ℕ)) (mets : List Met)
+    → length mets ≡ allowed → is_over to ≡ false → Goes managed from old out to new out_to mets → BreaksOff ends.TurnsOver allowed managed from old new out out_to
+goes_over allowed managed from to old new out out_to mets counted going p =
+    goes_breaks ends.TurnsOver allowed 0 managed from to old new new out out_to out_to mets (omega (arith, counted)) (λ then_handled all. omega (arith, counted, all)) p
+    (breaks_now ends.TurnsOver 0 managed to new new [] out_to (refl, going) (tells_none new) (omega arith) refl)
 
 -- the lines after the last turn were not all written
 cuts_at_end : (end : ServeEnd) (a b : ℕ) (life : Life) (last : List Call) → IsLast life last → HasServeCause end a b 0 0 → CutsAt end life AtEnd last
@@ -166,9 +191,9 @@ cuts_at_end ends.LinkFault a b life last is cause = absurd (omega (arith, cause.
 cuts_at_end ends.WriteFault a b life last is cause = is
 cuts_at_end ends.NoMemory a b life last is cause = tt
 
-pub breaks_at_end : (end : ServeEnd) (managed : List Managed) (from to : Life) (old new : Seen) (out out_mid out_to : Option (List ℕ)) (a b : ℕ)
-    → Ends managed from old out to new out_mid → WritesFront out_mid out_to [] (closing_lines to) → HasServeCause end a b 0 0 → BreaksOff end managed from old new out out_to
-breaks_at_end end managed from to old new out out_mid out_to a b ends front cause = record {
+pub breaks_at_end : (end : ServeEnd) (allowed : ℕ) (managed : List Managed) (from to : Life) (old new : Seen) (out out_mid out_to : Option (List ℕ)) (a b : ℕ)
+    → Ends allowed managed from old out to new out_mid → WritesFront out_mid out_to [] (closing_lines to) → HasServeCause end a b 0 0 → BreaksOff end allowed managed from old new out out_to
+breaks_at_end end allowed managed from to old new out out_mid out_to a b ends front cause = record {
   mets = ends.mets;
   at = AtEnd;
   calls = ends.last;
@@ -179,4 +204,6 @@ breaks_at_end end managed from to old new out out_mid out_to a b ends front caus
       (front_after out out_mid out_to (flat_map turn_lines ends.mets) [] (closing_lines to) ends.written front));
   tells = unless_memory end old new (turns_calls from ends.mets ++ ends.last) ends.tells;
   whole = subst (λ (ms : List Met). AreWhole managed from old ms) (sym (append-nil ends.mets)) ends.whole;
+  within = ends.within;
+  all = handled_other end a b 0 0 (length ends.mets) allowed cause;
 }

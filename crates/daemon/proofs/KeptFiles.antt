@@ -6,11 +6,13 @@ use Rattle.std.specs.Vec.{with_items}
 use Rattle.std.proofs.lemmas.Slice.Eq.{bytes_eq-Decides}
 use Rattle.std.specs.Prelude.{option_map}
 use Rattle.std.specs.List.{AllByRecursion}
-use Rattle.net_types.specs.declared.interface.IfIndex.{IfIndex}
 use Rattle.client_model.specs.declared.interfaces.Iface.{Iface}
 use Rattle.lease_text.specs.LeaseLines.{lease4_text}
 use Rattle.lease6_text.specs.LeaseLines.{lease6_text}
-use Rattle.client_core.specs.Touched.{is_touched, KeepsUntouched}
+use Rattle.client_core.specs.declared.changes.Resolver.{Resolver as Telling}
+use Rattle.client_core.specs.declared.changes.Resolver.TheVariants.{Same, Other}
+use Rattle.client_core.specs.declared.changes.Touched as client
+use Rattle.client_core.specs.Touched.{is_other, is_touched, KeepsUntouched}
 use Rattle.device_calls.specs.Calls.{Call}
 use Rattle.device_calls.specs.Programs.{Asks, Done, after, Makes}
 use Rattle.device_calls.specs.Worlds.{Seen}
@@ -20,7 +22,7 @@ use Rattle.device_calls.proofs.Doing.{does_done, does_after}
 use Rattle.turn_model.specs.KeptFiles.{Keeps, Duid, Lease4, Lease6, Resolver, KeptFile, same_content, is_settled, wanted_in, bringing, known_after, keeping_one, keeping, is_unknown}
 use Rattle.daemon.specs.declared.keeping.Touched.{Touched}
 use Rattle.daemon.specs.declared.keeping.Touched.TheVariants.{All, These}
-use Rattle.daemon.specs.Keeping.{has_some, may_differ, IsKept, AreKept, AreKeptBut}
+use Rattle.daemon.specs.Keeping.{may_differ, IsKept, AreKept, AreKeptBut}
 
 -- ---- one file
 
@@ -140,22 +142,23 @@ but_more P files i next lt all = subst (AllByRecursion P) (sym (drop-set-lt (i +
 
 -- ---- from turn to turn
 
-none_has : (touched : List IfIndex) → has_some touched ≡ false → touched ≡ []
-none_has [] none = refl
-none_has (index ∷ touched) none = absurd cc
+unchanged : (resolver : Telling) → is_other resolver ≡ false → resolver ≡ Same
+unchanged Same same = refl
+unchanged Other same = absurd cc
 
 -- what a file is to hold stays where its interface wasn't touched
-stays_wanted : (touched : List IfIndex) (these : Bor (List IfIndex)) (old new : List Iface) (keeps : Keeps) → these.now ≡ touched → KeepsUntouched touched old new
+stays_wanted : (touched : client.Touched) (these : Bor client.Touched) (old new : List Iface) (keeps : Keeps) → these.now ≡ touched → KeepsUntouched touched old new
     → may_differ keeps (These these) ≡ false → wanted_in new keeps ≡ wanted_in old keeps
 stays_wanted touched these old new (Duid bytes) is stays untouched = refl
 stays_wanted touched these old new (Lease4 iface) is stays untouched =
-    ap (option_map lease4_text) (stays.kept4 iface (ap (is_touched iface) (sym is) ∙ untouched))
+    ap (option_map lease4_text) (stays.kept4 iface (ap (λ (all : client.Touched). is_touched iface all.ifaces.items) (sym is) ∙ untouched))
 stays_wanted touched these old new (Lease6 iface) is stays untouched =
-    ap (option_map lease6_text) (stays.kept6 iface (ap (is_touched iface) (sym is) ∙ untouched))
-stays_wanted touched these old new Resolver is stays untouched = stays.resolver (none_has touched (ap has_some (sym is) ∙ untouched))
+    ap (option_map lease6_text) (stays.kept6 iface (ap (λ (all : client.Touched). is_touched iface all.ifaces.items) (sym is) ∙ untouched))
+stays_wanted touched these old new Resolver is stays untouched =
+    stays.resolver (unchanged touched.resolver (ap (λ (all : client.Touched). is_other all.resolver) (sym is) ∙ untouched))
 
 -- files stay as they are to be where their interfaces weren't touched
-pub kept_but : (touched : List IfIndex) (these : Bor (List IfIndex)) (old new : List Iface) (files : List KeptFile) → these.now ≡ touched → KeepsUntouched touched old new → AreKept old files → AreKeptBut (These these) new files
+pub kept_but : (touched : client.Touched) (these : Bor client.Touched) (old new : List Iface) (files : List KeptFile) → these.now ≡ touched → KeepsUntouched touched old new → AreKept old files → AreKeptBut (These these) new files
 kept_but touched these old new [] is keeps kept = tt
 kept_but touched these old new (file ∷ files) is keeps kept = (
   λ untouched known. ap (is_settled file.keeps file.known) (stays_wanted touched these old new file.keeps is keeps untouched) ∙ kept.0 known,

@@ -146,12 +146,13 @@ left_at managed life wake buffer asked (Some told) mid (Some failing) (Some host
 left_at managed life wake buffer asked (Some told) mid (Some failing) (Some host) (Some store) (Some hooks) end waits = left_in-last managed life wake buffer asked told mid failing host store hooks told.coming end waits
 
 pub wait_ends : (managed : List Managed) (life : Life) (wake : Wake) (buffer : List ℕ) (asked : Option ℕ) (old mid : Seen) (out : Option (List ℕ))
-    → asked ≡ until life → is_end wake.event ≡ true → WaitsThere asked old mid buffer (woke wake) → Ends managed life old out life mid out
+    → asked ≡ until life → is_end wake.event ≡ true → WaitsThere asked old mid buffer (woke wake) → Ends 1 managed life old out life mid out
 wait_ends managed life wake buffer asked old mid out asked_is end waits =
     let it : Gave asked wake old.link.told mid.link.told = gave asked wake buffer old.link.told mid.link.told waits.told in
     record {
       mets = [];
       turns = tt;
+      within = omega arith;
       after = refl;
       written = lines_none out;
       last = Link (Waited asked (Some it.given)) ∷ [];

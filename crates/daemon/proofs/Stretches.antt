@@ -1,5 +1,5 @@
 -- Stretches of turns, one after another.
-use Rattle.std.proofs.Common.{ℕ, ◌≡◌, ◌≤◌, true, List, [], ◌∷◌, ◌++◌, length, Option, Some, None, refl, sym, ap, subst, ◌∙◌, append_assoc, append-nil, arith}
+use Rattle.std.proofs.Common.{ℕ, ◌≡◌, ◌≤◌, ◌+◌, true, List, [], ◌∷◌, ◌++◌, length, Option, Some, None, refl, sym, ap, subst, ◌∙◌, append_assoc, append-nil, arith}
 use Rattle.std.specs.Prelude.{flat_map, IfSome, option_map}
 use Rattle.std.proofs.lemmas.List.{length-append}
 use Rattle.std.proofs.lemmas.List.Concat.{flat_map-append}
@@ -99,15 +99,16 @@ goes_then managed from mid to old at_mid new out out_mid out_to a b p q = record
   foretold = first_then managed from mid to (world_of old) at_mid new a b p.foretold q.foretold;
 }
 
-pub ends_then : (managed : List Managed) (from mid to : Life) (old at_mid new : Seen) (out out_mid out_to : Option (List ℕ)) (a : List Met)
-    → Goes managed from old out mid at_mid out_mid a → Ends managed mid at_mid out_mid to new out_to → Ends managed from old out to new out_to
-ends_then managed from mid to old at_mid new out out_mid out_to a p q = record {
+pub ends_then : (allowed then_allowed : ℕ) (managed : List Managed) (from mid to : Life) (old at_mid new : Seen) (out out_mid out_to : Option (List ℕ)) (a : List Met)
+    → length a + then_allowed ≤ allowed → Goes managed from old out mid at_mid out_mid a → Ends then_allowed managed mid at_mid out_mid to new out_to → Ends allowed managed from old out to new out_to
+ends_then allowed then_allowed managed from mid to old at_mid new out out_mid out_to a fits p q = record {
   mets = a ++ q.mets;
   turns = turns-append managed from a q.mets p.turns (subst (λ (life : Life). AreTurns managed life q.mets) p.after q.turns);
   after = q.after ∙ ap (λ (life : Life). life_after life q.mets) p.after ∙ sym (life_after-append from a q.mets);
   written = subst (λ (ls : List Line). WritesLines out out_to ls) (sym (flat_map-append turn_lines a q.mets)) (lines_then out out_mid out_to (flat_map turn_lines a) (flat_map turn_lines q.mets) p.written q.written);
   last = q.last;
   last_is = q.last_is;
+  within = omega (arith, fits, q.within, length-append a q.mets);
   tells = subst (λ (cs : List Call). Tells old new cs)
       (sym (append_assoc (turns_calls from a) (turns_calls (life_after from a) q.mets) q.last) ∙ ap (λ (cs : List Call). cs ++ q.last) (sym (turns_calls-append from a q.mets)))
       (tells_then old at_mid new (turns_calls from a) (turns_calls (life_after from a) q.mets ++ q.last) p.tells (subst (λ (life : Life). Tells at_mid new (turns_calls life q.mets ++ q.last)) p.after q.tells));
@@ -136,15 +137,16 @@ over_left managed from to None new mets over p = tt
 over_left managed from to (Some world) new mets over p =
     ap (option_map left_in) p.tells ∙ ap (λ (w : World). Some (left_in w)) (sym (p.ends ∙ over_stays managed to p.then_told p.then_told.link.told.coming over))
 
-pub goes_ends : (managed : List Managed) (from to : Life) (old new : Seen) (out out_to : Option (List ℕ)) (mets : List Met)
-    → is_over to ≡ true → Goes managed from old out to new out_to mets → Ends managed from old out to new out_to
-goes_ends managed from to old new out out_to mets over goes = record {
+pub goes_ends : (allowed : ℕ) (managed : List Managed) (from to : Life) (old new : Seen) (out out_to : Option (List ℕ)) (mets : List Met)
+    → length mets ≤ allowed → is_over to ≡ true → Goes managed from old out to new out_to mets → Ends allowed managed from old out to new out_to
+goes_ends allowed managed from to old new out out_to mets fits over goes = record {
   mets = mets;
   turns = goes.turns;
   after = goes.after;
   written = goes.written;
   last = [];
   last_is = over;
+  within = omega (arith, fits);
   tells = subst (λ (cs : List Call). Tells old new cs) (sym (append-nil (turns_calls from mets))) goes.tells;
   whole = over_whole managed from to (world_of old) new mets over goes.foretold;
   left = over_left managed from to (world_of old) new mets over goes.foretold;

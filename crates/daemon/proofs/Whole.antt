@@ -86,9 +86,9 @@ module _ (managed : List Managed) (specs : List IfSpec) (begin : Begin) (life : 
       (subst (λ (t : List ℕ). Prints t text (opening_lines (opening_with begin made.calls life))) empty made.lines)
 
   -- it was lived to its end
-  pub serves : (last : Life) (new : Seen) (out_two out_three : Option (List ℕ)) → WritesBytes out out_one written → Ends managed life opened out_one last new out_two → KnowsChild last.hooks new
-      → WritesLines out_two out_three (closing_lines last) → Served managed specs old new out out_three
-  serves last new out_two out_three wrote ends known closes = record {
+  pub serves : (allowed : ℕ) (last : Life) (new : Seen) (out_two out_three : Option (List ℕ)) → WritesBytes out out_one written → Ends allowed managed life opened out_one last new out_two → KnowsChild last.hooks new
+      → WritesLines out_two out_three (closing_lines last) → Served allowed managed specs old new out out_three
+  serves allowed last new out_two out_three wrote ends known closes = record {
     begun = record { begin = begin; seen = mid; begins = begins };
     opening = opening_with begin made.calls life;
     mets = ends.mets;
@@ -97,6 +97,7 @@ module _ (managed : List Managed) (specs : List IfSpec) (begin : Begin) (life : 
     opens = made.did.makes;
     turns = ends.turns;
     last_is = subst (λ (l : Life). IsLast l ends.last) ends.after ends.last_is;
+    within = ends.within;
     tells = tells_then mid opened new made.calls (turns_calls life ends.mets ++ ends.last) made.did.tells ends.tells;
     written = lines_then out out_one out_three (opening_lines (opening_with begin made.calls life)) (flat_map turn_lines ends.mets ++ closing_lines (life_after life ends.mets)) (lines_written wrote)
         (lines_then out_one out_two out_three (flat_map turn_lines ends.mets) (closing_lines (life_after life ends.mets)) ends.written
@@ -119,16 +120,16 @@ module _ (managed : List Managed) (specs : List IfSpec) (begin : Begin) (life : 
     foretold = opens_foretold managed specs begin made.calls life (told_left managed life (world_of opened)) (world_of old) (world_of mid) (world_of opened) (begun_world begin old mid begins) made.did.foretold (left_whole managed life (world_of opened));
   }
 
-  pub leaves_opening : (end : ServeEnd) (out_to : Option (List ℕ)) (a b : ℕ) → WritesSome out out_to written → HasServeCause end a b 0 0 → Leaves end managed specs old opened out out_to
-  leaves_opening ends.End out_to a b some cause = absurd cause
-  leaves_opening ends.TurnsOver out_to a b some cause = absurd cause
-  leaves_opening ends.LinkFault out_to a b some cause = absurd (omega (arith, cause.1))
-  leaves_opening ends.WriteFault out_to a b some cause = inl (cut_opening ends.WriteFault out_to some made.did.tells)
-  leaves_opening ends.NoMemory out_to a b some cause = inr (inl (cut_opening ends.NoMemory out_to some tt))
+  pub leaves_opening : (end : ServeEnd) (allowed : ℕ) (out_to : Option (List ℕ)) (a b : ℕ) → WritesSome out out_to written → HasServeCause end a b 0 0 → Leaves end allowed managed specs old opened out out_to
+  leaves_opening ends.End allowed out_to a b some cause = absurd cause
+  leaves_opening ends.TurnsOver allowed out_to a b some cause = absurd cause
+  leaves_opening ends.LinkFault allowed out_to a b some cause = absurd (omega (arith, cause.1))
+  leaves_opening ends.WriteFault allowed out_to a b some cause = inl (cut_opening ends.WriteFault out_to some made.did.tells)
+  leaves_opening ends.NoMemory allowed out_to a b some cause = inr (inl (cut_opening ends.NoMemory out_to some tt))
 
   -- it was cut off later
-  cut_life : (end : ServeEnd) (new : Seen) (out_to : Option (List ℕ)) → WritesBytes out out_one written → BreaksOff end managed life opened new out_one out_to → CutLife end managed specs old new out out_to
-  cut_life end new out_to wrote breaks = record {
+  cut_life : (end : ServeEnd) (allowed : ℕ) (new : Seen) (out_to : Option (List ℕ)) → WritesBytes out out_one written → BreaksOff end allowed managed life opened new out_one out_to → CutLife end allowed managed specs old new out out_to
+  cut_life end allowed new out_to wrote breaks = record {
     begun = record { begin = begin; seen = mid; begins = begins };
     opening = opening_with begin made.calls life;
     mets = breaks.mets;
@@ -141,19 +142,21 @@ module _ (managed : List Managed) (specs : List IfSpec) (begin : Begin) (life : 
     written = front_after out out_one out_to (opening_lines (opening_with begin made.calls life)) (flat_map turn_lines breaks.mets) (cut_lines (life_after life breaks.mets) breaks.at) (lines_written wrote) breaks.written;
     tells = tells_unless end mid opened new made.calls (turns_calls life breaks.mets ++ breaks.calls) made.did.tells breaks.tells;
     foretold = opens_foretold managed specs begin made.calls life (breaks.mets ++ turns_left breaks.at) (world_of old) (world_of mid) (world_of opened) (begun_world begin old mid begins) made.did.foretold breaks.whole;
+    within = breaks.within;
+    all = breaks.all;
   }
 
-  pub leaves_life : (end : ServeEnd) (new : Seen) (out_to : Option (List ℕ)) → WritesBytes out out_one written → BreaksOff end managed life opened new out_one out_to → Leaves end managed specs old new out out_to
-  leaves_life ends.End new out_to wrote breaks = tt
-  leaves_life ends.TurnsOver new out_to wrote breaks = cut_life ends.TurnsOver new out_to wrote breaks
-  leaves_life ends.LinkFault new out_to wrote breaks = inr (cut_life ends.LinkFault new out_to wrote breaks)
-  leaves_life ends.WriteFault new out_to wrote breaks = inr (cut_life ends.WriteFault new out_to wrote breaks)
-  leaves_life ends.NoMemory new out_to wrote breaks = inr (inr (cut_life ends.NoMemory new out_to wrote breaks))
+  pub leaves_life : (end : ServeEnd) (allowed : ℕ) (new : Seen) (out_to : Option (List ℕ)) → WritesBytes out out_one written → BreaksOff end allowed managed life opened new out_one out_to → Leaves end allowed managed specs old new out out_to
+  leaves_life ends.End allowed new out_to wrote breaks = tt
+  leaves_life ends.TurnsOver allowed new out_to wrote breaks = cut_life ends.TurnsOver allowed new out_to wrote breaks
+  leaves_life ends.LinkFault allowed new out_to wrote breaks = inr (cut_life ends.LinkFault allowed new out_to wrote breaks)
+  leaves_life ends.WriteFault allowed new out_to wrote breaks = inr (cut_life ends.WriteFault allowed new out_to wrote breaks)
+  leaves_life ends.NoMemory allowed new out_to wrote breaks = inr (inr (cut_life ends.NoMemory allowed new out_to wrote breaks))
 
 -- it could not begin
-pub leaves_unbegun : (end : ServeEnd) (managed : List Managed) (specs : List IfSpec) (old new : Seen) (out : Option (List ℕ)) → BeginFails end old new → Leaves end managed specs old new out out
-leaves_unbegun ends.End managed specs old new out fails = absurd fails
-leaves_unbegun ends.TurnsOver managed specs old new out fails = absurd fails
-leaves_unbegun ends.LinkFault managed specs old new out fails = inl (refl, fails)
-leaves_unbegun ends.WriteFault managed specs old new out fails = absurd fails
-leaves_unbegun ends.NoMemory managed specs old new out fails = absurd fails
+pub leaves_unbegun : (end : ServeEnd) (allowed : ℕ) (managed : List Managed) (specs : List IfSpec) (old new : Seen) (out : Option (List ℕ)) → BeginFails end old new → Leaves end allowed managed specs old new out out
+leaves_unbegun ends.End allowed managed specs old new out fails = absurd fails
+leaves_unbegun ends.TurnsOver allowed managed specs old new out fails = absurd fails
+leaves_unbegun ends.LinkFault allowed managed specs old new out fails = inl (refl, fails)
+leaves_unbegun ends.WriteFault allowed managed specs old new out fails = absurd fails
+leaves_unbegun ends.NoMemory allowed managed specs old new out fails = absurd fails

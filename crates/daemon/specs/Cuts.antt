@@ -1,5 +1,5 @@
 -- What stands written where a life was cut off, and what was asked then.
-use Rattle.std.specs.Prelude.{ℕ, ◌≡◌, ◌⊎◌, false, List, [], ◌∷◌, ◌++◌, flat_map, Option, None, Err}
+use Rattle.std.specs.Prelude.{ℕ, ◌≡◌, ◌≤◌, ◌+◌, ◌⊎◌, false, List, [], ◌∷◌, ◌++◌, length, flat_map, Option, None, Err}
 use Rattle.net_types.specs.declared.interface.IfSpec.{IfSpec}
 use Rattle.net_types.specs.declared.fault.Failed.{Failed}
 use Rattle.world.specs.LinkCalls.{Waited}
@@ -62,8 +62,19 @@ abbrev pub TellsUnlessMemory : ServeEnd → Seen → Seen → List Call → Type
 TellsUnlessMemory ends.NoMemory old new calls = Unit {0}
 TellsUnlessMemory end old new calls = Tells old new calls
 
+-- the wakes asked for after the turns whose lines stand written whole: that of a turn, or a wait that brought none, the only call then
+abbrev pub wakes_asked : CutAt → List Call → ℕ
+wakes_asked (Between rest) calls = length calls
+wakes_asked (InTurn met rest) calls = 1
+wakes_asked AtEnd calls = length calls
+
+-- where turns are over, as many were handled as were allowed
+abbrev pub HandledAll : ServeEnd → (handled allowed : ℕ) → Type 0
+HandledAll ends.TurnsOver handled allowed = handled ≡ allowed
+HandledAll end handled allowed = Unit {0}
+
 -- turns were handled and their lines written whole, and then the life was cut off
-pub record BreaksOff (end : ServeEnd) (managed : List Managed) (from : Life) (old new : Seen) (out_from out_to : Option (List ℕ)) : Type 0 where
+pub record BreaksOff (end : ServeEnd) (allowed : ℕ) (managed : List Managed) (from : Life) (old new : Seen) (out_from out_to : Option (List ℕ)) : Type 0 where
   pub mets : List Met
   pub at : CutAt
   pub calls : List Call
@@ -72,6 +83,8 @@ pub record BreaksOff (end : ServeEnd) (managed : List Managed) (from : Life) (ol
   pub written : WritesFront out_from out_to (flat_map turn_lines mets) (cut_lines (life_after from mets) at)
   pub tells : TellsUnlessMemory end old new (turns_calls from mets ++ calls)
   pub whole : AreWhole managed from old (mets ++ turns_left at)
+  pub within : length mets + wakes_asked at calls ≤ allowed
+  pub all : HandledAll end (length mets) allowed
 
 -- a life was cut off in the lines of its opening
 pub record CutOpening (end : ServeEnd) (managed : List Managed) (specs : List IfSpec) (old new : Seen) (out_from out_to : Option (List ℕ)) : Type 0 where
@@ -85,7 +98,7 @@ pub record CutOpening (end : ServeEnd) (managed : List Managed) (specs : List If
   pub foretold : IsForetold managed specs old opening rest
 
 -- a life was cut off after its opening and some turns, whose lines stand written whole
-pub record CutLife (end : ServeEnd) (managed : List Managed) (specs : List IfSpec) (old new : Seen) (out_from out_to : Option (List ℕ)) : Type 0 where
+pub record CutLife (end : ServeEnd) (allowed : ℕ) (managed : List Managed) (specs : List IfSpec) (old new : Seen) (out_from out_to : Option (List ℕ)) : Type 0 where
   pub begun : Begun old
   pub opening : OpeningMet
   pub mets : List Met
@@ -98,6 +111,8 @@ pub record CutLife (end : ServeEnd) (managed : List Managed) (specs : List IfSpe
   pub written : WritesFront out_from out_to (opening_lines opening ++ flat_map turn_lines mets) (cut_lines (life_after opening.life mets) at)
   pub tells : TellsUnlessMemory end begun.seen new (opening.calls ++ (turns_calls opening.life mets ++ calls))
   pub foretold : IsForetold managed specs old opening (mets ++ turns_left at)
+  pub within : length mets + wakes_asked at calls ≤ allowed
+  pub all : HandledAll end (length mets) allowed
 
 -- a wait that failed, or wanted memory
 abbrev pub WaitFails : ServeEnd → (until : Option ℕ) → Seen → Seen → Type 0
@@ -113,11 +128,11 @@ abbrev pub BeginFails : ServeEnd → Seen → Seen → Type 0
 BeginFails ends.LinkFault old new = FailsToBegin old new
 BeginFails other old new = ⊥
 
--- What stands written. Where beginning failed, or memory was wanted before the opening's lines were written, nothing was.
-abbrev pub Leaves : ServeEnd → List Managed → List IfSpec → Seen → Seen → Option (List ℕ) → Option (List ℕ) → Type 0
-Leaves ends.End managed specs old new out_from out_to = Unit {0}
-Leaves ends.TurnsOver managed specs old new out_from out_to = CutLife ends.TurnsOver managed specs old new out_from out_to
-Leaves ends.LinkFault managed specs old new out_from out_to = ((out_to ≡ out_from) × FailsToBegin old new) ⊎ CutLife ends.LinkFault managed specs old new out_from out_to
-Leaves ends.WriteFault managed specs old new out_from out_to = CutOpening ends.WriteFault managed specs old new out_from out_to ⊎ CutLife ends.WriteFault managed specs old new out_from out_to
-Leaves ends.NoMemory managed specs old new out_from out_to =
-    (out_to ≡ out_from) ⊎ (CutOpening ends.NoMemory managed specs old new out_from out_to ⊎ CutLife ends.NoMemory managed specs old new out_from out_to)
+-- What stands written, where so many turns were allowed. Where beginning failed, or memory was wanted before the opening's lines were written, nothing was.
+abbrev pub Leaves : ServeEnd → (allowed : ℕ) → List Managed → List IfSpec → Seen → Seen → Option (List ℕ) → Option (List ℕ) → Type 0
+Leaves ends.End allowed managed specs old new out_from out_to = Unit {0}
+Leaves ends.TurnsOver allowed managed specs old new out_from out_to = CutLife ends.TurnsOver allowed managed specs old new out_from out_to
+Leaves ends.LinkFault allowed managed specs old new out_from out_to = ((out_to ≡ out_from) × FailsToBegin old new) ⊎ CutLife ends.LinkFault allowed managed specs old new out_from out_to
+Leaves ends.WriteFault allowed managed specs old new out_from out_to = CutOpening ends.WriteFault managed specs old new out_from out_to ⊎ CutLife ends.WriteFault allowed managed specs old new out_from out_to
+Leaves ends.NoMemory allowed managed specs old new out_from out_to =
+    (out_to ≡ out_from) ⊎ (CutOpening ends.NoMemory managed specs old new out_from out_to ⊎ CutLife ends.NoMemory allowed managed specs old new out_from out_to)

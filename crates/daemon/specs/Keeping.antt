@@ -1,39 +1,34 @@
 -- Files that hold what they are to hold, so that nothing is asked for them.
-use Rattle.std.specs.Prelude.{ℕ, ◌≡◌, Bool, true, false, List, [], ◌∷◌}
+use Rattle.std.specs.Prelude.{ℕ, ◌≡◌, Bool, true, false, List}
 use Rattle.std.specs.List.{AllByRecursion}
-use Rattle.net_types.specs.declared.interface.IfIndex.{IfIndex}
 use Rattle.client_model.specs.declared.interfaces.Iface.{Iface}
-use Rattle.client_core.specs.Touched.{is_touched}
+use Rattle.client_core.specs.Touched.{is_other, is_touched}
 use Rattle.device_calls.specs.Does.{Does}
 use Rattle.device_calls.specs.Worlds.{Seen}
 use Rattle.turn_model.specs.KeptFiles.{Keeps, Duid, Lease4, Lease6, Resolver, KeptFile, wanted_in, is_settled, is_unknown, keeping_one}
 use Rattle.daemon.specs.declared.keeping.Touched.{Touched}
 use Rattle.daemon.specs.declared.keeping.Touched.TheVariants.{All, These}
 
--- an interface is among those whose kept leases, or what they tell the resolver, may have changed
+-- an interface is among those that may keep another lease
 abbrev pub is_among : ℕ → Touched → Bool
 is_among index All = true
-is_among index (These touched) = is_touched index touched.now
+is_among index (These touched) = is_touched index touched.now.ifaces.items
 
-abbrev pub are_all : Touched → Bool
-are_all All = true
-are_all (These touched) = false
+abbrev pub is_all : Touched → Bool
+is_all All = true
+is_all (These touched) = false
 
-abbrev pub has_some : List IfIndex → Bool
-has_some [] = false
-has_some (index ∷ indices) = true
+-- the resolver may be told something else
+abbrev pub has_resolver : Touched → Bool
+has_resolver All = true
+has_resolver (These touched) = is_other touched.now.resolver
 
-abbrev pub are_some : Touched → Bool
-are_some All = true
-are_some (These touched) = has_some touched.now
-
--- What the file is to hold may be another than before. The DUID stays as it is once the life is opened, and what the resolver is
--- told comes of all interfaces.
+-- What the file is to hold may be another than before. The DUID stays as it is once the life is opened.
 abbrev pub may_differ : Keeps → Touched → Bool
-may_differ (Duid bytes) touched = are_all touched
+may_differ (Duid bytes) touched = is_all touched
 may_differ (Lease4 iface) touched = is_among iface touched
 may_differ (Lease6 iface) touched = is_among iface touched
-may_differ Resolver touched = are_some touched
+may_differ Resolver touched = has_resolver touched
 
 -- a file holds what it is to hold, where it is known what it holds
 abbrev pub IsKept : List Iface → KeptFile → Type 0

@@ -1,5 +1,5 @@
 -- A whole life, from its opening to its end.
-use Rattle.std.specs.Prelude.{ℕ, ◌≡◌, List, ◌++◌, Option, Some, IfSome, option_map, Ok}
+use Rattle.std.specs.Prelude.{ℕ, ◌≡◌, ◌≤◌, ◌+◌, List, ◌++◌, length, Option, Some, IfSome, option_map, Ok}
 use Rattle.std.specs.Option.{is_some}
 use Rattle.net_types.specs.declared.interface.IfSpec.{IfSpec}
 use Rattle.world.specs.declared.wakes.Begin.{Begin}
@@ -32,8 +32,9 @@ abbrev pub LeavesForetold : List Managed → List IfSpec → Seen → Seen → T
 LeavesForetold managed specs old new = IfSome (world_of old) (λ world. option_map left_in (world_of new) ≡ Some (foretold_life managed specs world).left)
 
 -- A life was lived to its end: it was begun once, its opening and turns asked what they are to ask, the devices that tell their
--- calls tell these and no other, and its lines were written. A hook's child runs then where the last turn left one.
-pub record Served (managed : List Managed) (specs : List IfSpec) (old new : Seen) (out_from out_to : Option (List ℕ)) : Type 0 where
+-- calls tell these and no other, and its lines were written. A hook's child runs then where the last turn left one. It took no
+-- more wakes than were allowed.
+pub record Served (allowed : ℕ) (managed : List Managed) (specs : List IfSpec) (old new : Seen) (out_from out_to : Option (List ℕ)) : Type 0 where
   pub begun : Begun old
   pub opening : OpeningMet
   pub mets : List Met
@@ -42,6 +43,7 @@ pub record Served (managed : List Managed) (specs : List IfSpec) (old new : Seen
   pub opens : IsOpening managed specs opening
   pub turns : AreTurns managed opening.life mets
   pub last_is : IsLast (life_after opening.life mets) last
+  pub within : length mets + length last ≤ allowed
   pub tells : Tells begun.seen new (opening.calls ++ (turns_calls opening.life mets ++ last))
   pub written : WritesLines out_from out_to (life_lines opening mets)
   pub foretold : IsForetold managed specs old opening mets

@@ -60,14 +60,15 @@ pub record Goes (managed : List Managed) (from : Life) (old : Seen) (out_from : 
   pub tells : Tells old new (turns_calls from mets)
   pub foretold : IfSome (world_of old) (λ world. AreFirst managed from world mets to new)
 
--- a life is over after these turns
-pub record Ends (managed : List Managed) (from : Life) (old : Seen) (out_from : Option (List ℕ)) (to : Life) (new : Seen) (out_to : Option (List ℕ)) : Type 0 where
+-- a life is over after these turns, and after no more wakes than were allowed
+pub record Ends (allowed : ℕ) (managed : List Managed) (from : Life) (old : Seen) (out_from : Option (List ℕ)) (to : Life) (new : Seen) (out_to : Option (List ℕ)) : Type 0 where
   pub mets : List Met
   pub turns : AreTurns managed from mets
   pub after : to ≡ life_after from mets
   pub written : WritesLines out_from out_to (flat_map turn_lines mets)
   pub last : List Call
   pub last_is : IsLast to last
+  pub within : length mets + length last ≤ allowed
   pub tells : Tells old new (turns_calls from mets ++ last)
   pub whole : AreWhole managed from old mets
   pub left : LeavesTold managed from old new

@@ -19,4 +19,4 @@ pub record GoesOn (managed : List Managed) (from : model.Life) (old : Seen) (out
 
 abbrev pub IsOneTurn : List Managed → model.Life → Seen → Option (List ℕ) → Woken → Seen → Option (List ℕ) → Type 0
 IsOneTurn managed from old out (On life) new out_to = IsOrderly life × KnowsChild life.hooks new × GoesOn managed from old out (life_of life) new out_to
-IsOneTurn managed from old out (Over life) new out_to = KnowsChild life.hooks new × Ends managed from old out (life_of life) new out_to
+IsOneTurn managed from old out (Over life) new out_to = KnowsChild life.hooks new × Ends 1 managed from old out (life_of life) new out_to

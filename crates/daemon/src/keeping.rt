@@ -12,7 +12,7 @@ ghost use Rattle.client_core.specs.Touched.{is_touched};
 ghost use Rattle.device_calls.specs.Does.{Does};
 ghost use Rattle.turn_model.specs.KeptFiles.{wanted_in, same_content, is_left, is_settled, bringing, known_after, keeping, is_unknown};
 ghost use Rattle.daemon.specs.Files.{content_of, known_of, keeps_of};
-ghost use Rattle.daemon.specs.Keeping.{are_all, are_some, is_among, may_differ, IsKept, AreKept, AreKeptBut, KeepsFile};
+ghost use Rattle.daemon.specs.Keeping.{has_resolver, is_all, is_among, may_differ, IsKept, AreKept, AreKeptBut, KeepsFile};
 
 use crate::outside::Outside;
 use crate::stores::{remove, rename, settle, sync, write};
@@ -37,11 +37,11 @@ pub enum Known {
     Unread,
 }
 
-/// The interfaces whose kept leases, or what they tell the resolver, may have changed.
+/// What may be to be kept otherwise than before: all at the opening, and then what a step touched.
 #[derive(Clone, Copy)]
 pub enum Touched<'a> {
     All,
-    These(&'a [IfIndex]),
+    These(&'a client_core::Touched),
 }
 
 /// Whether an interface is one of these.
@@ -52,9 +52,9 @@ fn is_touched(these: &[IfIndex], iface: IfIndex) -> bool
 }
 
 impl Touched<'_> {
-    /// Whether they are all interfaces.
-    fn are_all(self) -> bool
-        ensures { result ≡ are_all self.entry }
+    /// Whether it is all.
+    fn is_all(self) -> bool
+        ensures { result ≡ is_all self.entry }
     {
         match self {
             Touched::All => true,
@@ -62,23 +62,23 @@ impl Touched<'_> {
         }
     }
 
-    /// Whether some interface is one of them.
-    fn are_some(self) -> bool
-        ensures { result ≡ are_some self.entry }
+    /// Whether the resolver may be told something else.
+    fn has_resolver(self) -> bool
+        ensures { result ≡ has_resolver self.entry }
     {
         match self {
             Touched::All => true,
-            Touched::These(these) => !these.is_empty(),
+            Touched::These(these) => these.resolver.is_other(),
         }
     }
 
-    /// Whether an interface is one of them.
+    /// Whether an interface may keep another lease.
     fn has(self, iface: IfIndex) -> bool
         ensures { result ≡ is_among iface.number self.entry }
     {
         match self {
             Touched::All => true,
-            Touched::These(these) => is_touched(these, iface),
+            Touched::These(these) => is_touched(&these.ifaces, iface),
         }
     }
 }
@@ -102,10 +102,10 @@ impl Keeps {
         ensures { result ≡ may_differ (keeps_of self.now) touched.entry }
     {
         match self {
-            Keeps::Duid(_) => touched.are_all(),
+            Keeps::Duid(_) => touched.is_all(),
             Keeps::Lease4(iface) => touched.has(*iface),
             Keeps::Lease6(iface) => touched.has(*iface),
-            Keeps::Resolver => touched.are_some(),
+            Keeps::Resolver => touched.has_resolver(),
         }
     }
 }

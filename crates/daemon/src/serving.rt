@@ -62,8 +62,8 @@ fn take_turns<O: Sink, W: Outside>(
     requires child { KnowsChild life.hooks (W.seen outside.old) }
     requires going { is_over (life_of life) ≡ false }
     ensures child { IfOk result (λ last. KnowsChild last.hooks (W.seen outside.new)) }
-    ensures ok { IfOk result (λ last. Ends managed.now (life_of life) (W.seen outside.old) (O.written out.old) (life_of last) (W.seen outside.new) (O.written out.new)) }
-    ensures cut { IfErr result (λ end. BreaksOff end managed.now (life_of life) (W.seen outside.old) (W.seen outside.new) (O.written out.old) (O.written out.new)) }
+    ensures ok { IfOk result (λ last. Ends turns managed.now (life_of life) (W.seen outside.old) (O.written out.old) (life_of last) (W.seen outside.new) (O.written out.new)) }
+    ensures cut { IfErr result (λ end. BreaksOff end turns managed.now (life_of life) (W.seen outside.old) (W.seen outside.new) (O.written out.old) (O.written out.new)) }
     ensures later { IfOk result (λ _. (O.faults out.old ≤ O.faults out.new) × ((W.seen outside.old).waiting.faults ≤ (W.seen outside.new).waiting.faults)) }
     ensures cause { IfErr result (λ end. HasLifeCause end (O.faults out.old) (O.faults out.new) (W.seen outside.old).waiting.faults (W.seen outside.new).waiting.faults) }
     ensures foretold { (W.seen outside.old).waiting.failing ≡ Some [] → result ≢ Err ServeEnd.LinkFault }
@@ -106,8 +106,8 @@ fn live_on<O: Sink, W: Outside>(
 ) -> Result<(), ServeEnd>
     requires managed { AreManaged managed.now }
     requires child { (W.seen outside.old).waiting.child ≡ false }
-    ensures ok { IfOk result (λ _. Served managed.now specs.now (W.seen outside.old) (W.seen outside.new) (O.written out.old) (O.written out.new)) }
-    ensures cut { IfErr result (λ end. Leaves end managed.now specs.now (W.seen outside.old) (W.seen outside.new) (O.written out.old) (O.written out.new)) }
+    ensures ok { IfOk result (λ _. Served turns managed.now specs.now (W.seen outside.old) (W.seen outside.new) (O.written out.old) (O.written out.new)) }
+    ensures cut { IfErr result (λ end. Leaves end turns managed.now specs.now (W.seen outside.old) (W.seen outside.new) (O.written out.old) (O.written out.new)) }
     ensures later { IfOk result (λ _. (O.faults out.old ≤ O.faults out.new) × ((W.seen outside.old).waiting.faults ≤ (W.seen outside.new).waiting.faults)) }
     ensures cause { IfErr result (λ end. HasLifeCause end (O.faults out.old) (O.faults out.new) (W.seen outside.old).waiting.faults (W.seen outside.new).waiting.faults) }
     ensures foretold { (W.seen outside.old).waiting.failing ≡ Some [] → result ≢ Err ServeEnd.LinkFault }
@@ -136,8 +136,8 @@ pub fn serve<O: Sink, W: Outside>(
 ) -> ServeEnd
     requires managed { AreManaged managed.now }
     requires child { (W.seen live.old).waiting.child ≡ false }
-    ensures served { result ≡ ServeEnd.End → Served managed.now specs.now (W.seen live.old) (W.seen live.new) (O.written out.old) (O.written out.new) }
-    ensures cut { Leaves result managed.now specs.now (W.seen live.old) (W.seen live.new) (O.written out.old) (O.written out.new) }
+    ensures served { result ≡ ServeEnd.End → Served turns managed.now specs.now (W.seen live.old) (W.seen live.new) (O.written out.old) (O.written out.new) }
+    ensures cut { Leaves result turns managed.now specs.now (W.seen live.old) (W.seen live.new) (O.written out.old) (O.written out.new) }
     ensures cause { HasEndCause result (O.faults out.old) (O.faults out.new) (W.seen live.old).waiting.faults (W.seen live.new).waiting.faults }
     ensures foretold { (W.seen live.old).waiting.failing ≡ Some [] → result ≢ ServeEnd.LinkFault }
     ensures many { result ≡ ServeEnd.TurnsOver → AreManyTurns (W.seen live.old) turns }

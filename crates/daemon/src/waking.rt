@@ -114,7 +114,7 @@ pub fn one_turn<O: Sink, W: Outside>(
     requires going { is_over (life_of life) ≡ false }
     requires room { length buf.old ≡ 2048 }
     ensures ok { IfOk result (λ woken. IsOneTurn managed.now (life_of life) (W.seen outside.old) (O.written out.old) woken (W.seen outside.new) (O.written out.new)) }
-    ensures cut { IfErr result (λ end. BreaksOff end managed.now (life_of life) (W.seen outside.old) (W.seen outside.new) (O.written out.old) (O.written out.new)) }
+    ensures cut { IfErr result (λ end. BreaksOff end 1 managed.now (life_of life) (W.seen outside.old) (W.seen outside.new) (O.written out.old) (O.written out.new)) }
     ensures later { IfOk result (λ woken. (O.faults out.old ≤ O.faults out.new) × ((W.seen outside.old).waiting.faults ≤ (W.seen outside.new).waiting.faults)) }
     ensures cause { IfErr result (λ end. HasServeCause end (O.faults out.old) (O.faults out.new) (W.seen outside.old).waiting.faults (W.seen outside.new).waiting.faults) }
     ensures foretold { (W.seen outside.old).waiting.failing ≡ Some [] → result ≢ Err ServeEnd.LinkFault }

@@ -1,19 +1,36 @@
 -- Words ask for one thing.
-use Rattle.std.proofs.Common.{ℕ, ◌≡◌, false, true, List, [], ◌∷◌, codes, refl, sym, ap, ◌∙◌}
-use Rattle.std.specs.Prelude.{bytes_eq, Bool}
-use Rattle.dhcpcd.specs.Words.{AskReplay, AskCheck}
+use Rattle.std.proofs.Common.{ℕ, ◌≡◌, false, true, List, [], ◌∷◌, Option, None, codes, refl, sym, ap, subst, ⊎_elim, ◌∙◌}
+use Rattle.std.specs.Prelude.{bytes_eq}
+use Rattle.net_types.specs.declared.interface.IfSpec.{IfSpec}
+use Rattle.live_words.specs.LiveWords.{AsksLive}
+use Rattle.dhcpcd.specs.declared.words.Work.{Work}
+use Rattle.dhcpcd.specs.Asked.{AsksFor}
+use Rattle.dhcpcd.specs.Words.{AskReplay, AskCheck, AskLive}
 
 first_word : List (List ℕ) → List ℕ
 first_word [] = []
 first_word (word ∷ words) = word
 
-true_false : true ≡ false → ⊥
+pub true_false : true ≡ false → ⊥
 true_false e = cc
+
+-- their first words differ
+apart : (words : List (List ℕ)) (one other : List ℕ) → bytes_eq one one ≡ true → bytes_eq one other ≡ false → first_word words ≡ one → first_word words ≡ other → ⊥
+apart words one other alike differ first second = true_false (sym alike ∙ ap (bytes_eq one) (sym first ∙ second) ∙ differ)
 
 pub not_both : (words : List (List ℕ)) → AskReplay words → AskCheck words → ⊥
 unfolding first_word
-not_both words replay check =
-    let same : codes "replay" ≡ codes "check" = ap first_word (sym replay ∙ check) in
-    let apart : bytes_eq (codes "replay") (codes "check") ≡ false = refl in
-    let alike : bytes_eq (codes "replay") (codes "replay") ≡ true = refl in
-    true_false (sym alike ∙ ap (bytes_eq (codes "replay")) same ∙ apart)
+not_both words replay check = apart words (codes "replay") (codes "check") refl refl (ap first_word replay) (ap first_word check)
+
+pub not_replay_live : (words : List (List ℕ)) → AskReplay words → AskLive words → ⊥
+unfolding first_word
+not_replay_live words replay live = apart words (codes "replay") (codes "live") refl refl (ap first_word replay) (ap first_word live.1.says)
+
+pub not_check_live : (words : List (List ℕ)) → AskCheck words → AskLive words → ⊥
+unfolding first_word
+not_check_live words check live = apart words (codes "check") (codes "live") refl refl (ap first_word check) (ap first_word live.1.says)
+
+-- where the words are of none of the forms, nothing is asked
+pub none_asked : (words : List (List ℕ)) (result : Option Work) → result ≡ None → (AskReplay words → ⊥) → (AskCheck words → ⊥) → ((specs : List IfSpec) → AsksLive words specs → ⊥) → AsksFor words result
+none_asked words result none replay check live =
+    subst (AsksFor words) (sym none) (λ asks. ⊎_elim replay (λ more. ⊎_elim check (λ asked. live asked.0 asked.1) more) asks)

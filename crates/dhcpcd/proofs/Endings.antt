@@ -30,6 +30,8 @@ stopped_answer answer input old new bytes script conf read within is front stops
     answers (status.Conf fault) stops = absurd stops
     answers status.ReadFault stops = absurd stops
     answers status.WriteFault stops = stopped
+    answers status.LinkFault stops = absurd stops
+    answers status.TurnsOver stops = absurd stops
     answers status.TooLong stops = absurd stops
     answers status.NoMemory stops = inr stopped
 
@@ -47,6 +49,8 @@ stopped_check answer input old new bytes conf read within is some stops = answer
     answers (status.Conf fault) stops = absurd stops
     answers status.ReadFault stops = absurd stops
     answers status.WriteFault stops = stopped
+    answers status.LinkFault stops = absurd stops
+    answers status.TurnsOver stops = absurd stops
     answers status.TooLong stops = absurd stops
     answers status.NoMemory stops = inr stopped
 
@@ -59,6 +63,8 @@ refused_answer (status.Script fault) input old new bytes read within same refuse
 refused_answer (status.Conf fault) input old new bytes read within same refused = record { bytes = bytes; read = read; in_limit = within; why = refused; unwritten = same }
 refused_answer status.ReadFault input old new bytes read within same refused = absurd refused
 refused_answer status.WriteFault input old new bytes read within same refused = absurd refused
+refused_answer status.LinkFault input old new bytes read within same refused = absurd refused
+refused_answer status.TurnsOver input old new bytes read within same refused = absurd refused
 refused_answer status.TooLong input old new bytes read within same refused = absurd refused
 refused_answer status.NoMemory input old new bytes read within same refused = inl same
 
@@ -69,6 +75,8 @@ refused_check (status.Script fault) input old new bytes read within same refused
 refused_check (status.Conf fault) input old new bytes read within same refused = record { bytes = bytes; read = read; in_limit = within; why = refused; unwritten = same }
 refused_check status.ReadFault input old new bytes read within same refused = absurd refused
 refused_check status.WriteFault input old new bytes read within same refused = absurd refused
+refused_check status.LinkFault input old new bytes read within same refused = absurd refused
+refused_check status.TurnsOver input old new bytes read within same refused = absurd refused
 refused_check status.TooLong input old new bytes read within same refused = absurd refused
 refused_check status.NoMemory input old new bytes read within same refused = inl same
 
@@ -88,11 +96,11 @@ not_refused input bytes tells read none =
 err_ok : {A B : Type 0} {a : A} {b : B} → Err b ≡ Ok a → ⊥
 err_ok e = cc
 
-configured : (input : Option (List ℕ)) (bytes : List ℕ) (fault : ConfFault) → TellsConfiguration input → IsInput input bytes → IsConfOf bytes (Err fault) → ⊥
+pub configured : (input : Option (List ℕ)) (bytes : List ℕ) (fault : ConfFault) → TellsConfiguration input → IsInput input bytes → IsConfOf bytes (Err fault) → ⊥
 configured input bytes fault tells read bad =
     err_ok (configuration_one bytes (Err fault) (Ok tells.conf) bad (subst (λ (b : List ℕ). IsConfOf b (Ok tells.conf)) (read_is input tells.bytes bytes tells.told read) tells.configured))
 
-not_too_long : (input : Option (List ℕ)) (bytes : List ℕ) → input ≡ Some bytes → length bytes ≤ limit → IsTooLong input → ⊥
+pub not_too_long : (input : Option (List ℕ)) (bytes : List ℕ) → input ≡ Some bytes → length bytes ≤ limit → IsTooLong input → ⊥
 not_too_long None bytes told within long = let never : ⊥ = cc in never
 not_too_long (Some input) bytes told within long = omega (arith, long, subst (λ (b : List ℕ). length b ≤ limit) (sym (some_is told)) within)
 
@@ -104,6 +112,8 @@ completes (status.Script fault) input old new a b p q tells read wrote answer ca
 completes (status.Conf fault) input old new a b p q tells read wrote answer cause = not_refused input answer.bytes tells answer.read (conf_fault_refuses answer.bytes fault answer.why)
 completes status.ReadFault input old new a b p q tells read wrote answer cause = absurd (omega (arith, read, cause.0))
 completes status.WriteFault input old new a b p q tells read wrote answer cause = absurd (omega (arith, wrote, cause.1))
+completes status.LinkFault input old new a b p q tells read wrote answer cause = absurd answer
+completes status.TurnsOver input old new a b p q tells read wrote answer cause = absurd answer
 completes status.TooLong input old new a b p q tells read wrote answer cause = absurd (not_too_long input tells.bytes tells.told tells.in_limit answer.0)
 completes status.NoMemory input old new a b p q tells read wrote answer cause = tt
 
@@ -115,5 +125,7 @@ check_completes (status.Script fault) input old new a b p q tells read wrote ans
 check_completes (status.Conf fault) input old new a b p q tells read wrote answer cause = configured input answer.bytes fault tells answer.read answer.why
 check_completes status.ReadFault input old new a b p q tells read wrote answer cause = absurd (omega (arith, read, cause.0))
 check_completes status.WriteFault input old new a b p q tells read wrote answer cause = absurd (omega (arith, wrote, cause.1))
+check_completes status.LinkFault input old new a b p q tells read wrote answer cause = absurd answer
+check_completes status.TurnsOver input old new a b p q tells read wrote answer cause = absurd answer
 check_completes status.TooLong input old new a b p q tells read wrote answer cause = absurd (not_too_long input tells.bytes tells.told tells.in_limit answer.0)
 check_completes status.NoMemory input old new a b p q tells read wrote answer cause = tt

@@ -1,6 +1,5 @@
--- The store holds what it shall in the lives of a script.
-use Rattle.std.proofs.Common.{ℕ, List, [], ◌∷◌, Option, Some, None, sym, subst}
-use Rattle.std.specs.List.{AllPairs}
+-- The store holds what it shall, in one life and in those of a script.
+use Rattle.std.proofs.Common.{ℕ, Ok, List, [], ◌∷◌, Option, Some, None}
 use Rattle.world.specs.FileLists.{StoreFile, file_name, put_file}
 use Rattle.world.specs.NamedLists.{InNameOrder}
 use Rattle.world.specs.StoreCalls.{StoreTold}
@@ -13,16 +12,20 @@ use Rattle.world_mem.specs.declared.crashes.Pick.TheVariants.{Old, New}
 use Rattle.settings.specs.declared.interfaces.Managed.{Managed}
 use Rattle.script_model.specs.Crashes.{CrashScript}
 use Rattle.script_model.specs.ScriptTexts.{ScriptLines, LifeScript}
-use Rattle.conf_text.specs.Configurations.{Configuration}
+use Rattle.conf_text.specs.Configurations.{Configuration, IsConfOf}
+use Rattle.conf_text.specs.Settings.{managed_of}
+use Rattle.device_calls.specs.Worlds.{World}
+use Rattle.script_model.specs.Scripts.{FitInterfaces}
+use Rattle.net_types.specs.declared.interface.IfSpec.{IfSpec}
 use Rattle.turn_model.specs.FilesInLife.{AreNamedApart}
 use Rattle.turn_model.specs.Foretold.{foretold_life}
 use Rattle.turn_model.proofs.FilesInLifeTurns.{opening_files, turn_files}
 use Rattle.turn_model.proofs.FilesInOrder.{files_left_in_order}
 use Rattle.turn_model.proofs.UnlikeNames.{named_apart}
-use Rattle.dhcpcd.specs.FilesHeld.{AllKeepRightly}
-use Rattle.dhcpcd.specs.Replays.{IsScript, managed_in, Failing, Between, failing_in, at_first, pick_of, store_left, world_in, after_life}
+use Rattle.dhcpcd.specs.FilesHeld.{KeepsRightly, AllKeepRightly}
+use Rattle.dhcpcd.specs.Replays.{IsScript, configuration_text, managed_in, Failing, Between, failing_in, at_first, pick_of, store_left, world_in, after_life}
 use Rattle.dhcpcd.proofs.ManagedApart.{managed_unlike}
-use Rattle.dhcpcd.proofs.Refusals.{spelled_fits, managed_fit}
+use Rattle.dhcpcd.proofs.Refusals.{in_force, ifaces_fit}
 
 -- ---- the files of a store stand in order
 
@@ -49,30 +52,37 @@ crashed_in_order : (crash : Option CrashScript) (told : StoreTold) → InOrder t
 crashed_in_order None told order = order
 crashed_in_order (Some crash) told order = picked_in_order (pick_of crash.kind) told order
 
--- ---- lives
+-- ---- a life with a configuration over these interfaces
+
+module _ (text : List ℕ) (conf : Configuration) (is : IsConfOf text (Ok conf)) (specs : List IfSpec) (fits : FitInterfaces specs) where
+  abbrev managed : List Managed
+  managed = managed_of conf specs
+
+  -- the managed interfaces are some of these, whose names are unlike
+  apart : AreNamedApart managed
+  apart = let all = in_force text conf is specs fits in named_apart managed all.fit (managed_unlike conf specs fits.unlike)
+
+  pub life_keeps : (world : World) → InOrder world.store.told.files → KeepsRightly managed specs world
+  life_keeps world order = record {
+    opening_keeps = opening_files managed apart specs world order;
+    turns_keep = λ earlier given. turn_files managed apart specs world order earlier given;
+  }
+
+-- ---- the lives of a script
 
 module _ (bytes : List ℕ) (script : ScriptLines) (conf : Configuration) (is : IsScript bytes script conf) where
-  abbrev managed : List Managed
-  managed = managed_in script conf
-
-  -- the managed interfaces are some of the script's, whose names are unlike
-  apart : AreNamedApart managed
-  apart =
-      let fits = spelled_fits bytes script is.spelled in
-      named_apart managed (managed_fit bytes script conf is) (managed_unlike conf script.ifaces fits.ifaces.unlike)
+  abbrev in_script : List Managed
+  in_script = managed_in script conf
 
   -- in each life, whatever those before it left
-  keeps_on : (failing : Failing) (between : Between) → InOrder between.store.files → (lives : List LifeScript) → AllKeepRightly managed script.ifaces failing between lives
+  keeps_on : (failing : Failing) (between : Between) → InOrder between.store.files → (lives : List LifeScript) → AllKeepRightly in_script script.ifaces failing between lives
   keeps_on failing between order [] = tt
   keeps_on failing between order (life ∷ lives) = (
-    record {
-      opening_keeps = opening_files managed apart script.ifaces (world_in failing between life) order;
-      turns_keep = λ earlier given. turn_files managed apart script.ifaces (world_in failing between life) order earlier given;
-    },
-    keeps_on failing (after_life managed script.ifaces failing between life)
-        (crashed_in_order life.crash (foretold_life managed script.ifaces (world_in failing between life)).left.store.told
-        (files_left_in_order managed script.ifaces (world_in failing between life) order)) lives,
+    life_keeps (configuration_text script) conf is.configured script.ifaces (ifaces_fit bytes script conf is) (world_in failing between life) order,
+    keeps_on failing (after_life in_script script.ifaces failing between life)
+        (crashed_in_order life.crash (foretold_life in_script script.ifaces (world_in failing between life)).left.store.told
+        (files_left_in_order in_script script.ifaces (world_in failing between life) order)) lives,
   )
 
-  pub keeps_rightly : AllKeepRightly managed script.ifaces (failing_in script.fails) (at_first script.rows script.files script.polls) script.lives
+  pub keeps_rightly : AllKeepRightly in_script script.ifaces (failing_in script.fails) (at_first script.rows script.files script.polls) script.lives
   keeps_rightly = keeps_on (failing_in script.fails) (at_first script.rows script.files script.polls) (put_in_turn [] script.files tt) script.lives

@@ -1,6 +1,6 @@
 -- A child that runs is forgotten.
-use Rattle.std.proofs.Common.{◌≡◌, false, Option, Some}
-use Rattle.world.specs.HookCalls.{Abandons, abandoned}
+use Rattle.std.proofs.Common.{◌≡◌, false, Some}
+use Rattle.world.specs.HookCalls.{Abandons}
 use Rattle.world_mem.specs.HookRecord.{HooksState}
 use Rattle.dhcpcd.specs.Memory.{forgotten}
 

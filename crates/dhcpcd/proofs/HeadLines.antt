@@ -13,12 +13,13 @@ use Rattle.replay_text.proofs.BlockLaws.{parts_line, parts_joined, parts_lack}
 use Rattle.script_model.specs.Lines.{Line}
 use Rattle.script_model.specs.Lines as lines
 use Rattle.device_calls.specs.Printing.{Prints}
+use Rattle.dhcpcd.specs.Living.{last_part, unended}
 use Rattle.device_calls.proofs.Printings.{prints_none, prints_then, prints_same}
 
-last_part : (text : List ℕ) → split_at_byte 10 text ≡ None → (parts : List (List ℕ)) → parts_of text ≡ parts → lines_within parts ≡ []
-last_part text none [] is = refl
-last_part text none (line ∷ []) is = refl
-last_part text none (line ∷ next ∷ parts) is =
+none_within : (text : List ℕ) → split_at_byte 10 text ≡ None → (parts : List (List ℕ)) → parts_of text ≡ parts → lines_within parts ≡ []
+none_within text none [] is = refl
+none_within text none (line ∷ []) is = refl
+none_within text none (line ∷ next ∷ parts) is =
     let free : Lacks 10 line = (subst (AllByRecursion (Lacks 10)) is (parts_lack text)).0 in
     let whole : text ≡ line ++ 10 ∷ join_with_byte 10 (next ∷ parts) = sym (parts_joined text) ∙ ap (join_with_byte 10) is in
     let cut : split_at_byte 10 text ≡ Some (line, join_with_byte 10 (next ∷ parts)) = ap (split_at_byte 10) whole ∙ split_whole 10 line (join_with_byte 10 (next ∷ parts)) free in
@@ -26,7 +27,7 @@ last_part text none (line ∷ next ∷ parts) is =
 
 conf_none : (text : List ℕ) → split_at_byte 10 text ≡ None → conf_lines text ≡ []
 unfolding conf_lines
-conf_none text none = last_part text none (parts_of text) refl
+conf_none text none = none_within text none (parts_of text) refl
 
 -- a text has at least one part
 within : (line : List ℕ) (parts : List (List ℕ)) → (parts ≡ [] → ⊥) → lines_within (line ∷ parts) ≡ line ∷ lines_within parts
@@ -45,25 +46,54 @@ conf_some text line rest e =
     let cut = split_sound 10 text line rest e in
     ap lines_within (ap parts_of cut.0 ∙ parts_line line rest cut.1) ∙ within line (parts_of rest) (some_parts rest)
 
+-- what stands after the last line feed
+unended_in : (text : List ℕ) → split_at_byte 10 text ≡ None → (parts : List (List ℕ)) → parts_of text ≡ parts → last_part parts ≡ text
+unended_in text none [] is = sym (sym (parts_joined text) ∙ ap (join_with_byte 10) is)
+unended_in text none (line ∷ []) is = sym (sym (parts_joined text) ∙ ap (join_with_byte 10) is)
+unended_in text none (line ∷ next ∷ parts) is =
+    let free : Lacks 10 line = (subst (AllByRecursion (Lacks 10)) is (parts_lack text)).0 in
+    let whole : text ≡ line ++ 10 ∷ join_with_byte 10 (next ∷ parts) = sym (parts_joined text) ∙ ap (join_with_byte 10) is in
+    let cut : split_at_byte 10 text ≡ Some (line, join_with_byte 10 (next ∷ parts)) = ap (split_at_byte 10) whole ∙ split_whole 10 line (join_with_byte 10 (next ∷ parts)) free in
+    absurd cc
+
+unended_none : (text : List ℕ) → split_at_byte 10 text ≡ None → unended text ≡ text
+unfolding unended
+unended_none text none = unended_in text none (parts_of text) refl
+
+last_of_more : (line : List ℕ) (parts : List (List ℕ)) → (parts ≡ [] → ⊥) → last_part (line ∷ parts) ≡ last_part parts
+last_of_more line [] some = absurd (some refl)
+last_of_more line (next ∷ parts) some = refl
+
+unended_some : (text line rest : List ℕ) → split_at_byte 10 text ≡ Some (line, rest) → unended text ≡ unended rest
+unfolding unended
+unended_some text line rest e =
+    let cut = split_sound 10 text line rest e in
+    ap last_part (ap parts_of cut.0 ∙ parts_line line rest cut.1) ∙ last_of_more line (parts_of rest) (some_parts rest)
+
 -- what was printed of a configuration so far, and what is left of it
 pub record Prints_so_far (old new conf rest : List ℕ) : Type 0 where
   pub front : List (List ℕ)
   pub printed : Prints old new (map lines.Conf front)
   pub left : conf_lines conf ≡ front ++ conf_lines rest
+  pub last : unended conf ≡ unended rest
 
 pub printed_none : (text conf : List ℕ) → Prints_so_far text text conf conf
-printed_none text conf = record { front = []; printed = prints_none text; left = refl }
+printed_none text conf = record { front = []; printed = prints_none text; left = refl; last = refl }
 
 pub printed_more : (old mid new conf rest line after : List ℕ) → split_at_byte 10 rest ≡ Some (line, after) → Prints_so_far old mid conf rest → Prints mid new (lines.Conf line ∷ []) → Prints_so_far old new conf after
 printed_more old mid new conf rest line after e p q = record {
   front = p.front ++ line ∷ [];
   printed = prints_same (prints_then p.printed q) (sym (map-append lines.Conf p.front (line ∷ [])));
   left = p.left ∙ ap (λ (ls : List (List ℕ)). p.front ++ ls) (conf_some rest line after e) ∙ sym (append_assoc p.front (line ∷ []) (conf_lines after));
+  last = p.last ∙ unended_some rest line after e;
 }
 
 pub printed_all : (old new conf rest : List ℕ) → split_at_byte 10 rest ≡ None → Prints_so_far old new conf rest → Prints old new (map lines.Conf (conf_lines conf))
 printed_all old new conf rest none p =
     prints_same p.printed (ap (map lines.Conf) (sym (p.left ∙ ap (λ (ls : List (List ℕ)). p.front ++ ls) (conf_none rest none) ∙ append-nil p.front)))
+
+pub rest_is : (old new conf rest : List ℕ) → split_at_byte 10 rest ≡ None → Prints_so_far old new conf rest → rest ≡ unended conf
+rest_is old new conf rest none p = sym (p.last ∙ unended_none rest none)
 
 pub rest_smaller : (rest line after : List ℕ) → split_at_byte 10 rest ≡ Some (line, after) → length after < length rest
 rest_smaller rest line after e = split_smaller 10 rest line after e

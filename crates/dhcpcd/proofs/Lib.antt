@@ -15,4 +15,5 @@ pub mod Forgetting
 pub mod HostRightly
 pub mod FilesRightly
 pub mod Replayed
+pub mod LiveAnswers
 pub mod LinesApart

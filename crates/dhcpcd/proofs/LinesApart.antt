@@ -1,13 +1,13 @@
 -- Hooks change nothing else: lives over devices that are the same but for their hooks have the same other lines.
 use Rattle.std.proofs.Common.{ℕ, ◌≡◌, ◌+◌, Bool, true, false, List, [], ◌∷◌, ◌++◌, map, length, Option, Some, None, refl, sym, ap, ap₂, ◌∙◌, append-nil}
-use Rattle.std.specs.Prelude.{filter, flat_map, if◌then◌else◌}
+use Rattle.std.specs.Prelude.{flat_map, if◌then◌else◌}
 use Rattle.std.proofs.lemmas.List.Elements.{filter-append}
 use Rattle.net_types.specs.declared.interface.IfSpec.{IfSpec}
 use Rattle.world.specs.declared.rows.HostRow.{HostRow}
-use Rattle.world.specs.HookCalls.{HooksTold, HookCall, Started, Polled, Abandoned, Variable}
-use Rattle.world.specs.HostCalls.{HostCall, HostTold, Listed, Added, Removed}
-use Rattle.world.specs.LinkCalls.{LinkCall, Waited, Offered}
-use Rattle.world.specs.StoreCalls.{StoreCall, ListedAsides, ReadFile, WroteAside, SyncedAside, RenamedAside, RemovedFile, SettledFiles}
+use Rattle.world.specs.HookCalls.{HooksTold, Started, Polled, Abandoned, Variable}
+use Rattle.world.specs.HostCalls.{Listed, Added, Removed}
+use Rattle.world.specs.LinkCalls.{Waited, Offered}
+use Rattle.world.specs.StoreCalls.{ListedAsides, ReadFile, WroteAside, SyncedAside, RenamedAside, RemovedFile, SettledFiles}
 use Rattle.settings.specs.declared.interfaces.Managed.{Managed}
 use Rattle.client_model.specs.Clients.{rows_of}
 use Rattle.script_model.specs.declared.failing.FailDevice.TheVariants.{Hooks}
@@ -18,7 +18,6 @@ use Rattle.script_model.specs.ScriptTexts.{ScriptLines, LifeScript}
 use Rattle.conf_text.specs.Configurations.{Configuration}
 use Rattle.device_calls.specs.Calls.{Call, Link, Host, Store, Hook, Dropped}
 use Rattle.device_calls.specs.CallLines.{lines_of, variable_line}
-use Rattle.device_calls.specs.Worlds.{Told, World}
 use Rattle.turn_model.specs.Turns.{Life}
 use Rattle.turn_model.specs.Lives.{OpeningMet, Met, life_after, opening_lines, turn_lines, closing_lines, hold_lines, life_lines}
 use Rattle.turn_model.specs.Foretold.{ForetoldLife, foretold_life}

@@ -1,7 +1,6 @@
 -- What is refused is no script, since bytes are read in one way.
-use Rattle.std.proofs.Common.{ℕ, ◌≡◌, List, Ok, Err, sym, subst, ◌∙◌}
+use Rattle.std.proofs.Common.{ℕ, ◌≡◌, List, Ok, Err, subst}
 use Rattle.std.specs.Prelude.{Result}
-use Rattle.net_types.specs.FirstBadLine.{IsSpelled}
 use Rattle.lease_text.proofs.SpelledOnce.{no_bad_line}
 use Rattle.script_model.specs.ScriptTexts.{ScriptLines}
 use Rattle.replay_text.specs.FirstFaults.{IsFault}

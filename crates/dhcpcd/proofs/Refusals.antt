@@ -1,16 +1,16 @@
 -- Why bytes aren't replayed.
-use Rattle.std.proofs.Common.{ℕ, ◌≡◌, ◌≤◌, ◌+◌, List, [], ◌∷◌, length, arith, Option, Some, None, Ok, Err, refl, sym, ap, subst, ◌∙◌}
+use Rattle.std.proofs.Common.{ℕ, ◌≡◌, ◌≤◌, ◌+◌, List, [], ◌∷◌, length, arith, Ok, Err, sym, subst}
 use Rattle.std.specs.List.{AllByRecursion}
 use Rattle.net_types.specs.declared.interface.IfSpec.{IfSpec}
 use Rattle.settings.specs.Fitting.{AreManaged}
-use Rattle.settings.specs.ManagedRows.{SharesAreManaged}
 use Rattle.script_model.specs.ScriptTexts.{ScriptLines}
-use Rattle.script_model.specs.Scripts.{CountsFrom, FitsScript}
+use Rattle.script_model.specs.Scripts.{CountsFrom, FitInterfaces, FitsScript}
 use Rattle.replay_text.specs.declared.script.Script.{Script}
 use Rattle.replay_text.specs.ScriptContent.{script_of, HoldsLines}
 use Rattle.conf_text.specs.Configurations.{Configuration, IsConfOf}
 use Rattle.conf_text.specs.Contents.{configuration}
 use Rattle.conf_text.specs.Fits.{AreInForce, FitsSpec}
+use Rattle.conf_text.specs.Settings.{managed_of}
 use Rattle.conf_text.proofs.ConfFits.{settings_fit}
 use Rattle.dhcpcd.specs.declared.settling.Settled.{Settled}
 use Rattle.dhcpcd.specs.declared.status.Status.{Status}
@@ -42,6 +42,8 @@ refused_unread (status.Script fault) bytes refused = refused
 refused_unread (status.Conf fault) bytes refused = absurd refused
 refused_unread status.ReadFault bytes refused = absurd refused
 refused_unread status.WriteFault bytes refused = absurd refused
+refused_unread status.LinkFault bytes refused = absurd refused
+refused_unread status.TurnsOver bytes refused = absurd refused
 refused_unread status.TooLong bytes refused = absurd refused
 refused_unread status.NoMemory bytes refused = tt
 
@@ -56,6 +58,8 @@ refused_conf (status.Conf fault) bytes script read refused = record {
 }
 refused_conf status.ReadFault bytes script read refused = absurd refused
 refused_conf status.WriteFault bytes script read refused = absurd refused
+refused_conf status.LinkFault bytes script read refused = absurd refused
+refused_conf status.TurnsOver bytes script read refused = absurd refused
 refused_conf status.TooLong bytes script read refused = absurd refused
 refused_conf status.NoMemory bytes script read refused = tt
 
@@ -79,17 +83,17 @@ specs_fit index (spec ∷ specs) low high counts =
     let number : spec.index.number ≡ index = counts.0 in
     (record { index = (omega arith, omega arith); name = counts.1; mac = counts.2 }, specs_fit (index + 1) specs (omega arith) (omega arith) counts.3)
 
-in_force : (bytes : List ℕ) (script : ScriptLines) (conf : Configuration) → IsScript bytes script conf → AreInForce (managed_in script conf)
-in_force bytes script conf is =
-    let fits = spelled_fits bytes script is.spelled in
-    let ifaces = fits.ifaces in
-    settings_fit (configuration_text script) conf is.configured script.ifaces (specs_fit 1 script.ifaces (omega arith) (omega (arith, ifaces.few)) ifaces.counted)
+-- what a configuration has in force fits, and shares lead to managed interfaces
+pub in_force : (text : List ℕ) (conf : Configuration) → IsConfOf text (Ok conf) → (specs : List IfSpec) → FitInterfaces specs → AreInForce (managed_of conf specs)
+in_force text conf is specs fits =
+    settings_fit text conf is specs (specs_fit 1 specs (omega arith) (omega (arith, fits.few)) fits.counted)
+
+pub ifaces_fit : (bytes : List ℕ) (script : ScriptLines) (conf : Configuration) → IsScript bytes script conf → FitInterfaces script.ifaces
+ifaces_fit bytes script conf is = let fits = spelled_fits bytes script is.spelled in fits.ifaces
 
 pub managed_fit : (bytes : List ℕ) (script : ScriptLines) (conf : Configuration) → IsScript bytes script conf → AreManaged (managed_in script conf)
-managed_fit bytes script conf is = let all = in_force bytes script conf is in all.fit
-
-pub shares_managed : (bytes : List ℕ) (script : ScriptLines) (conf : Configuration) → IsScript bytes script conf → SharesAreManaged (managed_in script conf)
-shares_managed bytes script conf is = let all = in_force bytes script conf is in all.shares
+managed_fit bytes script conf is =
+    let all = in_force (configuration_text script) conf is.configured script.ifaces (ifaces_fit bytes script conf is) in all.fit
 
 pub settled_fit : (bytes : List ℕ) (s : Settled) → IsSettled bytes s → AreManaged s.managed.items
 settled_fit bytes s is = subst AreManaged (sym is.managed) (managed_fit bytes (script_of s.script) (configuration s.conf) is.is_script)

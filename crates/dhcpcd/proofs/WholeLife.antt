@@ -71,19 +71,19 @@ module _ (managed : List Managed) (specs : List IfSpec) (failing : Failing) (bet
   unfolding lines_in
   told_lines seen opening mets first told = let are : IsLifeOf opening mets here = told_life seen opening mets first told in sym (λ i. life_lines (are.opening_is i) (are.mets_are i))
 
-  pub served_life : (seen new_seen : Seen) (old new : Option (List ℕ)) → IsFirst seen → (served : Served managed specs seen new_seen old new) → IsLifeOf served.opening served.mets here
-  served_life seen new_seen old new first served = told_life seen served.opening served.mets first served.foretold
+  pub served_life : (seen new_seen : Seen) (old new : Option (List ℕ)) → IsFirst seen → (allowed : ℕ) (served : Served allowed managed specs seen new_seen old new) → IsLifeOf served.opening served.mets here
+  served_life seen new_seen old new first allowed served = told_life seen served.opening served.mets first served.foretold
 
-  pub lived : (seen new_seen : Seen) (old new : Option (List ℕ)) → IsFirst seen → Served managed specs seen new_seen old new → WritesLines old new its_lines
-  lived seen new_seen old new first served = subst (λ (l : List Line). WritesLines old new l) (told_lines seen served.opening served.mets first served.foretold) served.written
+  pub lived : (seen new_seen : Seen) (old new : Option (List ℕ)) → IsFirst seen → (allowed : ℕ) → Served allowed managed specs seen new_seen old new → WritesLines old new its_lines
+  lived seen new_seen old new first allowed served = subst (λ (l : List Line). WritesLines old new l) (told_lines seen served.opening served.mets first served.foretold) served.written
 
-  module _ (seen new_seen : Seen) (first : IsFirst seen) (old new : Option (List ℕ)) where
+  module _ (seen new_seen : Seen) (first : IsFirst seen) (allowed : ℕ) (old new : Option (List ℕ)) where
     cut_in_opening : (end : ServeEnd) → CutOpening end managed specs seen new_seen old new → WritesFront old new [] its_lines
     cut_in_opening end cut =
         subst (λ (l : List Line). WritesFront old new [] l) (told_lines seen cut.opening cut.rest first cut.foretold)
         (front_wider old new [] (opening_lines cut.opening) (flat_map turn_lines cut.rest ++ closing_lines (life_after cut.opening.life cut.rest)) cut.written)
 
-    cut_later : (end : ServeEnd) → CutLife end managed specs seen new_seen old new → WritesFront old new [] its_lines
+    cut_later : (end : ServeEnd) → CutLife end allowed managed specs seen new_seen old new → WritesFront old new [] its_lines
     cut_later end cut =
         subst (λ (l : List Line). WritesFront old new [] l) (told_lines seen cut.opening (cut.mets ++ turns_left cut.at) first cut.foretold)
         (front_of_life cut.opening cut.mets cut.at old new cut.written)
@@ -92,7 +92,7 @@ module _ (managed : List Managed) (specs : List IfSpec) (failing : Failing) (bet
     untouched same = subst (λ (o : Option (List ℕ)). WritesFront old o [] its_lines) (sym same) (front_none old its_lines)
 
     -- a write failed in the life, or memory was wanted
-    pub stops_life : (end : ServeEnd) → (end ≡ ends.WriteFault) ⊎ (end ≡ ends.NoMemory) → Leaves end managed specs seen new_seen old new → WritesFront old new [] its_lines
+    pub stops_life : (end : ServeEnd) → (end ≡ ends.WriteFault) ⊎ (end ≡ ends.NoMemory) → Leaves end allowed managed specs seen new_seen old new → WritesFront old new [] its_lines
     stops_life ends.End is leaves = ⊎_elim (λ e. absurd cc) (λ e. absurd cc) is
     stops_life ends.TurnsOver is cut = cut_later ends.TurnsOver cut
     stops_life ends.LinkFault is leaves = ⊎_elim (λ unbegun. untouched unbegun.0) (cut_later ends.LinkFault) leaves

@@ -47,5 +47,7 @@ IsCheckAnswer (status.Script fault) input old new = ⊥
 IsCheckAnswer (status.Conf fault) input old new = IsRefusal (λ bytes. IsConfOf bytes (Err fault)) input old new
 IsCheckAnswer status.ReadFault input old new = new ≡ old
 IsCheckAnswer status.WriteFault input old new = IsCheckStopped input old new
+IsCheckAnswer status.LinkFault input old new = ⊥
+IsCheckAnswer status.TurnsOver input old new = ⊥
 IsCheckAnswer status.TooLong input old new = IsTooLong input × (new ≡ old)
 IsCheckAnswer status.NoMemory input old new = (new ≡ old) ⊎ IsCheckStopped input old new

@@ -1,5 +1,5 @@
 -- Hooks change nothing else in the transcripts of scripts.
-use Rattle.std.specs.Prelude.{ℕ, ◌≡◌, Bool, true, false, List, filter}
+use Rattle.std.specs.Prelude.{◌≡◌, Bool, true, false, List, filter}
 use Rattle.script_model.specs.declared.failing.FailDevice.TheVariants.{Link, Host, Store}
 use Rattle.script_model.specs.FailingCalls.{failing_calls}
 use Rattle.script_model.specs.Lines.{Line, HookPolled, HookAbandoned, HookDropped, HookStarted, Variable, Until}

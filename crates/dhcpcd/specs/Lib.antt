@@ -3,6 +3,7 @@ pub mod Memory
 pub mod Replays
 pub mod HooksApart
 pub mod Carried
+pub mod Sound
 pub mod HostHeld
 pub mod FilesHeld
 pub mod Refusals
@@ -10,4 +11,5 @@ pub mod Settling
 pub mod Statuses
 pub mod Checks
 pub mod Words
+pub mod Living
 pub mod Asked

@@ -1,8 +1,7 @@
 -- Why an input is refused.
-use Rattle.std.specs.Prelude.{ℕ, ◌≡◌, ◌≤◌, ◌⊎◌, List, length, Option, Some, Ok, Err}
+use Rattle.std.specs.Prelude.{ℕ, ◌≡◌, ◌≤◌, List, length, Option, Err}
 use Rattle.script_model.specs.ScriptTexts.{ScriptLines}
 use Rattle.replay_text.specs.FirstFaults.{IsFault}
-use Rattle.replay_text.specs.declared.script.ScriptFault.{ScriptFault}
 use Rattle.conf_text.specs.Configurations.{Configuration, IsConfOf}
 use Rattle.conf_text.specs.declared.answers.ConfFault.{ConfFault}
 use Rattle.dhcpcd.specs.declared.status.Status.{Status}

@@ -139,8 +139,12 @@ lives_lines managed specs failing between (life ∷ lives) =
 abbrev pub notice_line : NoticeContent → Line
 notice_line notice = lines.Notice notice.line notice.word
 
+-- what precedes lives: the lines of the configuration, those of it that do nothing, and the interfaces
+abbrev pub heading : (conf : List (List ℕ)) → List NoticeContent → List IfSpec → List Line
+heading conf notices specs = lines.Head ∷ (map lines.Conf conf ++ (map notice_line notices ++ map lines.Interface specs))
+
 unfoldable pub head_lines : ScriptLines → List NoticeContent → List Line
-head_lines script notices = lines.Head ∷ (map lines.Conf script.conf ++ (map notice_line notices ++ map lines.Interface script.ifaces))
+head_lines script notices = heading script.conf notices script.ifaces
 
 -- the lives with these managed interfaces; others are told of, and left alone
 abbrev pub lives_of_script : List Managed → ScriptLines → List Line

@@ -20,6 +20,8 @@ status_number (status.Script fault) = 3
 status_number (status.Conf fault) = 4
 status_number status.ReadFault = 5
 status_number status.WriteFault = 6
+status_number status.LinkFault = 7
+status_number status.TurnsOver = 8
 status_number status.TooLong = 9
 status_number status.NoMemory = 10
 
@@ -62,6 +64,8 @@ IsAnswer (status.Script fault) input old new = IsRefusal (λ bytes. IsFault byte
 IsAnswer (status.Conf fault) input old new = IsRefusal (λ bytes. IsConfFault bytes fault) input old new
 IsAnswer status.ReadFault input old new = new ≡ old
 IsAnswer status.WriteFault input old new = IsStopped input old new
+IsAnswer status.LinkFault input old new = ⊥
+IsAnswer status.TurnsOver input old new = ⊥
 IsAnswer status.TooLong input old new = IsTooLong input × (new ≡ old)
 IsAnswer status.NoMemory input old new = (new ≡ old) ⊎ IsStopped input old new
 

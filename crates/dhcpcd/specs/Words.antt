@@ -1,5 +1,7 @@
 -- What the words of the program ask for.
 use Rattle.std.specs.Prelude.{ℕ, ◌≡◌, ◌⊎◌, List, [], ◌∷◌, codes}
+use Rattle.net_types.specs.declared.interface.IfSpec.{IfSpec}
+use Rattle.live_words.specs.LiveWords.{AsksLive}
 
 -- the words are `replay` alone
 abbrev pub AskReplay : List (List ℕ) → Type 0
@@ -9,6 +11,10 @@ AskReplay words = words ≡ codes "replay" ∷ []
 abbrev pub AskCheck : List (List ℕ) → Type 0
 AskCheck words = words ≡ codes "check" ∷ []
 
+-- the words are `live`, its ports, a folder, a script and interfaces
+abbrev pub AskLive : List (List ℕ) → Type 0
+AskLive words = (specs : List IfSpec) × AsksLive words specs
+
 -- the words are of one of these forms
 abbrev pub AskWork : List (List ℕ) → Type 0
-AskWork words = AskReplay words ⊎ AskCheck words
+AskWork words = AskReplay words ⊎ (AskCheck words ⊎ AskLive words)

@@ -6,6 +6,7 @@ mod heads;
 mod input;
 mod laws;
 mod lives;
+mod living;
 mod memory;
 mod replaying;
 mod running;

@@ -18,6 +18,10 @@ pub enum Status {
     Conf(ConfFault),
     ReadFault,
     WriteFault,
+    /// The link couldn't begin, or a wait of it failed.
+    LinkFault,
+    /// As many wakes as were allowed were handled.
+    TurnsOver,
     /// The input is longer than its limit.
     TooLong,
     NoMemory,
@@ -45,6 +49,8 @@ impl Status {
             Status::Conf(_) => 4,
             Status::ReadFault => 5,
             Status::WriteFault => 6,
+            Status::LinkFault => 7,
+            Status::TurnsOver => 8,
             Status::TooLong => 9,
             Status::NoMemory => 10,
         }

@@ -1,7 +1,9 @@
 use crate::{Status, run};
+use daemon::Devices;
 use std::alloc::Global;
 use std::test::Fail;
-use world_mem::{MemSink, MemSource};
+use world::{Begin, Event, Wake};
+use world_mem::{MemHooks, MemHost, MemLink, MemSink, MemSource, MemStore, MemWake};
 
 const SCRIPT: &[u8] = b"dhcpcd-script 1\nstart 0 0 up -\nturn 5 0 quiet\n";
 
@@ -16,13 +18,46 @@ struct Failing {
     writes: &'static [u64],
 }
 
+/// Empty devices in memory, over which all interfaces have carrier at the moment 0. These events come, by their moments, and then nothing more.
+fn devices(
+    alloc: Global,
+    events: &[(u64, Event)],
+    failing_waits: &[u64],
+) -> Result<Devices<MemLink, MemStore, MemHost, MemHooks>, Fail> {
+    let begin = Begin {
+        at: 0,
+        salt: 0,
+        up: 1,
+    };
+    let mut wakes = Vec::new(alloc);
+    for (at, event) in events {
+        let wake = Wake {
+            at: *at,
+            salt: 0,
+            event: *event,
+        };
+        wakes.push(MemWake {
+            wake,
+            bytes: Vec::new(alloc),
+        })?;
+    }
+    let (sends, waits) = (Vec::new(alloc), failing_waits.to_vec(alloc)?);
+    Ok(Devices {
+        link: MemLink::new(alloc, begin, wakes, 0, sends, waits),
+        store: MemStore::new(alloc, Vec::new(alloc), Vec::new(alloc))?,
+        host: MemHost::new(alloc, Vec::new(alloc), Vec::new(alloc))?,
+        hooks: MemHooks::new(alloc, Vec::new(alloc), Vec::new(alloc)),
+    })
+}
+
 /// What replaying the script answers over such streams, and what stands written then.
 fn answer(alloc: Global, failing: &Failing) -> Result<(Status, MemSink), Fail> {
     let words = vec![in alloc; "replay".to_string(alloc)?]?;
     let bytes = SCRIPT.to_vec(alloc)?;
     let mut input = MemSource::new(alloc, bytes, failing.reads.to_vec(alloc)?);
     let mut out = MemSink::new(alloc, failing.writes.to_vec(alloc)?);
-    let status = run(alloc, &words, &mut input, &mut out);
+    let mut devices = devices(alloc, &[], &[])?;
+    let status = run(alloc, &words, &mut input, &mut out, &mut devices, 0);
     Ok((status, out))
 }
 
@@ -47,5 +82,65 @@ fn keeps_whole_turns_where_a_write_fails(rt: HostRuntime) -> Result<(), Fail> {
     let (status, out) = answer(rt.alloc(), &failing)?;
     assert_eq!(rt; status, Status::WriteFault);
     assert_eq!(rt; out.bytes(), FIRST_WRITES);
+    Ok(())
+}
+
+const LIVE: [&str; 6] = [
+    "live",
+    "4000",
+    "4001",
+    "folder",
+    "script",
+    "eth0=02:00:00:00:00:01",
+];
+
+/// What a life with an interface answers that isn't managed, over a link that brings these events, and what stands written then.
+fn lived(
+    alloc: Global,
+    events: &[(u64, Event)],
+    failing_waits: &[u64],
+    turns: u64,
+) -> Result<(Status, MemSink), Fail> {
+    let mut words = Vec::new(alloc);
+    for word in LIVE {
+        words.push(String::from_str(alloc, word)?)?;
+    }
+    let conf = b"denyinterfaces eth0\n".to_vec(alloc)?;
+    let mut input = MemSource::new(alloc, conf, Vec::new(alloc));
+    let mut out = MemSink::new(alloc, Vec::new(alloc));
+    let mut devices = devices(alloc, events, failing_waits)?;
+    let status = run(alloc, &words, &mut input, &mut out, &mut devices, turns);
+    Ok((status, out))
+}
+
+#[test]
+fn ends_a_life_when_its_turns_are_over(rt: HostRuntime) -> Result<(), Fail> {
+    let (status, out) = lived(rt.alloc(), &[(5, Event::Quiet)], &[], 0)?;
+    assert_eq!(rt; status, Status::TurnsOver);
+    assert!(rt; out.bytes().ends_with(b"\nuntil none\n"));
+    Ok(())
+}
+
+#[test]
+fn ends_a_life_when_the_link_fails(rt: HostRuntime) -> Result<(), Fail> {
+    let (status, _) = lived(rt.alloc(), &[(5, Event::Quiet)], &[1], 9)?;
+    assert_eq!(rt; status, Status::LinkFault);
+    Ok(())
+}
+
+#[test]
+fn ends_a_life_five_seconds_after_the_stop(rt: HostRuntime) -> Result<(), Fail> {
+    let events = [
+        (7000, Event::Stop),
+        (8000, Event::Quiet),
+        (12000, Event::Quiet),
+        (12001, Event::Quiet),
+    ];
+    let (status, out) = lived(rt.alloc(), &events, &[], 9)?;
+    assert_eq!(rt; status, Status::Done);
+    assert!(rt;
+        out.bytes()
+            .ends_with(b"\nturn 12000 0 quiet\nuntil 12000\nend\n")
+    );
     Ok(())
 }

@@ -3,13 +3,17 @@ ghost use Rattle.std.specs.Prelude.{◌≡◌, [], ◌∷◌, true, map};
 ghost use Rattle.std.specs.String.{string_bytes};
 ghost use Rattle.dhcpcd.specs.Asked.{AsksFor};
 
+use live_words::{Interfaces, live_words};
+
 /// A work of the top call.
-#[derive(Clone, Copy, Debug, PartialEq, Eq)]
+#[derive(Drop)]
 pub enum Work {
     /// `replay`: a script is read, and its transcript written.
     Replay,
     /// `check`: a configuration is read, and its notices are written.
     Check,
+    /// `live`: a configuration is read, and these interfaces are run.
+    Live(Interfaces),
 }
 
 fn is_same(given: &str, word: &str) -> bool
@@ -41,5 +45,5 @@ pub fn work_of(words: &[String]) -> Option<Work>
     if is_alone(words, "check") {
         return Some(Work::Check);
     }
-    None
+    Some(Work::Live(live_words(words)?))
 }

@@ -7,9 +7,10 @@ ghost use Rattle.daemon.specs.Streams.{WritesFront};
 ghost use Rattle.daemon.specs.Streams.{WritesLines};
 ghost use Rattle.daemon.specs.Streams.{WritesBytes, WritesSome};
 ghost use Rattle.dhcpcd.specs.Replays.{head_lines};
+ghost use Rattle.dhcpcd.specs.Living.{live_head};
 ghost use Rattle.dhcpcd.specs.Statuses.{HasStatusCause, StopsWriting};
 
-use crate::heads::{say, say_head};
+use crate::heads::{Start, say, say_head, say_live_head};
 use crate::status::Status;
 use conf_text::Notice;
 use replay_text::Script;
@@ -63,6 +64,21 @@ pub fn begin_life<O: Sink>(alloc: Global, number: u64, out: &mut O) -> Result<()
 {
     let mut text = Vec::new(alloc);
     say(&TranscriptLine::Life(number), &mut text)?;
+    write_text(out, &text)?;
+    Ok(())
+}
+
+/// Writes the lines before the one life of `live`, in one call.
+#[tactic(auto, using(crate::proofs::WholeLife::head_written, crate::proofs::WholeLife::front_of_head, daemon::proofs::CutOffs::front_none))]
+pub fn write_live_head<O: Sink>(alloc: Global, start: &Start<'_>, out: &mut O) -> Result<(), Status>
+    ensures ok { IfOk result (λ _. (O.faults out.old ≤ O.faults out.new) × WritesLines (O.written out.old) (O.written out.new) (live_head start.now.text.now (map notice_content start.now.notices.now) start.now.specs.now)) }
+    ensures front { IfErr result (λ _. WritesFront (O.written out.old) (O.written out.new) [] (live_head start.now.text.now (map notice_content start.now.notices.now) start.now.specs.now)) }
+    ensures cause { IfErr result (λ status. HasStatusCause status 0 0 (O.faults out.old) (O.faults out.new) × StopsWriting status) }
+    ensures steady { O.never_fails out.old ≡ true → O.faults out.new ≡ O.faults out.old }
+    ensures stays { O.never_fails out.new ≡ O.never_fails out.old }
+{
+    let mut text = Vec::new(alloc);
+    say_live_head(start, &mut text)?;
     write_text(out, &text)?;
     Ok(())
 }

@@ -1,16 +1,21 @@
-//! The program: it makes the standard streams, says what it is where that alone is asked, and ends with the status of
+//! The program: it makes the standard streams and the devices, says what it is where that alone is asked, and ends with the status of
 //! the top call.
 #![tactic(auto)]
 
+mod devices;
 mod questions;
 mod saying;
 mod streams;
 mod telling;
+#[cfg(test)]
+mod tests;
 
+use devices::devices;
 use dhcpcd::{Status, run};
 use questions::{Question, asked};
 use saying::say;
 use std::env;
+use std::io::ErrorKind;
 use std::process::ExitCode;
 use streams::{StdSink, StdSource};
 use telling::{HELP, VERSION, tell};
@@ -24,20 +29,40 @@ fn words(rt: &HostRuntime) -> std::io::Result<Vec<String>> {
     Ok(words)
 }
 
+/// How many wakes a life may handle: more than come in thirty years, if one comes each second.
+const TURNS: u64 = 1_000_000_000;
+
+/// Does the program's work.
+fn work(rt: &HostRuntime, words: &[String], out: &mut StdSink) -> Status {
+    let mut input = StdSource::new(rt.stdin());
+    match devices(rt, words) {
+        Ok(mut devices) => run(rt.alloc(), words, &mut input, out, &mut devices, TURNS),
+        Err(_) => Status::NoMemory,
+    }
+}
+
 /// Answers what the words ask.
 fn answer(rt: &HostRuntime, words: &[String]) -> Status {
     let mut out = StdSink::new(rt.stdout());
     match asked(words) {
         Question::Help => tell(&mut out, HELP),
         Question::Version => tell(&mut out, VERSION),
-        Question::Work => run(rt.alloc(), words, &mut StdSource::new(rt.stdin()), &mut out),
+        Question::Work => work(rt, words, &mut out),
+    }
+}
+
+/// Why the words couldn't be had: memory ran out, or one isn't text, and then they are of no form.
+fn unread(kind: ErrorKind) -> Status {
+    match kind {
+        ErrorKind::InvalidData => Status::Usage,
+        _ => Status::NoMemory,
     }
 }
 
 fn main(rt: HostRuntime) -> ExitCode {
     let status = match words(&rt) {
         Ok(words) => answer(&rt, &words),
-        Err(_) => Status::NoMemory,
+        Err(error) => unread(error.kind()),
     };
     say(&rt, status);
     ExitCode::from(status.number())

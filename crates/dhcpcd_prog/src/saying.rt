@@ -17,6 +17,8 @@ fn line(rt: &HostRuntime, status: Status) -> Result<()> {
         }
         Status::ReadFault => eprintln!(rt; "dhcpcd: read failed"),
         Status::WriteFault => eprintln!(rt; "dhcpcd: write failed"),
+        Status::LinkFault => eprintln!(rt; "dhcpcd: link failed"),
+        Status::TurnsOver => eprintln!(rt; "dhcpcd: turns used up"),
         Status::TooLong => eprintln!(rt; "dhcpcd: input too long"),
         Status::NoMemory => eprintln!(rt; "dhcpcd: no memory"),
     }

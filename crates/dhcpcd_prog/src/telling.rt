@@ -5,26 +5,33 @@ use dhcpcd::{Status, write_text};
 use world::Sink;
 
 /// What `--help` prints.
-pub const HELP: &str = "dhcpcd: a DHCP client daemon; so far it replays event scripts
+pub const HELP: &str = "dhcpcd: a DHCP client daemon
 
 usage: dhcpcd replay < SCRIPT > TRANSCRIPT
        dhcpcd check < CONFIGURATION
+       dhcpcd live PORT PEER DIR SCRIPT IFACE.. < CONFIGURATION > TRANSCRIPT
        dhcpcd --help
        dhcpcd --version
 
 replay reads a script from standard input, lives it over devices in memory, and
 writes the transcript of every call to standard output. check reads a
 configuration, writes a line for each word of it that does nothing, and then ok.
+live reads a configuration to its end and then runs the interfaces until a stop:
+each IFACE is NAME=ADDRESS, and its frames are datagrams between the ports PORT
+and PEER of 127.0.0.1. Files lie in DIR; SCRIPT keeps the addresses and routes of
+the host, and is the hook where the configuration names none. contrib/linux has
+what makes real interfaces of this, and its README.md how to begin.
 An input has at most 16777216 bytes.
-The words `live PORT PEER DIR SCRIPT IFACE..` aren't built yet.
 
 exit status, with a line on standard error for each but 0:
-   0  all was read and written
+   0  all was read and written; a life ended
    2  the words are of no form
    3  the input is no script; its first bad line is told
    4  the configuration has a bad line; it is told, counted within it
    5  standard input can't be read
    6  standard output can't be written
+   7  the link can't be had, or failed
+   8  as many wakes as are allowed were handled
    9  the input is too long
   10  no memory
 ";

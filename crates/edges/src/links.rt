@@ -44,6 +44,14 @@ fn patience(until: Option<u64>, now: u64) -> u64
     }
 }
 
+/// Whether a wait is over without a datagram: its time ran out, or a signal cut it short, as after a pause of the process.
+fn is_over(kind: ErrorKind) -> bool {
+    matches!(
+        kind,
+        ErrorKind::WouldBlock | ErrorKind::TimedOut | ErrorKind::Interrupted
+    )
+}
+
 /// The port that a word names; 0 where it names none.
 fn port_of(word: &str) -> u16 {
     word.parse().unwrap_or(0)
@@ -104,7 +112,7 @@ impl<R: Net + Clock + AllocGlobal + Drop> Wire<R> {
         match socket.recv_from(datagram) {
             Ok((len, sender)) if sender == self.peer() => Ok(Some(len)),
             Ok(_) => Ok(None),
-            Err(error) if error.kind() == ErrorKind::WouldBlock => Ok(None),
+            Err(error) if is_over(error.kind()) => Ok(None),
             Err(_) => Err(Failed),
         }
     }

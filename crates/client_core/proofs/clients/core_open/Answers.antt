@@ -1,21 +1,22 @@
-use Rattle.std.proofs.Common.{List, [], ap, map, subst, sym, ◌∙◌}
+use Rattle.std.proofs.Common.{List, [], map, subst, sym}
 use Rattle.machine.specs.Moment.{moment_of}
 use Rattle.net_types.specs.declared.address.Mac.{Mac}
+use Rattle.client_model.specs.declared.interfaces.Iface.{Iface}
 use Rattle.client_model.specs.Interfaces.{opened}
 use Rattle.client_model.specs.Clients.{joined}
 use Rattle.client_model.specs.Fitting.{AreIfaces}
-use Rattle.client_model.specs.WantedRows.{iface_rows}
 use Rattle.iface_core.specs.Beginnings.{beginning_of}
 use Rattle.iface_core.specs.Outcomes.{asked_in}
+use Rattle.client_core.specs.Running.{IsRunning}
 use Rattle.client_core.specs.Stepping.{Steps}
 use Rattle.client_core.proofs.Joined.{joined_steps, joined_on}
 use Rattle.client_core.proofs.clients.core_open.Goals as goal
 
-pub tables_of-requires : goal.tables_of-requires
-tables_of-requires c = subst AreIfaces (sym c.deref.ensures.value) c.in_ok-ifaces.ensures.fit
+pub of-requires : goal.of-requires
+of-requires c = subst AreIfaces (sym c.deref.ensures.value) c.in_ok-ifaces.ensures.fit
 
 pub invariant_of-core : goal.invariant_of-core
-invariant_of-core c = record { fit = c.in_ok-ifaces.ensures.fit; brings = c.in_ok-tables.ensures ∙ ap (map iface_rows) c.deref.ensures.value }
+invariant_of-core c = subst (λ (ifaces : List Iface). IsRunning ifaces c.in_ok-kept.kept) c.deref.ensures.value c.in_ok-kept.ensures
 
 pub returns-clause-steps : goal.returns-clause-steps
 returns-clause-steps c =

@@ -1,4 +1,4 @@
-use Rattle.std.proofs.Common.{◌≡◌, sym, subst}
+use Rattle.std.proofs.Common.{◌≡◌, refl, sym, subst}
 use Rattle.std.specs.Prelude.{map}
 use Rattle.world.specs.HookCalls.{job_of}
 use Rattle.iface_core.specs.Inputs.{event_of, bytes_of}
@@ -17,7 +17,7 @@ act-requires-clause-stop g c =
 
 pub act-requires-clause-kept : goal.act-requires-clause-kept
 act-requires-clause-kept g c =
-    kept_but c.in_ok-stepped.stepped.touched.items c.deref.result c.args.life.core.ifaces c.in_ok-stepped.stepped.core.ifaces c.args.life.files.items c.deref.ensures.value c.in_ok-stepped.ensures.untouched c.requires.orderly.kept
+    kept_but c.in_ok-stepped.stepped.touched _ c.args.life.core.ifaces c.in_ok-stepped.stepped.core.ifaces c.args.life.files.items refl c.in_ok-stepped.ensures.untouched c.requires.orderly.kept
 
 pub returns-clause-made : goal.returns-clause-made
 returns-clause-made g c =

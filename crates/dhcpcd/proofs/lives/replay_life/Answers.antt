@@ -39,7 +39,7 @@ returns-in-WriteFault-clause-front g c =
     let made : AreMade (failing_with c.args.sends.now c.args.between) (between_in c.args.between) (content.life_of c.args.life) held =
     made_of c.args.sends.now c.args.between (content.life_of c.args.life) held c.in_ok-live.ensures.link c.in_ok-live.ensures.told c.in_ok-live.ensures.failing c.in_ok-live.ensures.host c.in_ok-live.ensures.hooks in
     front_of_lines c.args.managed.now c.args.specs.now (failing_with c.args.sends.now c.args.between) (between_in c.args.between) (content.life_of c.args.life) (c.args.between.lives + 1) refl _ _ _ c.in_ok-begin_life.ensures.ok.1
-    (stops_life c.args.managed.now c.args.specs.now (failing_with c.args.sends.now c.args.between) (between_in c.args.between) (content.life_of c.args.life) _ _ (made_first (failing_with c.args.sends.now c.args.between) (between_in c.args.between) (content.life_of c.args.life) held made) _ _ ends.WriteFault (inl refl) c.in-WriteFault.ensures.cut)
+    (stops_life c.args.managed.now c.args.specs.now (failing_with c.args.sends.now c.args.between) (between_in c.args.between) (content.life_of c.args.life) _ _ (made_first (failing_with c.args.sends.now c.args.between) (between_in c.args.between) (content.life_of c.args.life) held made) _ _ _ ends.WriteFault (inl refl) c.in-WriteFault.ensures.cut)
 
 pub returns-in-NoMemory-clause-front : goal.returns-in-NoMemory-clause-front
 returns-in-NoMemory-clause-front g c =
@@ -47,7 +47,7 @@ returns-in-NoMemory-clause-front g c =
     let made : AreMade (failing_with c.args.sends.now c.args.between) (between_in c.args.between) (content.life_of c.args.life) held =
     made_of c.args.sends.now c.args.between (content.life_of c.args.life) held c.in_ok-live.ensures.link c.in_ok-live.ensures.told c.in_ok-live.ensures.failing c.in_ok-live.ensures.host c.in_ok-live.ensures.hooks in
     front_of_lines c.args.managed.now c.args.specs.now (failing_with c.args.sends.now c.args.between) (between_in c.args.between) (content.life_of c.args.life) (c.args.between.lives + 1) refl _ _ _ c.in_ok-begin_life.ensures.ok.1
-    (stops_life c.args.managed.now c.args.specs.now (failing_with c.args.sends.now c.args.between) (between_in c.args.between) (content.life_of c.args.life) _ _ (made_first (failing_with c.args.sends.now c.args.between) (between_in c.args.between) (content.life_of c.args.life) held made) _ _ ends.NoMemory (inr refl) c.in-NoMemory.ensures.cut)
+    (stops_life c.args.managed.now c.args.specs.now (failing_with c.args.sends.now c.args.between) (between_in c.args.between) (content.life_of c.args.life) _ _ (made_first (failing_with c.args.sends.now c.args.between) (between_in c.args.between) (content.life_of c.args.life) held made) _ _ _ ends.NoMemory (inr refl) c.in-NoMemory.ensures.cut)
 
 pub returns-in_err-left-in-End-clause-front : goal.returns-in_err-left-in-End-clause-front
 returns-in_err-left-in-End-clause-front g c =
@@ -56,7 +56,7 @@ returns-in_err-left-in-End-clause-front g c =
     made_of c.args.sends.now c.args.between (content.life_of c.args.life) held c.in_ok-live.ensures.link c.in_ok-live.ensures.told c.in_ok-live.ensures.failing c.in_ok-live.ensures.host c.in_ok-live.ensures.hooks in
     error_is c.from_residual-in_err-left-in-End.result _ (λ status. WritesFront (g.O.Sink.written c.args.out.now) (g.O.Sink.written c.serve.new.out) [] (life_in c.args.managed.now c.args.specs.now (failing_with c.args.sends.now c.args.between) (between_in c.args.between) (content.life_of c.args.life))) c.from_residual-in_err-left-in-End.ensures.1
     (front_whole _ _ _
-    (lived_whole c.args.managed.now c.args.specs.now (failing_with c.args.sends.now c.args.between) (between_in c.args.between) (content.life_of c.args.life) (c.args.between.lives + 1) refl _ _ _ c.in_ok-begin_life.ensures.ok.1 (lived c.args.managed.now c.args.specs.now (failing_with c.args.sends.now c.args.between) (between_in c.args.between) (content.life_of c.args.life) _ _ _ _ (made_first (failing_with c.args.sends.now c.args.between) (between_in c.args.between) (content.life_of c.args.life) held made) (c.in-End.ensures.served refl))))
+    (lived_whole c.args.managed.now c.args.specs.now (failing_with c.args.sends.now c.args.between) (between_in c.args.between) (content.life_of c.args.life) (c.args.between.lives + 1) refl _ _ _ c.in_ok-begin_life.ensures.ok.1 (lived c.args.managed.now c.args.specs.now (failing_with c.args.sends.now c.args.between) (between_in c.args.between) (content.life_of c.args.life) _ _ _ _ (made_first (failing_with c.args.sends.now c.args.between) (between_in c.args.between) (content.life_of c.args.life) held made) _ (c.in-End.ensures.served refl))))
 
 pub returns-in_ok-left-in-End-clause-ok : goal.returns-in_ok-left-in-End-clause-ok
 returns-in_ok-left-in-End-clause-ok g c =
@@ -64,7 +64,7 @@ returns-in_ok-left-in-End-clause-ok g c =
     let made : AreMade (failing_with c.args.sends.now c.args.between) (between_in c.args.between) (content.life_of c.args.life) held =
     made_of c.args.sends.now c.args.between (content.life_of c.args.life) held c.in_ok-live.ensures.link c.in_ok-live.ensures.told c.in_ok-live.ensures.failing c.in_ok-live.ensures.host c.in_ok-live.ensures.hooks in (
       omega (arith, c.in_ok-begin_life.ensures.ok.0, c.in-End.ensures.cause.0),
-      lived_whole c.args.managed.now c.args.specs.now (failing_with c.args.sends.now c.args.between) (between_in c.args.between) (content.life_of c.args.life) (c.args.between.lives + 1) refl _ _ _ c.in_ok-begin_life.ensures.ok.1 (lived c.args.managed.now c.args.specs.now (failing_with c.args.sends.now c.args.between) (between_in c.args.between) (content.life_of c.args.life) _ _ _ _ (made_first (failing_with c.args.sends.now c.args.between) (between_in c.args.between) (content.life_of c.args.life) held made) (c.in-End.ensures.served refl)),
+      lived_whole c.args.managed.now c.args.specs.now (failing_with c.args.sends.now c.args.between) (between_in c.args.between) (content.life_of c.args.life) (c.args.between.lives + 1) refl _ _ _ c.in_ok-begin_life.ensures.ok.1 (lived c.args.managed.now c.args.specs.now (failing_with c.args.sends.now c.args.between) (between_in c.args.between) (content.life_of c.args.life) _ _ _ _ (made_first (failing_with c.args.sends.now c.args.between) (between_in c.args.between) (content.life_of c.args.life) held made) _ (c.in-End.ensures.served refl)),
     )
 
 pub returns-in_ok-left-in-End-clause-left : goal.returns-in_ok-left-in-End-clause-left
@@ -80,7 +80,7 @@ returns-in_ok-left-in-End-clause-left g c =
     let hooks = c.in_ok-left-in-End.ensures.hooks in
     (λ i. record { lives = counts.0 i; sent = counts.1 i; host = (host i).told; store = told i; hooks = (hooks i).told })
     ∙ next_is c.args.managed.now c.args.specs.now (failing_with c.args.sends.now c.args.between) (between_in c.args.between) (content.life_of c.args.life) held last made served.left (c.args.between.lives + 1) refl served.opening served.mets
-    (served_life c.args.managed.now c.args.specs.now (failing_with c.args.sends.now c.args.between) (between_in c.args.between) (content.life_of c.args.life) _ _ _ _ (made_first (failing_with c.args.sends.now c.args.between) (between_in c.args.between) (content.life_of c.args.life) held made) served) served.child
+    (served_life c.args.managed.now c.args.specs.now (failing_with c.args.sends.now c.args.between) (between_in c.args.between) (content.life_of c.args.life) _ _ _ _ (made_first (failing_with c.args.sends.now c.args.between) (between_in c.args.between) (content.life_of c.args.life) held made) _ served) served.child
 
 pub returns-in_ok-left-in-End-clause-failing : goal.returns-in_ok-left-in-End-clause-failing
 returns-in_ok-left-in-End-clause-failing g c =

@@ -1,6 +1,6 @@
 use Rattle.std.proofs.Common.{length}
 use Rattle.dhcpcd.proofs.HeadLines.{Prints_so_far}
-use Rattle.dhcpcd.proofs.heads.say_configuration.Given as goal
+use Rattle.dhcpcd.proofs.heads.say_ended.Given as goal
 
 abbrev pub invariant-lines : goal.invariant-lines
 invariant-lines l = Prints_so_far l.fn.text.items l.text.items l.fn.conf l.rest
