@@ -94,49 +94,97 @@ const LIVE: [&str; 6] = [
     "eth0=02:00:00:00:00:01",
 ];
 
-/// What a life with an interface answers that isn't managed, over a link that brings these events, and what stands written then.
-fn lived(
-    alloc: Global,
-    events: &[(u64, Event)],
-    failing_waits: &[u64],
+/// A life over devices in memory.
+#[derive(Clone, Copy)]
+struct Life {
+    /// What comes, by its moments.
+    events: &'static [(u64, Event)],
     turns: u64,
-) -> Result<(Status, MemSink), Fail> {
+    /// The waits, reads and writes that fail, by their numbers from 1.
+    waits: &'static [u64],
+    reads: &'static [u64],
+    writes: &'static [u64],
+}
+
+/// A life in which one quiet turn comes, and nothing fails.
+const QUIET: Life = Life {
+    events: &[(5, Event::Quiet)],
+    turns: 9,
+    waits: &[],
+    reads: &[],
+    writes: &[],
+};
+
+/// What such a life answers, of an interface that isn't managed, and what stands written then.
+fn lived(alloc: Global, life: Life) -> Result<(Status, MemSink), Fail> {
     let mut words = Vec::new(alloc);
     for word in LIVE {
         words.push(String::from_str(alloc, word)?)?;
     }
     let conf = b"denyinterfaces eth0\n".to_vec(alloc)?;
-    let mut input = MemSource::new(alloc, conf, Vec::new(alloc));
-    let mut out = MemSink::new(alloc, Vec::new(alloc));
-    let mut devices = devices(alloc, events, failing_waits)?;
-    let status = run(alloc, &words, &mut input, &mut out, &mut devices, turns);
+    let mut input = MemSource::new(alloc, conf, life.reads.to_vec(alloc)?);
+    let mut out = MemSink::new(alloc, life.writes.to_vec(alloc)?);
+    let mut devices = devices(alloc, life.events, life.waits)?;
+    let status = run(
+        alloc,
+        &words,
+        &mut input,
+        &mut out,
+        &mut devices,
+        life.turns,
+    );
     Ok((status, out))
 }
 
 #[test]
 fn ends_a_life_when_its_turns_are_over(rt: HostRuntime) -> Result<(), Fail> {
-    let (status, out) = lived(rt.alloc(), &[(5, Event::Quiet)], &[], 0)?;
+    let (status, out) = lived(rt.alloc(), Life { turns: 0, ..QUIET })?;
     assert_eq!(rt; status, Status::TurnsOver);
     assert!(rt; out.bytes().ends_with(b"\nuntil none\n"));
     Ok(())
 }
 
 #[test]
-fn ends_a_life_when_the_link_fails(rt: HostRuntime) -> Result<(), Fail> {
-    let (status, _) = lived(rt.alloc(), &[(5, Event::Quiet)], &[1], 9)?;
-    assert_eq!(rt; status, Status::LinkFault);
+fn ends_a_life_when_a_device_or_stream_fails(rt: HostRuntime) -> Result<(), Fail> {
+    let first: &[u64] = &[1];
+    let faults = [
+        (
+            Life {
+                waits: first,
+                ..QUIET
+            },
+            Status::LinkFault,
+        ),
+        (
+            Life {
+                writes: first,
+                ..QUIET
+            },
+            Status::WriteFault,
+        ),
+        (
+            Life {
+                reads: first,
+                ..QUIET
+            },
+            Status::ReadFault,
+        ),
+    ];
+    for (life, fault) in faults {
+        assert_eq!(rt; lived(rt.alloc(), life)?.0, fault);
+    }
     Ok(())
 }
 
 #[test]
 fn ends_a_life_five_seconds_after_the_stop(rt: HostRuntime) -> Result<(), Fail> {
-    let events = [
+    let events = &[
         (7000, Event::Stop),
         (8000, Event::Quiet),
         (12000, Event::Quiet),
         (12001, Event::Quiet),
     ];
-    let (status, out) = lived(rt.alloc(), &events, &[], 9)?;
+    let (status, out) = lived(rt.alloc(), Life { events, ..QUIET })?;
     assert_eq!(rt; status, Status::Done);
     assert!(rt;
         out.bytes()
