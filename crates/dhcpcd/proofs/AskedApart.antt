@@ -5,7 +5,7 @@ use Rattle.net_types.specs.declared.interface.IfSpec.{IfSpec}
 use Rattle.live_words.specs.LiveWords.{AsksLive}
 use Rattle.dhcpcd.specs.declared.words.Work.{Work}
 use Rattle.dhcpcd.specs.Asked.{AsksFor}
-use Rattle.dhcpcd.specs.Words.{AskReplay, AskCheck, AskLive}
+use Rattle.dhcpcd.specs.Words.{AskReplay, AskCheck, AskLive, AskMake, AsksMake}
 
 first_word : List (List ℕ) → List ℕ
 first_word [] = []
@@ -30,7 +30,19 @@ pub not_check_live : (words : List (List ℕ)) → AskCheck words → AskLive wo
 unfolding first_word
 not_check_live words check live = apart words (codes "check") (codes "live") refl refl (ap first_word check) (ap first_word live.1.says)
 
--- where the words are of none of the forms, nothing is asked
-pub none_asked : (words : List (List ℕ)) (result : Option Work) → result ≡ None → (AskReplay words → ⊥) → (AskCheck words → ⊥) → ((specs : List IfSpec) → AsksLive words specs → ⊥) → AsksFor words result
-none_asked words result none replay check live =
-    subst (AsksFor words) (sym none) (λ asks. ⊎_elim replay (λ more. ⊎_elim check (λ asked. live asked.0 asked.1) more) asks)
+pub not_replay_make : (words : List (List ℕ)) → AskReplay words → AskMake words → ⊥
+unfolding first_word
+not_replay_make words replay make = apart words (codes "replay") (codes "make") refl refl (ap first_word replay) (ap first_word make.1.says)
+
+pub not_check_make : (words : List (List ℕ)) → AskCheck words → AskMake words → ⊥
+unfolding first_word
+not_check_make words check make = apart words (codes "check") (codes "make") refl refl (ap first_word check) (ap first_word make.1.says)
+
+pub not_live_make : (words : List (List ℕ)) → AskLive words → AskMake words → ⊥
+unfolding first_word
+not_live_make words live make = apart words (codes "live") (codes "make") refl refl (ap first_word live.1.says) (ap first_word make.1.says)
+
+-- words that ask for no work
+pub none_asked : (words : List (List ℕ)) (result : Option Work) → result ≡ None → (AskReplay words → ⊥) → (AskCheck words → ⊥) → ((rounds : ℕ) → AsksMake words rounds → ⊥) → ((specs : List IfSpec) → AsksLive words specs → ⊥) → AsksFor words result
+none_asked words result none replay check make live =
+    subst (AsksFor words) (sym none) (λ asks. ⊎_elim replay (λ more. ⊎_elim check (λ others. ⊎_elim (λ asked. live asked.0 asked.1) (λ asked. make asked.0 asked.1) others) more) asks)

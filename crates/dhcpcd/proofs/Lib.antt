@@ -17,3 +17,5 @@ pub mod FilesRightly
 pub mod Replayed
 pub mod LiveAnswers
 pub mod LinesApart
+pub mod MakeLaws
+pub mod MakeAnswers

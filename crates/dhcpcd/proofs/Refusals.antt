@@ -1,5 +1,5 @@
 -- Why bytes aren't replayed.
-use Rattle.std.proofs.Common.{ℕ, ◌≡◌, ◌≤◌, ◌+◌, List, [], ◌∷◌, length, arith, Ok, Err, sym, subst}
+use Rattle.std.proofs.Common.{ℕ, ◌≡◌, ◌≤◌, ◌+◌, List, [], ◌∷◌, length, arith, Result, Ok, Err, IfOk, IfErr, sym, subst}
 use Rattle.std.specs.List.{AllByRecursion}
 use Rattle.net_types.specs.declared.interface.IfSpec.{IfSpec}
 use Rattle.settings.specs.Fitting.{AreManaged}
@@ -17,21 +17,18 @@ use Rattle.dhcpcd.specs.declared.status.Status.{Status}
 use Rattle.dhcpcd.specs.declared.status.Status.TheVariants as status
 use Rattle.dhcpcd.specs.Refusals.{IsReadRefused, IsConfRefused, IsRefused}
 use Rattle.dhcpcd.specs.Replays.{IsScript, Spells, managed_in, configuration_text}
-use Rattle.dhcpcd.specs.Settling.{IsRead, IsSettled}
+use Rattle.dhcpcd.specs.Settling.{IsRead, IsSettled, IsSettledAs}
 
 pub spelled_fits : (bytes : List ℕ) (script : ScriptLines) → Spells bytes script → FitsScript script
 spelled_fits bytes script spelled = let spells = spelled.spells in spells.fits
 
-pub read_fits : (bytes : List ℕ) (script : Script) → IsRead bytes script → FitsScript (script_of script)
-read_fits bytes script read = spelled_fits bytes (script_of script) read.spelled
+pub read_holds : (bytes : List ℕ) (script : Script) → IsRead bytes script → HoldsLines script.conf.items
+read_holds bytes script read = read.lines
 
 -- the text of the configuration that was read is that of the script
 pub text_of : (script : Script) → HoldsLines script.conf.items → script.conf.items ≡ configuration_text (script_of script)
 unfolding HoldsLines
 text_of script holds = holds
-
-pub configured_by : (bytes : List ℕ) (script : Script) (conf : Configuration) → IsRead bytes script → IsConfOf script.conf.items (Ok conf) → IsConfOf (configuration_text (script_of script)) (Ok conf)
-configured_by bytes script conf read is = subst (λ (text : List ℕ). IsConfOf text (Ok conf)) (text_of script read.lines) is
 
 -- ---- refusals
 
@@ -47,15 +44,11 @@ refused_unread status.TurnsOver bytes refused = absurd refused
 refused_unread status.TooLong bytes refused = absurd refused
 refused_unread status.NoMemory bytes refused = tt
 
-pub refused_conf : (answer : Status) (bytes : List ℕ) (script : Script) → IsRead bytes script → IsConfRefused script.conf.items answer → IsRefused bytes answer
+pub refused_conf : (answer : Status) (bytes : List ℕ) (script : Script) → IsRead bytes script → IsConfRefused (configuration_text (script_of script)) answer → IsRefused bytes answer
 refused_conf status.Done bytes script read refused = absurd refused
 refused_conf status.Usage bytes script read refused = absurd refused
 refused_conf (status.Script fault) bytes script read refused = absurd refused
-refused_conf (status.Conf fault) bytes script read refused = record {
-  script = script_of script;
-  spelled = read.spelled;
-  told = subst (λ (text : List ℕ). IsConfOf text (Err fault)) (text_of script read.lines) refused;
-}
+refused_conf (status.Conf fault) bytes script read refused = record { script = script_of script; spelled = read.spelled; told = refused }
 refused_conf status.ReadFault bytes script read refused = absurd refused
 refused_conf status.WriteFault bytes script read refused = absurd refused
 refused_conf status.LinkFault bytes script read refused = absurd refused
@@ -63,17 +56,24 @@ refused_conf status.TurnsOver bytes script read refused = absurd refused
 refused_conf status.TooLong bytes script read refused = absurd refused
 refused_conf status.NoMemory bytes script read refused = tt
 
+pub refused_read : (bytes : List ℕ) (script : Script) (result : Result Settled Status) → IsRead bytes script → IfErr result (IsConfRefused (configuration_text (script_of script))) → IfErr result (IsRefused bytes)
+refused_read bytes script (Ok s) read refused = tt
+refused_read bytes script (Err answer) read refused = refused_conf answer bytes script read refused
+
 -- ---- nothing is refused
 
-pub settled : (bytes : List ℕ) (s : Settled) → IsRead bytes s.script → IsConfOf s.script.conf.items (Ok (configuration s.conf))
-    → s.managed.items ≡ managed_in (script_of s.script) (configuration s.conf) → IsSettled bytes s
-settled bytes s read is manages = record {
+is_settled : (bytes : List ℕ) (script : ScriptLines) (s : Settled) → Spells bytes script → IsSettledAs script s → IsSettled bytes s
+is_settled bytes script s spelled is = record {
   is_script = record {
-    spelled = read.spelled;
-    configured = configured_by bytes s.script (configuration s.conf) read is;
+    spelled = subst (Spells bytes) (sym is.script_is) spelled;
+    configured = subst (λ (lines : ScriptLines). IsConfOf (configuration_text lines) (Ok (configuration s.conf))) (sym is.script_is) is.configured;
   };
-  managed = manages;
+  managed = subst (λ (lines : ScriptLines). s.managed.items ≡ managed_in lines (configuration s.conf)) (sym is.script_is) is.managed;
 }
+
+pub settled_read : (bytes : List ℕ) (script : Script) (result : Result Settled Status) → IsRead bytes script → IfOk result (IsSettledAs (script_of script)) → IfOk result (IsSettled bytes)
+settled_read bytes script (Ok s) read is = is_settled bytes (script_of script) s read.spelled is
+settled_read bytes script (Err answer) read is = tt
 
 -- ---- what is managed
 

@@ -3,10 +3,11 @@ use Rattle.std.specs.Prelude.{ℕ, List, Option, Some, None}
 use Rattle.dhcpcd.specs.declared.words.Work.{Work}
 use Rattle.dhcpcd.specs.declared.words.Work.TheVariants as work
 use Rattle.live_words.specs.LiveWords.{AsksLive}
-use Rattle.dhcpcd.specs.Words.{AskReplay, AskCheck, AskWork}
+use Rattle.dhcpcd.specs.Words.{AskReplay, AskCheck, AsksMake, AskWork}
 
 abbrev pub AsksFor : List (List ℕ) → Option Work → Type 0
 AsksFor words (Some work.Replay) = AskReplay words
 AsksFor words (Some work.Check) = AskCheck words
 AsksFor words (Some (work.Live specs)) = AsksLive words specs
+AsksFor words (Some (work.Make rounds)) = AsksMake words rounds
 AsksFor words None = AskWork words → ⊥

@@ -11,5 +11,7 @@ pub mod Settling
 pub mod Statuses
 pub mod Checks
 pub mod Words
+pub mod MakeReading
+pub mod Making
 pub mod Living
 pub mod Asked

@@ -1,5 +1,5 @@
 -- What the words of the program ask for.
-use Rattle.std.specs.Prelude.{ℕ, ◌≡◌, ◌⊎◌, List, [], ◌∷◌, codes}
+use Rattle.std.specs.Prelude.{ℕ, ◌≡◌, ◌≤◌, ◌⊎◌, List, [], ◌∷◌, codes, decimal}
 use Rattle.net_types.specs.declared.interface.IfSpec.{IfSpec}
 use Rattle.live_words.specs.LiveWords.{AsksLive}
 
@@ -15,6 +15,15 @@ AskCheck words = words ≡ codes "check" ∷ []
 abbrev pub AskLive : List (List ℕ) → Type 0
 AskLive words = (specs : List IfSpec) × AsksLive words specs
 
+-- the words are `make` and a number of rounds, in decimal digits without leading zeros or sign
+pub record AsksMake (words : List (List ℕ)) (rounds : ℕ) : Type 0 where
+  pub says : words ≡ codes "make" ∷ decimal rounds ∷ []
+  pub some : 1 ≤ rounds
+  pub few : rounds ≤ 100
+
+abbrev pub AskMake : List (List ℕ) → Type 0
+AskMake words = (rounds : ℕ) × AsksMake words rounds
+
 -- the words are of one of these forms
 abbrev pub AskWork : List (List ℕ) → Type 0
-AskWork words = AskReplay words ⊎ (AskCheck words ⊎ AskLive words)
+AskWork words = AskReplay words ⊎ (AskCheck words ⊎ (AskLive words ⊎ AskMake words))

@@ -7,6 +7,7 @@ mod input;
 mod laws;
 mod lives;
 mod living;
+mod making;
 mod memory;
 mod replaying;
 mod running;

@@ -20,7 +20,7 @@ use world::{Sink, Source};
 
 /// Writes the head of a transcript, and then the lives.
 #[tactic(auto, using(daemon::proofs::Stretches::lines_then, daemon::proofs::Fronts::front_then, crate::proofs::WholeLife::front_first))]
-fn write_transcript<O: Sink>(alloc: Global, settled: Settled, out: &mut O) -> Result<(), Status>
+pub fn write_transcript<O: Sink>(alloc: Global, settled: Settled, out: &mut O) -> Result<(), Status>
     requires managed { AreManaged settled.managed.items }
     requires fits { FitsScript (content.script_of settled.script) }
     requires manages { settled.managed.items ≡ managed_in (content.script_of settled.script) (configuration settled.conf) }

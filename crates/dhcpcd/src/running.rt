@@ -1,13 +1,15 @@
-ghost use Rattle.std.specs.Prelude.{◌≡◌, [], Some, true, false, map};
+ghost use Rattle.std.specs.Prelude.{ℕ, ◌≡◌, [], Some, true, false, map};
 ghost use Rattle.std.specs.String.{string_bytes};
 ghost use Rattle.dhcpcd.specs.Checks.{IsCheckAnswer, TellsConfiguration};
 ghost use Rattle.dhcpcd.specs.Input.{ReadsWithin, input_told};
 ghost use Rattle.dhcpcd.specs.Living.{IsAnsweredLive, CompletesLife, HasLinkCause, around};
 ghost use Rattle.dhcpcd.specs.Statuses.{HasStatusCause, IsAnswer, TellsScript, Completes};
-ghost use Rattle.dhcpcd.specs.Words.{AskCheck, AskReplay, AskLive, AskWork};
+ghost use Rattle.dhcpcd.specs.Making.{IsMadeAnswer};
+ghost use Rattle.dhcpcd.specs.Words.{AskCheck, AskReplay, AskLive, AskMake, AsksMake, AskWork};
 
 use crate::checking::check;
 use crate::living::live;
+use crate::making::make;
 use crate::replaying::replay;
 use crate::status::Status;
 use crate::words::{Work, work_of};
@@ -17,10 +19,11 @@ use world::{Sink, Source};
 
 /// Does what the words after the program's name ask for. `replay` reads a script of at most 16,777,216 bytes from the input,
 /// and writes its transcript. `check` reads a configuration as long, and writes its notices and `ok`. `live` reads such a configuration
-/// and lives one life over the devices, for at most so many wakes, and writes its transcript. Other words are `Usage`,
-/// and touch nothing. Where the input can't be read, is too long or is refused, nothing is written and no device is asked; after
+/// and lives one life over the devices, for at most so many wakes, and writes its transcript. `make` lives a script of its own in
+/// memory, for so many rounds, and writes how many lines of each kind its transcript has; it reads nothing. Other words are
+/// `Usage`, and touch nothing. Where the input can't be read, is too long or is refused, nothing is written and no device is asked; after
 /// another end a front of the output stands written. No hook's child may run yet.
-#[tactic(auto, using(crate::proofs::AskedApart::not_both, crate::proofs::AskedApart::not_replay_live, crate::proofs::AskedApart::not_check_live))]
+#[tactic(auto, using(crate::proofs::AskedApart::not_both, crate::proofs::AskedApart::not_replay_live, crate::proofs::AskedApart::not_check_live, crate::proofs::AskedApart::not_replay_make, crate::proofs::AskedApart::not_check_make, crate::proofs::AskedApart::not_live_make, crate::proofs::MakeAnswers::cause_beside, crate::proofs::MakeAnswers::no_link_cause, crate::proofs::MakeAnswers::reads_nothing))]
 pub fn run<I: Source, O: Sink, W: Outside>(
     alloc: Global,
     words: &[String],
@@ -33,8 +36,10 @@ pub fn run<I: Source, O: Sink, W: Outside>(
     ensures answer { AskReplay (map string_bytes words.now) → IsAnswer result (I.left input.old) (O.written out.old) (O.written out.new) }
     ensures check { AskCheck (map string_bytes words.now) → IsCheckAnswer result (I.left input.old) (O.written out.old) (O.written out.new) }
     ensures live { AskLive (map string_bytes words.now) → IsAnsweredLive (map string_bytes words.now) result turns (I.left input.old) (around (O.written out.old) (O.written out.new) (W.seen devices.old) (W.seen devices.new)) }
+    ensures made { (rounds : ℕ) → AsksMake (map string_bytes words.now) rounds → IsMadeAnswer result rounds (O.written out.old) (O.written out.new) }
     ensures usage { (AskWork (map string_bytes words.now) → ⊥) → result ≡ Status.Usage }
     ensures unread { (AskWork (map string_bytes words.now) → ⊥) → (I.reads input.new ≡ I.reads input.old) × (I.left input.new ≡ I.left input.old) }
+    ensures make_unread { AskMake (map string_bytes words.now) → (I.reads input.new ≡ I.reads input.old) × (I.left input.new ≡ I.left input.old) }
     ensures unwritten { (AskWork (map string_bytes words.now) → ⊥) → O.written out.new ≡ O.written out.old }
     ensures unasked { (AskLive (map string_bytes words.now) → ⊥) → W.seen devices.new ≡ W.seen devices.old }
     ensures cause { HasStatusCause result (I.faults input.old) (I.faults input.new) (O.faults out.old) (O.faults out.new) }
@@ -45,12 +50,15 @@ pub fn run<I: Source, O: Sink, W: Outside>(
     ensures checks { AskCheck (map string_bytes words.now) → TellsConfiguration (I.left input.old) → I.never_fails input.old ≡ true → O.never_fails out.old ≡ true → Completes result }
     ensures live_complete { AskLive (map string_bytes words.now) → TellsConfiguration (I.left input.old) → I.faults input.new ≡ I.faults input.old → O.faults out.new ≡ O.faults out.old → (W.seen devices.new).waiting.faults ≡ (W.seen devices.old).waiting.faults → CompletesLife result }
     ensures lives { AskLive (map string_bytes words.now) → TellsConfiguration (I.left input.old) → I.never_fails input.old ≡ true → O.never_fails out.old ≡ true → (W.seen devices.old).waiting.failing ≡ Some [] → CompletesLife result }
+    ensures make_complete { AskMake (map string_bytes words.now) → O.faults out.new ≡ O.faults out.old → Completes result }
+    ensures makes { AskMake (map string_bytes words.now) → O.never_fails out.old ≡ true → Completes result }
     ensures reads { AskWork (map string_bytes words.now) → ReadsWithin (input_told (I.left input.old) (I.taken input.old) (I.reads input.old)) (input_told (I.left input.new) (I.taken input.new) (I.reads input.new)) }
 {
     match work_of(words) {
         Some(Work::Replay) => replay(alloc, input, out),
         Some(Work::Check) => check(alloc, input, out),
         Some(Work::Live(specs)) => live(alloc, specs.as_slice(), input, out, devices, turns),
+        Some(Work::Make(rounds)) => make(alloc, rounds, out),
         None => Status::Usage,
     }
 }

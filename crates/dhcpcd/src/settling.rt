@@ -1,9 +1,11 @@
 //! What an input says, read with its configuration.
 ghost use Rattle.std.specs.Prelude.{◌≡◌, Ok, IfOk, IfErr};
+ghost use Rattle.replay_text.specs.ScriptContent.{script_of, HoldsLines};
 ghost use Rattle.conf_text.specs.Configurations.{IsConfOf};
 ghost use Rattle.conf_text.specs.Contents.{configuration};
 ghost use Rattle.dhcpcd.specs.Refusals.{IsConfRefused, IsReadRefused, IsRefused};
-ghost use Rattle.dhcpcd.specs.Settling.{IsRead, IsSettled};
+ghost use Rattle.dhcpcd.specs.Replays.{configuration_text};
+ghost use Rattle.dhcpcd.specs.Settling.{IsRead, IsSettled, IsSettledAs};
 
 use crate::status::Status;
 use conf_text::{Conf, ConfAnswer, configuration_is_one, managed, read_conf};
@@ -42,13 +44,12 @@ pub fn read_configuration(alloc: Global, text: &[u8]) -> Result<Conf, Status>
     }
 }
 
-/// Reads a script and its configuration.
-#[tactic(auto, using(crate::proofs::Refusals::read_fits))]
-pub fn settle(alloc: Global, bytes: &[u8]) -> Result<Settled, Status>
-    ensures found { IfOk result (IsSettled bytes.now) }
-    ensures bad { IfErr result (IsRefused bytes.now) }
+/// Reads the configuration of a script, and finds what it has managed.
+pub fn settle_script(alloc: Global, script: Script) -> Result<Settled, Status>
+    requires lines { HoldsLines script.conf.items }
+    ensures found { IfOk result (IsSettledAs (script_of script)) }
+    ensures bad { IfErr result (IsConfRefused (configuration_text (script_of script))) }
 {
-    let script = read_lines(alloc, bytes)?;
     let conf = read_configuration(alloc, &script.conf)?;
     configuration_is_one();
     let managed = managed(alloc, &conf, &script.ifaces)?;
@@ -57,4 +58,14 @@ pub fn settle(alloc: Global, bytes: &[u8]) -> Result<Settled, Status>
         conf,
         managed,
     })
+}
+
+/// Reads a script and its configuration.
+#[tactic(auto, using(crate::proofs::Refusals::read_holds, crate::proofs::Refusals::settled_read, crate::proofs::Refusals::refused_read))]
+pub fn settle(alloc: Global, bytes: &[u8]) -> Result<Settled, Status>
+    ensures found { IfOk result (IsSettled bytes.now) }
+    ensures bad { IfErr result (IsRefused bytes.now) }
+{
+    let script = read_lines(alloc, bytes)?;
+    settle_script(alloc, script)
 }

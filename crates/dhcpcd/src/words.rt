@@ -2,8 +2,11 @@
 ghost use Rattle.std.specs.Prelude.{◌≡◌, [], ◌∷◌, true, map};
 ghost use Rattle.std.specs.String.{string_bytes};
 ghost use Rattle.dhcpcd.specs.Asked.{AsksFor};
+ghost use Rattle.dhcpcd.specs.MakeReading.{IsMakeRead, make_at, rounds_at};
 
 use live_words::{Interfaces, live_words};
+use made_script::MOST_ROUNDS;
+use net_types::number_of;
 
 /// A work of the top call.
 #[derive(Drop)]
@@ -14,6 +17,8 @@ pub enum Work {
     Check,
     /// `live`: a configuration is read, and these interfaces are run.
     Live(Interfaces),
+    /// `make`: a script of so many rounds is lived in memory.
+    Make(u64),
 }
 
 fn is_same(given: &str, word: &str) -> bool
@@ -35,6 +40,40 @@ pub fn is_alone(words: &[String], word: &str) -> bool
     }
 }
 
+/// The rounds that a word spells.
+#[tactic(auto, unfolding(crate::specs::MakeReading::rounds_at))]
+fn rounds_of(word: &str) -> Option<u64>
+    ensures { result ≡ rounds_at word.now }
+{
+    let rounds = number_of(word.as_bytes(), MOST_ROUNDS + 1)?;
+    if rounds >= 1 { Some(rounds) } else { None }
+}
+
+#[tactic(auto, unfolding(crate::specs::MakeReading::make_at))]
+fn make_of(words: &[String]) -> Option<u64>
+    ensures { result ≡ make_at (map string_bytes words.now) }
+{
+    match words {
+        [work, rounds] => {
+            if work.as_str() == "make" {
+                rounds_of(rounds)
+            } else {
+                None
+            }
+        }
+        _ => None,
+    }
+}
+
+/// The rounds that `make N` names, or none where the words aren't of this form: a number from 1 to 100, without leading
+/// zeros or sign.
+#[tactic(auto, using(crate::proofs::MakeLaws::make_read))]
+fn make_rounds(words: &[String]) -> Option<u64>
+    ensures { IsMakeRead (map string_bytes words.now) result }
+{
+    make_of(words)
+}
+
 /// The work that words ask for.
 pub fn work_of(words: &[String]) -> Option<Work>
     ensures { AsksFor (map string_bytes words.now) result }
@@ -44,6 +83,9 @@ pub fn work_of(words: &[String]) -> Option<Work>
     }
     if is_alone(words, "check") {
         return Some(Work::Check);
+    }
+    if let Some(rounds) = make_rounds(words) {
+        return Some(Work::Make(rounds));
     }
     Some(Work::Live(live_words(words)?))
 }

@@ -7,7 +7,7 @@ fn line(rt: &HostRuntime, status: Status) -> Result<()> {
     match status {
         Status::Done => Ok(()),
         Status::Usage => eprintln!(rt;
-            "dhcpcd: usage: replay / check / live PORT PEER DIR SCRIPT IFACE.."
+            "dhcpcd: usage: replay / check / live PORT PEER DIR SCRIPT IFACE.. / make N"
         ),
         Status::Script(ScriptFault { line, cause }) => {
             eprintln!(rt; "dhcpcd: script line {line}: {cause:?}")

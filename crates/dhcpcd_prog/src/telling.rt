@@ -10,6 +10,7 @@ pub const HELP: &str = "dhcpcd: a DHCP client daemon
 usage: dhcpcd replay < SCRIPT > TRANSCRIPT
        dhcpcd check < CONFIGURATION
        dhcpcd live PORT PEER DIR SCRIPT IFACE.. < CONFIGURATION > TRANSCRIPT
+       dhcpcd make N
        dhcpcd --help
        dhcpcd --version
 
@@ -21,6 +22,7 @@ each IFACE is NAME=ADDRESS, and its frames are datagrams between the ports PORT
 and PEER of 127.0.0.1. Files lie in DIR; SCRIPT keeps the addresses and routes of
 the host, and is the hook where the configuration names none. contrib/linux has
 what makes real interfaces of this, and its README.md how to begin.
+make lives a script of its own for N rounds, 1 to 100, and counts its calls.
 An input has at most 16777216 bytes.
 
 exit status, with a line on standard error for each but 0:
