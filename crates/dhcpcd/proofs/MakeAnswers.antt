@@ -1,5 +1,5 @@
 -- What the answers of `make` come to.
-use Rattle.std.proofs.Common.{ℕ, ◌≡◌, ◌<◌, ◌≤◌, ◌+◌, List, [], ◌++◌, Option, Some, None, Result, Ok, Err, IfOk, IfErr, true, inl, inr, refl, sym, ap, ◌∙◌, subst, arith}
+use Rattle.std.proofs.Common.{ℕ, ◌≡◌, ◌≤◌, List, [], Option, Some, None, Result, Ok, Err, IfOk, IfErr, inl, inr, refl, sym, ap, ◌∙◌, subst, arith}
 use Rattle.settings.specs.Fitting.{AreManaged}
 use Rattle.script_model.specs.ScriptTexts.{ScriptLines}
 use Rattle.script_model.specs.Scripts.{FitsScript}
@@ -13,11 +13,11 @@ use Rattle.made_script.specs.MadeLines.{made_lines}
 use Rattle.made_script.proofs.FitLines.{lines_fit}
 use Rattle.made_script.proofs.GoodConfLaws.{conf_is_good}
 use Rattle.transcript_summary.specs.Summaries.{summary}
-use Rattle.daemon.specs.Streams.{WritesBytes, WritesSome, WritesLines}
+use Rattle.daemon.specs.Streams.{WritesSome, WritesLines}
 use Rattle.dhcpcd.specs.declared.settling.Settled.{Settled}
 use Rattle.dhcpcd.specs.declared.status.Status.{Status}
 use Rattle.dhcpcd.specs.declared.status.Status.TheVariants as status
-use Rattle.dhcpcd.specs.Input.{limit, ReadsWithin, InputTold, Takes}
+use Rattle.dhcpcd.specs.Input.{ReadsWithin, InputTold, Takes}
 use Rattle.dhcpcd.specs.Living.{HasLinkCause}
 use Rattle.dhcpcd.specs.Making.{IsMade, IsMadeTranscript, IsMadeAnswer}
 use Rattle.dhcpcd.specs.Refusals.{IsConfRefused}
@@ -97,12 +97,6 @@ never_stopped status.NoMemory old new cause stops same = refl
 
 pub unwritten_answer : (answer : Status) (rounds : ℕ) (out : Option (List ℕ)) → answer ≡ status.NoMemory → IsMadeAnswer answer rounds out out
 unwritten_answer answer rounds out is = subst (λ (s : Status). IsMadeAnswer s rounds out out) (sym is) (inl refl)
-
-pub unwritten_cause : (answer : Status) (out : ℕ) → answer ≡ status.NoMemory → HasStatusCause answer 0 0 out out
-unwritten_cause answer out is = subst (λ (s : Status). HasStatusCause s 0 0 out out) (sym is) (omega arith, omega arith)
-
-pub made_text : (rounds : ℕ) (old new : Option (List ℕ)) (text : List ℕ) → IsMadeTranscript rounds text → WritesBytes old new (summary rounds text) → IsMade (WritesBytes old new) rounds
-made_text rounds old new text made written = record { text = text; made = made; written = written }
 
 pub stopped_make : (answer : Status) (rounds : ℕ) (old new : Option (List ℕ)) (text : List ℕ) → IsMadeTranscript rounds text → WritesSome old new (summary rounds text) → StopsWriting answer → IsMadeAnswer answer rounds old new
 stopped_make answer rounds old new text made written stops = answers answer stops

@@ -17,7 +17,7 @@ use world::Sink;
 use world_mem::MemSink;
 
 /// The script of so many rounds with its configuration, which has no fault.
-#[tactic(auto, using(crate::proofs::MakeAnswers::made_settled, crate::proofs::MakeAnswers::never_refused))]
+#[tactic(auto, using(crate::proofs::MakeAnswers::made_settled))]
 fn made_settled(alloc: Global, rounds: u64) -> Result<Settled, Status>
     requires some { 1 ≤ rounds }
     requires few { rounds ≤ 100 }
@@ -29,7 +29,7 @@ fn made_settled(alloc: Global, rounds: u64) -> Result<Settled, Status>
 }
 
 /// The transcript of the script of so many rounds. Memory never refuses a write.
-#[tactic(auto, using(crate::proofs::MakeAnswers::made_managed, crate::proofs::MakeAnswers::made_fits, crate::proofs::MakeAnswers::made_manages, crate::proofs::MakeAnswers::made_written, crate::proofs::MakeAnswers::never_stopped))]
+#[tactic(auto, using(crate::proofs::MakeAnswers::made_managed, crate::proofs::MakeAnswers::made_manages, crate::proofs::MakeAnswers::made_written, crate::proofs::MakeAnswers::never_stopped))]
 fn made_transcript(alloc: Global, rounds: u64) -> Result<MemSink, Status>
     requires some { 1 ≤ rounds }
     requires few { rounds ≤ 100 }
