@@ -1,3 +1,5 @@
+ghost use Rattle.std.specs.Prelude.{◌≡◌, false, IfOk};
+
 use crate::{Status, run};
 use daemon::Devices;
 use std::alloc::Global;
@@ -23,7 +25,9 @@ fn devices(
     alloc: Global,
     events: &[(u64, Event)],
     failing_waits: &[u64],
-) -> Result<Devices<MemLink, MemStore, MemHost, MemHooks>, Fail> {
+) -> Result<Devices<MemLink, MemStore, MemHost, MemHooks>, Fail>
+    ensures { IfOk result (λ live. live.hooks.running ≡ false) }
+{
     let begin = Begin {
         at: 0,
         salt: 0,
