@@ -1,12 +1,21 @@
 //! Reads a server's message and the values of its options many times, for the figure in bench/README.md.
-//! The first argument is how many times.
+//! The first argument is how many times, and the word `borrowed` after it says that the values are read in place.
 #![tactic(auto)]
 
 use net_types::NoMemory;
 use std::alloc::Global;
 use std::{env, io};
 use v4_message::{Msg4, read4};
-use v4_options::{code, value};
+use v4_options::{OptionView, addr_at, code, pieces_of, u32_at, value};
+
+/// How the values are read.
+#[derive(Clone, Copy)]
+enum Way {
+    /// Each is copied into memory of its own.
+    Copied,
+    /// Numbers and addresses are read as such, and the instances of the others one by one, where they lie.
+    Borrowed,
+}
 
 /// How many readings there are without an argument.
 const READINGS: u32 = 100_000;
@@ -62,41 +71,85 @@ fn ack(number: u8) -> [u8; 300] {
     message
 }
 
-/// How many bytes the values have.
-fn values_len(alloc: Global, message: &Msg4) -> Result<usize, NoMemory> {
-    let mut len = 0usize;
-    for code in CODES {
-        if let Some(value) = value(alloc, &message.options, code)? {
-            len = len.wrapping_add(value.len());
-        }
+/// How many bytes the value of a code has, which is copied.
+fn copied_len(alloc: Global, options: &OptionView, code: u8) -> Result<usize, NoMemory> {
+    match value(alloc, options, code)? {
+        Some(value) => Ok(value.len()),
+        None => Ok(0),
     }
-    Ok(len)
+}
+
+/// How many bytes the instances of a code have.
+fn pieces_len(options: &OptionView, code: u8) -> usize {
+    let mut len = 0usize;
+    for piece in pieces_of(options, code) {
+        len = len.wrapping_add(piece.len());
+    }
+    len
+}
+
+/// How many bytes the value of a code has, which is read in place.
+fn borrowed_len(options: &OptionView, code: u8) -> usize {
+    match code {
+        code::SERVER_IDENTIFIER | code::SUBNET_MASK | code::BROADCAST_ADDRESS => {
+            match addr_at(options, code) {
+                Some(address) => address.octets().len(),
+                None => 0,
+            }
+        }
+        code::LEASE_TIME | code::RENEWAL_TIME | code::REBINDING_TIME => {
+            match u32_at(options, code) {
+                Some(number) => number.to_be_bytes().len(),
+                None => 0,
+            }
+        }
+        _ => pieces_len(options, code),
+    }
+}
+
+/// How many bytes the values have.
+fn values_len(alloc: Global, way: Way, message: &Msg4) -> Result<usize, NoMemory> {
+    let mut all = 0usize;
+    for code in CODES {
+        let len = match way {
+            Way::Copied => copied_len(alloc, &message.options, code)?,
+            Way::Borrowed => borrowed_len(&message.options, code),
+        };
+        all = all.wrapping_add(len);
+    }
+    Ok(all)
 }
 
 /// How many bytes the values have in all readings.
-fn read_all(alloc: Global, readings: u32) -> Result<usize, NoMemory> {
+fn read_all(alloc: Global, way: Way, readings: u32) -> Result<usize, NoMemory> {
     let mut payload = ack(1);
     let mut len = 0usize;
     for reading in 0..readings {
         payload[7] = (reading % 256) as u8;
         if let Ok(message) = read4(&payload) {
-            len = len.wrapping_add(values_len(alloc, &message)?);
+            len = len.wrapping_add(values_len(alloc, way, &message)?);
         }
     }
     Ok(len)
 }
 
-/// The first argument, where it is a number.
-fn readings(rt: &HostRuntime) -> io::Result<u32> {
-    let Some(word) = env::args(rt)?.nth(1) else {
-        return Ok(READINGS);
+/// The number of readings and the way that the arguments tell.
+fn asked(rt: &HostRuntime) -> io::Result<(u32, Way)> {
+    let mut words = env::args(rt)?.skip(1);
+    let readings = match words.next() {
+        Some(word) => word.as_str().parse::<u32>().unwrap_or(READINGS),
+        None => READINGS,
     };
-    Ok(word.as_str().parse::<u32>().unwrap_or(READINGS))
+    let way = match words.next() {
+        Some(word) if word.as_str() == "borrowed" => Way::Borrowed,
+        _ => Way::Copied,
+    };
+    Ok((readings, way))
 }
 
 fn main(rt: HostRuntime) -> io::Result<()> {
-    let readings = readings(&rt)?;
-    match read_all(rt.alloc(), readings) {
+    let (readings, way) = asked(&rt)?;
+    match read_all(rt.alloc(), way, readings) {
         Ok(len) => println!(rt; "{readings} readings, {len} bytes of values"),
         Err(_) => println!(rt; "no memory"),
     }

@@ -5,7 +5,7 @@ use Rattle.std.proofs.lemmas.List.Folds.{flat_map-map}
 use Rattle.net_types.specs.declared.address.Mac.{Mac}
 use Rattle.world.specs.declared.rows.HostRow.{HostRow}
 use Rattle.settings.specs.Fitting.{FitsManaged}
-use Rattle.host_tables.specs.Precedence.{unique_rows, wanted_of}
+use Rattle.host_model.specs.Precedence.{unique_rows, wanted_of}
 use Rattle.client_model.specs.declared.interfaces.Iface.{Iface}
 use Rattle.client_model.specs.IfaceTurns.{Turn, iface_turned}
 use Rattle.client_model.proofs.SameInterfaces.{turned_same}

@@ -31,7 +31,7 @@ use Rattle.v6_client.specs.Clients as dhcp6
 use Rattle.settings.specs.declared.outlet.Outlet.{Outlet}
 use Rattle.client_model.specs.declared.interfaces.Iface.{Iface}
 use Rattle.net_types.specs.Networks.{network_of, is_within}
-use Rattle.host_tables.specs.Precedence.{is_kept}
+use Rattle.host_model.specs.Precedence.{is_kept}
 use Rattle.client_model.specs.WantedRows.{outlet_of, network_routes, gateway_routes, router_routes, address_rows, static_rows, network6_of, network6_routes, static6_rows, classless_in, classless_rows, router_for, lease_routes, lease_rows, local_net, local_rows, first_address, subnet_rows, share_rows, shares_of, item_rows, ia_rows, lease6_rows, is_in_force, iface_rows, wanted_rows}
 use Rattle.settings.specs.ManagedRows.{LeadsToManaged, SharesAreManaged, has_index, is_managed}
 use Rattle.host_model.specs.HostTable.{Wantable}

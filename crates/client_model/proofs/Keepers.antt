@@ -17,7 +17,7 @@ use Rattle.world.proofs.ExactRows.{row_cmp_exact}
 use Rattle.world.proofs.RowLists.{in_order_has}
 use Rattle.host_model.proofs.HostTableRows.{has_filter}
 use Rattle.client_model.specs.declared.interfaces.Iface.{Iface}
-use Rattle.host_tables.specs.Precedence.{same_target, goes_before, outranks, is_kept}
+use Rattle.host_model.specs.Precedence.{same_target, goes_before, outranks, is_kept}
 use Rattle.client_model.specs.WantedRows.{wanted_rows}
 use Rattle.client_model.specs.KeptRows.{given_rows, KeptUnlike, DroppedHaveKeeper, AddressesStay}
 

@@ -6,7 +6,7 @@ use Rattle.world.specs.RowOrder.{has_row}
 use Rattle.net_types.specs.declared.address.Net.{Net}
 use Rattle.net_types.specs.declared.interface.IfIndex.{IfIndex}
 use Rattle.client_model.specs.declared.interfaces.Iface.{Iface}
-use Rattle.host_tables.specs.Precedence.{same_target, outranks}
+use Rattle.host_model.specs.Precedence.{same_target, outranks}
 use Rattle.client_model.specs.WantedRows.{iface_rows, wanted_rows}
 
 abbrev pub given_rows : List Iface → List HostRow

@@ -10,7 +10,7 @@ use Rattle.net_types.specs.declared.interface.IfIndex.{IfIndex}
 use Rattle.world.specs.declared.rows.HostRow.{HostRow}
 use Rattle.world.specs.declared.rows.HostRow.TheVariants.{Addr, Route}
 use Rattle.world.specs.declared.rows.Via.TheVariants.{OnLink, Reject, Gate4}
-use Rattle.host_tables.specs.Precedence.{unique_rows}
+use Rattle.host_model.specs.Precedence.{unique_rows}
 use Rattle.ipv4ll.specs.Table.{held_in}
 use Rattle.v4_options.specs.declared.code.TheConstants.{CLASSLESS_ROUTES, ROUTERS}
 use Rattle.v4_options.specs.declared.routes.ClasslessRoute.{ClasslessRoute}

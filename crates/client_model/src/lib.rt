@@ -2,11 +2,13 @@
 #![tactic(auto)]
 
 mod asking;
+mod constants;
 mod interfaces;
 mod laws;
 mod steps;
 
 pub use asking::{BY_DUID, ETHERNET, WANTED_CODES};
+pub use constants::types_of_identifiers_are_those_assigned;
 pub use interfaces::Iface;
 pub use laws::{
     interfaces_run_apart, kept_rows_are_unlike, kept_texts_are_leases, kept_texts_are_leases6,

@@ -5,6 +5,7 @@
 //! are too many of its kind, isn't judged here.
 #![tactic(auto)]
 
+mod constants;
 mod identifiers;
 mod laws;
 mod names;
@@ -19,6 +20,7 @@ mod valued;
 mod values;
 mod words;
 
+pub use constants::bounds_of_arguments;
 pub use laws::{codes_fit, identifiers_fit, lengths_fit, lines_say_one_thing};
 pub use names::{
     CodeList, DirectiveName, FlagName, HeadingName, InterfaceList, SecondsName, ValueName,

@@ -8,6 +8,7 @@ mod answers;
 mod associations;
 mod choosing;
 mod conf;
+mod constants;
 mod counting;
 mod flags;
 mod hooks;
@@ -23,6 +24,7 @@ mod subject;
 
 pub use answers::{ConfAnswer, ConfCause, ConfFault};
 pub use conf::{Conf, Notice, notices};
+pub use constants::bounds_of_a_configuration;
 pub use managing::{managed, settings, settings_fit};
 pub use reading::{configuration_is_one, read_conf};
 pub use sharing::shares_are_planned;

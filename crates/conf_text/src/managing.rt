@@ -23,9 +23,9 @@ use settings::{Dhcp4Conf, Dhcp6Conf, HookConf, Identifier, IfConf, Managed};
 use std::alloc::Global;
 
 /// For how many seconds a lease is waited for where no line says it.
-const DEFAULT_TIMEOUT: u32 = 30;
+pub(crate) const DEFAULT_TIMEOUT: u32 = 30;
 /// For how many seconds a kept lease is asked for again where no line says it.
-const DEFAULT_REBOOT: u32 = 5;
+pub(crate) const DEFAULT_REBOOT: u32 = 5;
 
 /// What tells the client apart: the hardware address where no line says it.
 fn identifier_of(alloc: Global, identifier: &Option<IdentifierSaid>) -> Result<Identifier, NoMemory>

@@ -16,7 +16,7 @@ use settings::{IaConf, Outlet, ShareConf};
 use std::alloc::Global;
 
 /// The metric of an interface's routes is this and its index, where none is said.
-const METRIC_BASE: u32 = 1000;
+pub(crate) const METRIC_BASE: u32 = 1000;
 
 fn sla_of(ifaces: &[IfSpec], line: &ShareLine) -> Option<u32>
     ensures { result ≡ sla_of ifaces.now line.now }

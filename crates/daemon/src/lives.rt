@@ -34,7 +34,7 @@ pub struct Life {
     pub moment: u64,
     /// The moment of the stop, once it came.
     pub stop: Option<u64>,
-    /// The interfaces on which a send failed in the last turn: bit `i - 1` is interface `i`.
+    /// Whose frames the link refused in the last turn: their bits are set, from the lowest for interface 1.
     pub unsent: u64,
 }
 

@@ -1,2 +1,4 @@
 pub mod Questions
 pub mod Telling
+pub mod Named
+pub mod Endings

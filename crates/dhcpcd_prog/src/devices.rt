@@ -1,5 +1,8 @@
 //! The devices of `live`, made of its words.
-ghost use Rattle.std.specs.Prelude.{◌≡◌, false, IfOk, is_some};
+ghost use Rattle.std.specs.Prelude.{◌≡◌, false, IfOk, is_some, map};
+ghost use Rattle.std.specs.String.{string_bytes};
+ghost use Rattle.edges.specs.Ports.{port_named};
+ghost use Rattle.dhcpcd_prog.specs.Named.{word_at};
 
 use daemon::Devices;
 use edges::{ChildHooks, CommandHost, FolderStore, LoopLink};
@@ -14,7 +17,9 @@ pub type Machine<'a> = Devices<
 >;
 
 /// A word by its place; where there is none it stands for nothing.
-fn word(words: &[String], place: usize) -> &str {
+fn word(words: &[String], place: usize) -> &str
+    ensures { result.now ≡ word_at place (map string_bytes words.now) }
+{
     match words.get(place) {
         Some(word) => word.as_str(),
         None => "",
@@ -23,7 +28,12 @@ fn word(words: &[String], place: usize) -> &str {
 
 /// The devices that the words name. Nothing is opened yet, and words that name none make devices that are never asked.
 pub fn devices<'a>(rt: &'a HostRuntime, words: &[String]) -> Result<Machine<'a>, NoMemory>
-    ensures { IfOk result (λ machine. is_some machine.hooks.child ≡ false) }
+    ensures port { IfOk result (λ machine. machine.link.wire.port ≡ port_named (word_at 1 (map string_bytes words.now))) }
+    ensures peer { IfOk result (λ machine. machine.link.wire.peer ≡ port_named (word_at 2 (map string_bytes words.now))) }
+    ensures folder { IfOk result (λ machine. string_bytes machine.store.dir ≡ word_at 3 (map string_bytes words.now)) }
+    ensures host { IfOk result (λ machine. string_bytes machine.host.script ≡ word_at 4 (map string_bytes words.now)) }
+    ensures hooks { IfOk result (λ machine. string_bytes machine.hooks.script ≡ word_at 4 (map string_bytes words.now)) }
+    ensures child { IfOk result (λ machine. is_some machine.hooks.child ≡ false) }
 {
     let script = word(words, 4);
     Ok(Devices {

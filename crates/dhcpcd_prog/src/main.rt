@@ -10,6 +10,9 @@ mod telling;
 #[cfg(test)]
 mod tests;
 
+ghost use Rattle.std.specs.Prelude.{◌≡◌};
+ghost use Rattle.dhcpcd_prog.specs.Endings.{unread};
+
 use devices::devices;
 use dhcpcd::{Status, run};
 use questions::{Question, asked};
@@ -52,7 +55,9 @@ fn answer(rt: &HostRuntime, words: &[String]) -> Status {
 }
 
 /// Why the words couldn't be had: memory ran out, or one isn't text, and then they are of no form.
-fn unread(kind: ErrorKind) -> Status {
+fn unread(kind: ErrorKind) -> Status
+    ensures { result ≡ unread kind }
+{
     match kind {
         ErrorKind::InvalidData => Status::Usage,
         _ => Status::NoMemory,

@@ -29,6 +29,11 @@ pub record ReadNames (value : List ℕ) (done : List (List ℕ)) (at : ℕ) : Ty
   pub found : (texts : List (List ℕ)) → AreNames value at texts → AreNames value 0 (done ++ texts)
   pub only : (all : List (List ℕ)) → AreNames value 0 all → (texts : List (List ℕ)) × AreNames value at texts × (all ≡ done ++ texts)
 
+-- the same, where what was read wasn't kept
+pub record WalkedNames (value : List ℕ) (at : ℕ) : Type 0 where
+  pub done : List (List ℕ)
+  pub read : ReadNames value done at
+
 pub no_name_yet : (value : List ℕ) → ReadNames value [] 0
 no_name_yet value = record { within = omega arith; found = λ texts are. are; only = λ all are. (all, are, refl) }
 
@@ -56,6 +61,9 @@ module _ (value : List ℕ) (done : List (List ℕ)) (at : ℕ) (r : ReadNames v
 
   pub names_whole : length value ≤ at → AreNames value 0 done
   names_whole ended = let end : at ≡ length value = omega (arith, r.within) in rw append-nil at (r.found [] end)
+
+pub one_more_walked : (value : List ℕ) (at : ℕ) → WalkedNames value at → (text : List ℕ) (next : ℕ) → IsNameAt value at text next → WalkedNames value next
+one_more_walked value at w text next is = record { done = w.done ++ text ∷ []; read = one_more_name value w.done at w.read text next is }
 
 pub names_some : {X : Type 0} (text_of : X → List ℕ) (value : List ℕ) (names : List X) → 0 < length value → AreNames value 0 (map text_of names) → names ≢ []
 names_some text_of value [] filled are e = absurd (omega arith)

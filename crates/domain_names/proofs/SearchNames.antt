@@ -1,6 +1,6 @@
 -- The search list as a function gives the names of the grammar.
 use Rattle.std.proofs.Common.{◌≡◌, ◌≢◌, ℕ, zero, suc, ◌+◌, ◌-◌, ◌*◌, ◌<◌, ◌≤◌, inl, inr, true, false, List, [], ◌∷◌, length, map, take, drop, Option, Some, None, refl, sym, ap, subst, ◌∙◌, arith, eqb, ltb}
-use Rattle.std.specs.Prelude.{MatchOption}
+use Rattle.std.specs.Prelude.{MatchOption, is_some}
 use Rattle.std.specs.Option.{option_map, option_and_then}
 use Rattle.std.proofs.Math.Nat.{mul-le-mul_left}
 use Rattle.std.proofs.lemmas.Bool.{eqb-true}
@@ -168,3 +168,16 @@ names_given {X = X} items text_of value (Some v) are = sym (search_whole value (
 pub nothing_given : (value : List ℕ) → length value ≡ 0 → None ≡ search_in value
 nothing_given [] empty = refl
 nothing_given (b ∷ value) empty = absurd (omega arith)
+
+-- ---- whether there is a list
+
+pub nothing_searched : (value : List ℕ) → length value ≡ 0 → false ≡ is_some (search_in value)
+nothing_searched value empty = ap (λ (o : Option (List (List ℕ))). is_some o) (nothing_given value empty)
+
+pub none_searched : (value : List ℕ) → NoNames value → false ≡ is_some (search_in value)
+none_searched value none =
+    ap (λ (o : Option (List (List ℕ))). is_some o) (names_given (λ (v : List (List ℕ)). v) (λ (text : List ℕ). text) value None none)
+
+pub some_searched : (value : List ℕ) (texts : List (List ℕ)) → 0 < length value → AreNames value 0 texts → true ≡ is_some (search_in value)
+some_searched value [] filled are = absurd (omega arith)
+some_searched value (text ∷ texts) filled are = rw (search_whole value (text ∷ texts) (λ e. absurd cc) are) refl

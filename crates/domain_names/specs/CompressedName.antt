@@ -11,7 +11,7 @@ target_of high low = (high - 192) * 256 + low
 abbrev pub label_piece : List ℕ → ℕ → ℕ → Piece
 label_piece value at len = if nat_le (at + 1 + len) (length value) then Label len else Bad
 
--- a pointer leads below the place where the part now read begins
+-- a pointer leads to a place before the part that is being read
 abbrev pub pointer_piece : List ℕ → ℕ → ℕ → Piece
 pointer_piece value start at =
     if nat_le (at + 2) (length value)

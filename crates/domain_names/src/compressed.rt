@@ -1,11 +1,14 @@
 //! Compressed names (RFC 1035, section 4.1.4).
 
-ghost use Rattle.std.specs.Prelude.{◌≡◌, ◌+◌, ◌<◌, ◌≤◌, slice_index, length, take, drop, IfOk, OnOk, MatchOption};
+ghost use Rattle.std.specs.Prelude.{◌≡◌, ◌+◌, ◌<◌, ◌≤◌, slice_index, length, take, drop, OnErr, OnOk, MatchOption};
 ghost use Rattle.domain_names.specs.CompressedName.{label_piece, pointer_piece, piece_of, IsNameAt, NoNameAt};
 ghost use Rattle.domain_names.specs.CompressedSteps.{HasRoom, with_label};
 
 use crate::label::{DOT, NAME_MAX, is_label};
-use std::alloc::{AllocError, Global};
+use arrayvec::{ArrayVec, CapacityError};
+
+/// The bytes of a name as a text, of which there are no more than these.
+pub(crate) type NameBytes = ArrayVec<u8, NAME_MAX>;
 
 /// From this byte on a byte is no length of a label (RFC 1035, section 3.1).
 const LABEL_LIMIT: u8 = 64;
@@ -86,41 +89,38 @@ fn label_at(value: &[u8], at: usize, len: usize) -> &[u8]
     label
 }
 
-/// Puts a label after a name, and a dot between them.
-fn add_label(name: &mut Vec<u8>, label: &[u8]) -> Result<(), AllocError>
-    ensures { OnOk result (name.new.items ≡ with_label name.old.items label.now) }
+/// Puts a label after a name, and a dot between them. An error where the name would be too long.
+fn add_label(name: &mut NameBytes, label: &[u8]) -> Result<(), CapacityError>
+    ensures added { OnOk result (name.new.items ≡ with_label name.old.items label.now) }
+    ensures short { OnOk result (length (with_label name.old.items label.now) ≤ 253) }
+    ensures long { OnErr result (253 < length (with_label name.old.items label.now)) }
 {
     if !name.is_empty() {
-        name.push(DOT)?;
+        name.try_extend_from_slice(&[DOT])?;
     }
-    name.extend_from_slice(label)
+    name.try_extend_from_slice(label)
 }
 
 /// The name that begins at `from`, and where what follows it begins.
-pub(crate) fn read_name(
-    alloc: Global,
-    value: &[u8],
-    from: usize,
-) -> Result<Option<(Vec<u8>, usize)>, AllocError>
-    ensures { IfOk result (λ name. MatchOption name (NoNameAt value.now from) (λ x. IsNameAt value.now from x.0.items x.1)) }
+pub(crate) fn read_name(value: &[u8], from: usize) -> Option<(NameBytes, usize)>
+    ensures { MatchOption result (NoNameAt value.now from) (λ x. IsNameAt value.now from x.0.items x.1) }
 {
-    let mut name = Vec::new(alloc);
+    let mut name = NameBytes::new();
     let mut start = from;
     let mut at = from;
     let mut after = None;
     'pieces: loop {
         match piece_at(value, start, at) {
-            Piece::Bad => return Ok(None),
+            Piece::Bad => return None,
             Piece::Label(len) => {
                 let label = label_at(value, at, len);
                 if !is_label(label) {
-                    return Ok(None);
+                    return None;
                 }
-                add_label(&mut name, label)?;
-                if name.len() > NAME_MAX {
-                    return Ok(None);
+                match add_label(&mut name, label) {
+                    Ok(()) => at = at + 1 + len,
+                    Err(_) => return None,
                 }
-                at = at + 1 + len;
             }
             Piece::Pointer(target) => {
                 after = Some(after.unwrap_or(at + 2));
@@ -129,9 +129,9 @@ pub(crate) fn read_name(
             }
             Piece::End => {
                 if name.is_empty() {
-                    return Ok(None);
+                    return None;
                 }
-                return Ok(Some((name, after.unwrap_or(at + 1))));
+                return Some((name, after.unwrap_or(at + 1)));
             }
         }
     }

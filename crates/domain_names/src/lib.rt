@@ -8,8 +8,8 @@ mod search;
 mod text;
 
 pub use laws::name_law;
-pub use search::search_of;
-pub use text::{is_name, text_of};
+pub use search::{is_search, search_of};
+pub use text::{is_name, is_text, text_of};
 
 #[cfg(test)]
 mod tests;

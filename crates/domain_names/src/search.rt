@@ -1,13 +1,13 @@
 //! The search list: names one after another (RFC 3397).
 
-ghost use Rattle.std.specs.Prelude.{◌≡◌, ◌≢◌, ◌<◌, ◌≤◌, [], length, map, IfOk, IfSome, MatchOption};
+ghost use Rattle.std.specs.Prelude.{◌≡◌, ◌≢◌, ◌<◌, ◌≤◌, [], length, map, is_some, IfOk, IfSome, MatchOption};
 ghost use Rattle.std.specs.Option.{option_map};
-ghost use Rattle.std.specs.Str.{IsUtf8};
 ghost use Rattle.std.specs.String.{string_bytes};
 ghost use Rattle.domain_names.specs.CompressedName.{IsNameAt, NoNameAt, AreNames, NoNames};
 ghost use Rattle.domain_names.specs.SearchList.{search_in};
 
 use crate::compressed::read_name;
+use crate::text::ascii_text;
 use net_types::NoMemory;
 use std::alloc::{AllocError, Global};
 
@@ -16,22 +16,11 @@ fn name_at(alloc: Global, value: &[u8], from: usize) -> Result<Option<(String, u
     ensures name { IfOk result (λ name. MatchOption name (NoNameAt value.now from) (λ x. IsNameAt value.now from (string_bytes x.0) x.1)) }
     ensures forward { IfOk result (λ name. IfSome name (λ x. (from < x.1) × (x.1 ≤ length value.now))) }
 {
-    let name = read_name(alloc, value, from)?;
-    let Some((name, next)) = name else {
+    let Some((name, next)) = read_name(value, from) else {
         return Ok(None);
     };
-    Ok(Some((text_from(name), next)))
-}
-
-/// The text of bytes that are text.
-fn text_from(bytes: Vec<u8>) -> String
-    requires { IsUtf8 bytes.items }
-    ensures { string_bytes result ≡ bytes.items }
-{
-    match String::from_utf8(bytes) {
-        Ok(text) => text,
-        Err(_) => unreachable!(),
-    }
+    let text = ascii_text(alloc, name.as_slice())?;
+    Ok(Some((text, next)))
 }
 
 fn read_names(alloc: Global, value: &[u8]) -> Result<Option<Vec<String>>, AllocError>
@@ -65,4 +54,21 @@ pub fn search_of(alloc: Global, value: &[u8]) -> Result<Option<Vec<String>>, NoM
         Ok(names) => Ok(names),
         Err(_) => Err(NoMemory),
     }
+}
+
+/// Whether the value is names as `search_of` reads them. It takes no memory.
+pub fn is_search(value: &[u8]) -> bool
+    ensures { result ≡ is_some (search_in value.now) }
+{
+    if value.is_empty() {
+        return false;
+    }
+    let mut from = 0;
+    'names: while from < value.len() {
+        let Some((_, next)) = read_name(value, from) else {
+            return false;
+        };
+        from = next;
+    }
+    true
 }

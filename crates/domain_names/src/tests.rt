@@ -50,6 +50,7 @@ const TEXTS: [(&[u8], &str); 10] = [
 #[test]
 fn texts(rt: HostRuntime) -> Result<(), Fail> {
     for (value, expected) in &TEXTS {
+        assert_eq!(rt; is_text(value), *expected != "none");
         match text_of(rt.alloc(), value)? {
             Some(text) => assert_eq!(rt; text.as_str(), *expected),
             None => assert_eq!(rt; "none", *expected),
@@ -91,6 +92,7 @@ const LISTS: [(&[u8], &str); 14] = [
 fn search_lists(rt: HostRuntime) -> Result<(), Fail> {
     for (value, expected) in &LISTS {
         assert_eq!(rt; listed(&rt, value)?.as_str(), *expected);
+        assert_eq!(rt; is_search(value), *expected != "none");
     }
     Ok(())
 }
@@ -100,8 +102,10 @@ fn longest_names(rt: HostRuntime) -> Result<(), Fail> {
     // 253 bytes and the blank, and a name of 254 bytes.
     let value = long_name(&rt, 61)?;
     assert_eq!(rt; listed(&rt, &value)?.len(), 254);
+    assert!(rt; is_search(&value));
     let value = long_name(&rt, 62)?;
     assert_eq!(rt; listed(&rt, &value)?.as_str(), "none");
+    assert!(rt; !is_search(&value));
     Ok(())
 }
 

@@ -1,6 +1,6 @@
 //! Names as texts.
 
-ghost use Rattle.std.specs.Prelude.{◌≡◌, IfOk};
+ghost use Rattle.std.specs.Prelude.{◌≡◌, is_some, IfOk};
 ghost use Rattle.std.specs.Option.{option_map};
 ghost use Rattle.std.specs.Str.{IsUtf8};
 ghost use Rattle.std.specs.String.{string_bytes};
@@ -56,6 +56,13 @@ fn trimmed(value: &[u8]) -> &[u8]
     }
 }
 
+/// Whether the value is a name as `text_of` reads it. It takes no memory.
+pub fn is_text(value: &[u8]) -> bool
+    ensures { result ≡ is_some (text_in value.now) }
+{
+    is_name(trimmed(value))
+}
+
 /// The name that is the value: options 12 and 15. One trailing zero byte or dot is dropped. None unless the rest is a
 /// name.
 pub fn text_of(alloc: Global, value: &[u8]) -> Result<Option<String>, NoMemory>
@@ -71,7 +78,8 @@ pub fn text_of(alloc: Global, value: &[u8]) -> Result<Option<String>, NoMemory>
     }
 }
 
-fn ascii_text(alloc: Global, name: &[u8]) -> Result<String, AllocError>
+/// The bytes of a name as a text.
+pub(crate) fn ascii_text(alloc: Global, name: &[u8]) -> Result<String, AllocError>
     requires { IsUtf8 name.now }
     ensures { IfOk result (λ text. string_bytes text ≡ name.now) }
 {

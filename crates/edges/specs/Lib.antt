@@ -1,4 +1,5 @@
 pub mod Counts
 pub mod Paths
+pub mod Ports
 pub mod Datagrams
 pub mod Waiting

@@ -1,4 +1,5 @@
 ghost use Rattle.std.specs.Prelude.{◌≡◌, false, is_some, IfOk};
+ghost use Rattle.std.specs.String.{string_bytes};
 
 use crate::faults::Faults;
 use std::alloc::{AllocError, Global};
@@ -41,7 +42,8 @@ pub struct ChildHooks<R: Processes + AllocGlobal + Drop> {
 impl<R: Processes + AllocGlobal + Drop> ChildHooks<R> {
     /// Hooks whose own script has this path. Nothing runs yet.
     pub fn new(rt: R, script: &str) -> Result<ChildHooks<R>, NoMemory>
-        ensures { IfOk result (λ hooks. is_some hooks.child ≡ false) }
+        ensures script { IfOk result (λ hooks. string_bytes hooks.script ≡ script.now) }
+        ensures idle { IfOk result (λ hooks. is_some hooks.child ≡ false) }
     {
         match String::from_str(rt.alloc(), script) {
             Ok(script) => Ok(ChildHooks {

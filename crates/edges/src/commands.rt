@@ -139,7 +139,9 @@ pub struct CommandHost<R: Processes + AllocGlobal + Drop> {
 #[tactic(auto, using(crate::proofs::Causing::counted_cause, crate::proofs::HeldRows::lists_held))]
 impl<R: Processes + AllocGlobal + Drop> CommandHost<R> {
     /// The tables behind the script with this path. Nothing runs yet.
-    pub fn new(rt: R, script: &str) -> Result<CommandHost<R>, NoMemory> {
+    pub fn new(rt: R, script: &str) -> Result<CommandHost<R>, NoMemory>
+        ensures { IfOk result (λ host. string_bytes host.script ≡ script.now) }
+    {
         match String::from_str(rt.alloc(), script) {
             Ok(script) => Ok(CommandHost {
                 rt,

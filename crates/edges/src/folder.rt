@@ -134,7 +134,9 @@ pub struct FolderStore<R: Files + AllocGlobal + Clone + Drop> {
 
 impl<R: Files + AllocGlobal + Clone + Drop> FolderStore<R> {
     /// The files in the folder `dir`. Nothing is opened yet.
-    pub fn new(rt: R, dir: &str) -> Result<FolderStore<R>, NoMemory> {
+    pub fn new(rt: R, dir: &str) -> Result<FolderStore<R>, NoMemory>
+        ensures { IfOk result (λ store. string_bytes store.dir ≡ dir.now) }
+    {
         match String::from_str(rt.alloc(), dir) {
             Ok(dir) => Ok(FolderStore {
                 rt,

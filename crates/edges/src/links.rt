@@ -1,11 +1,12 @@
 ghost use Rattle.std.specs.Prelude.{◌≡◌, ◌≤◌, length, IfOk, IfSome};
-ghost use Rattle.edges.specs.Waiting.{patience};
+ghost use Rattle.edges.specs.Ports.{port_named};
+ghost use Rattle.edges.specs.Waiting.{patience, is_over};
 ghost use Rattle.world.specs.Causes.{HasCause};
 ghost use Rattle.world.specs.LinkCalls.{frame_len};
 
 use crate::datagrams::{FRAME_LIMIT, HEAD, frame_datagram, taken};
 use crate::faults::Faults;
-use net_types::IfIndex;
+use net_types::{IfIndex, number_of};
 use rand_core::{Rng, SeedableRng};
 use rand_xoshiro::SplitMix64;
 use std::io::ErrorKind;
@@ -19,6 +20,9 @@ const IDLE: u64 = 60_000;
 
 /// How many milliseconds a wait lasts at most.
 const LONGEST: u64 = 0xffff_ffff;
+
+/// One more than the last port.
+const PORT_LIMIT: u64 = 65_536;
 
 /// The moment of the machine's clock, in milliseconds since 1970.
 fn moment(clock: &impl Clock) -> Result<u64, Failed> {
@@ -45,7 +49,9 @@ fn patience(until: Option<u64>, now: u64) -> u64
 }
 
 /// Whether a wait is over without a datagram: its time ran out, or a signal cut it short, as after a pause of the process.
-fn is_over(kind: ErrorKind) -> bool {
+fn is_over(kind: ErrorKind) -> bool
+    ensures { result ≡ is_over kind }
+{
     matches!(
         kind,
         ErrorKind::WouldBlock | ErrorKind::TimedOut | ErrorKind::Interrupted
@@ -53,8 +59,13 @@ fn is_over(kind: ErrorKind) -> bool {
 }
 
 /// The port that a word names; 0 where it names none.
-fn port_of(word: &str) -> u16 {
-    word.parse().unwrap_or(0)
+fn port_of(word: &str) -> u16
+    ensures { result ≡ port_named word.now }
+{
+    match number_of(word.as_bytes(), PORT_LIMIT) {
+        Some(port) => port as u16,
+        None => 0,
+    }
 }
 
 /// The socket, the clock and the random words of a link.
@@ -168,7 +179,9 @@ pub struct LoopLink<R: Net + Clock + AllocGlobal + Drop> {
 impl<R: Net + Clock + AllocGlobal + Drop> LoopLink<R> {
     /// A link between two ports of 127.0.0.1, its own and the peer's. A word that is no port stands for 0. Nothing is opened yet.
     pub fn new(rt: R, port: &str, peer: &str) -> LoopLink<R>
-        ensures { result.begins ≡ 0 }
+        ensures port { result.wire.port ≡ port_named port.now }
+        ensures peer { result.wire.peer ≡ port_named peer.now }
+        ensures begins { result.begins ≡ 0 }
     {
         LoopLink {
             wire: Wire {

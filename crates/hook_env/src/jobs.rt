@@ -111,7 +111,7 @@ fn add_env(into: &mut Vec<HookVar>, env: &[HookVar]) -> Result<(), NoMemory>
 }
 
 /// The job of a situation, without a number. Its variables are `interface`, `reason`, `ifcarrier` and `ifmetric`; then, where the
-/// reason tells of them, those of what was held before, with `old_`, and those of what is held now, with `new_`; then those
+/// reason tells of them, those with `old_` of the lease before, and those with `new_` of the lease since; then those
 /// that are configured (dhcpcd-run-hooks(8)).
 pub fn job(alloc: Global, situation: &Situation) -> Result<HookJob, NoMemory>
     ensures { IfOk result (λ made. job_of made ≡ job_of_situation (situation_content situation.now)) }

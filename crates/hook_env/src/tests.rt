@@ -44,7 +44,7 @@ fn situation<'a>(reason: Reason, held_before: Held<'a>, held_now: Held<'a>) -> S
 /// routes of option 121 are 192.168.9.0/24 and 0.0.0.0/0.
 const LEASE: &str = "dhcpcd-lease4 1
 interface eth0
-address 10.0.0.50/24
+address 10.0.0.77/24
 server 10.0.0.1
 servermac 02:00:00:00:00:fe
 first 1000
@@ -81,7 +81,7 @@ fn a_lease_that_was_bound(rt: HostRuntime) -> Result<(), Fail> {
 reason=BOUND
 ifcarrier=up
 ifmetric=1001
-new_ip_address=10.0.0.50
+new_ip_address=10.0.0.77
 new_subnet_cidr=24
 new_subnet_mask=255.255.255.0
 new_broadcast_address=10.0.0.255

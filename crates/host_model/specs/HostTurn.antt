@@ -1,5 +1,5 @@
 -- The host calls of a turn: a listing where the table isn't known, then the removals in the reverse of the row order,
--- then the additions in row order. A failed call doesn't stop the others.
+-- then the additions in row order. After a failed one the rest is still made.
 use Rattle.std.specs.Prelude.{◌≡◌, Bool, if◌then◌else◌, List, [], ◌∷◌, ◌++◌, map, filter, reverse, length, Option, Some, None}
 use Rattle.std.specs.List.{list_all}
 use Rattle.world.specs.declared.rows.HostRow.{HostRow}

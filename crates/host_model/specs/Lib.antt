@@ -2,3 +2,4 @@ pub mod HostTurn
 pub mod ToldHost
 pub mod HostTable
 pub mod HostLaws
+pub mod Precedence

@@ -13,7 +13,7 @@ use Rattle.world.specs.declared.rows.HostRow.{HostRow}
 use Rattle.world.specs.declared.rows.HostRow.TheVariants.{Addr, Route}
 use Rattle.world.specs.RowOrder.{family, net_number, net_len, row_iface, row_cmp, row_cmp_total, has_row}
 use Rattle.world.proofs.ExactRows.{row_cmp_exact}
-use Rattle.host_tables.specs.Precedence.{goes_before, outranks}
+use Rattle.host_model.specs.Precedence.{goes_before, outranks}
 use Rattle.host_tables.specs.Bringings.{target_of, contends}
 
 -- ---- tests

@@ -13,7 +13,7 @@ use Rattle.host_model.specs.HostTable.{InRowOrder}
 use Rattle.host_tables.specs.declared.bringing.Bringing.{Bringing}
 use Rattle.host_tables.specs.declared.union.Diff.{Diff}
 use Rattle.host_tables.specs.declared.union.Union.{Union}
-use Rattle.host_tables.specs.Precedence.{outranks, is_kept, all_rows, wanted_of}
+use Rattle.host_model.specs.Precedence.{outranks, is_kept, all_rows, wanted_of}
 use Rattle.host_tables.specs.Bringings.{contends, has_bringing, rows_in, stands}
 use Rattle.host_tables.specs.Unions.{AddsRows, AreHeads, Brings, Exchanged, RemovesRows, TakesOut, Unites}
 use Rattle.host_model.proofs.HostTableRows.{same_rows, has_filter, filter_in_order}

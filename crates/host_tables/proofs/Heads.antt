@@ -18,7 +18,7 @@ use Rattle.world.specs.declared.rows.HostRow.TheVariants.{Addr, Route}
 use Rattle.world.specs.declared.rows.Via.TheVariants as Ways
 use Rattle.world.specs.RowOrder.{row_iface, row_cmp, row_cmp_total, has_row}
 use Rattle.host_tables.specs.declared.bringing.Bringing.{Bringing}
-use Rattle.host_tables.specs.Precedence.{goes_before, outranks, is_kept}
+use Rattle.host_model.specs.Precedence.{goes_before, outranks, is_kept}
 use Rattle.host_tables.specs.Bringings.{target_of, contends, stands, bringing_cmp, bringing_cmp_total, has_bringing, rows_in}
 use Rattle.host_tables.proofs.Contending.{or_is, or_more, off_where, off_last, on_both, row_is, row_itself, passed_among, passed_by_none, before_cmp, before_cmp_total, goes_before_is, one_target, contending, outranks_is, eq_numbers}
 

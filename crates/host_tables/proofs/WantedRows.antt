@@ -10,7 +10,7 @@ use Rattle.host_model.specs.HostTable.{InRowOrder}
 use Rattle.world.proofs.RowLists.{in_order_has}
 use Rattle.host_model.proofs.HostTableRows.{same_rows, has_filter, in_order_sorted}
 use Rattle.host_tables.specs.declared.union.Union.{Union}
-use Rattle.host_tables.specs.Precedence.{is_kept, all_rows, wanted_of}
+use Rattle.host_model.specs.Precedence.{is_kept, all_rows, wanted_of}
 use Rattle.host_tables.specs.Bringings.{stands}
 use Rattle.host_tables.specs.Unions.{Unites, AllFit}
 use Rattle.host_tables.proofs.RowsFit.{order_fit}

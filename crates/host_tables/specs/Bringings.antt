@@ -10,7 +10,7 @@ use Rattle.world.specs.declared.rows.HostRow.{HostRow}
 use Rattle.world.specs.declared.rows.HostRow.TheVariants.{Addr, Route}
 use Rattle.world.specs.declared.rows.Via.TheVariants.{OnLink}
 use Rattle.world.specs.RowOrder.{row_iface, row_cmp, row_cmp_total, has_row}
-use Rattle.host_tables.specs.Precedence.{is_kept}
+use Rattle.host_model.specs.Precedence.{is_kept}
 use Rattle.host_tables.specs.declared.bringing.Bringing.{Bringing}
 
 -- A row's target: an address is its own; that of a route is its destination, length and metric.

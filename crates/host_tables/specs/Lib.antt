@@ -1,3 +1,2 @@
-pub mod Precedence
 pub mod Bringings
 pub mod Unions

@@ -6,7 +6,7 @@ use Rattle.world.specs.declared.rows.HostRow.{HostRow}
 use Rattle.world.specs.Rows.{IsRow}
 use Rattle.world.specs.RowOrder.{has_row, rows_beyond}
 use Rattle.host_model.specs.HostTable.{InRowOrder}
-use Rattle.host_tables.specs.Precedence.{all_rows, wanted_of}
+use Rattle.host_model.specs.Precedence.{all_rows, wanted_of}
 use Rattle.host_tables.specs.Bringings.{has_bringing, stands, stands_for}
 use Rattle.host_tables.specs.declared.union.Diff.{Diff}
 use Rattle.host_tables.specs.declared.union.Union.{Union}

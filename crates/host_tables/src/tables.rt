@@ -1,7 +1,7 @@
 ghost use Rattle.std.specs.Prelude.{◌≡◌, ◌<◌, [], ◌∷◌, ◌++◌, length, slice_index_or, slice_set, OnOk, OnErr, IfOk};
 ghost use Rattle.std.specs.List.{AllByRecursion};
 ghost use Rattle.world.specs.Rows.{IsRow};
-ghost use Rattle.host_tables.specs.Precedence.{wanted_of};
+ghost use Rattle.host_model.specs.Precedence.{wanted_of};
 ghost use Rattle.host_tables.specs.Unions.{Differ};
 
 use crate::host_rows::HostRows;

@@ -25,7 +25,7 @@ pub struct Turn<'a> {
     pub at: u64,
     /// A random word.
     pub salt: u64,
-    /// The interfaces on which a send failed in the turn before: bit `i - 1` is interface `i`.
+    /// Whose frames the link refused in the turn before: their bits are set, from the lowest for interface 1.
     pub unsent: u64,
     pub input: TurnInput<'a>,
 }

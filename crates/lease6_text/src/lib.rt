@@ -3,6 +3,7 @@
 //! The values of options are kept as they came, each checked once for the form that its code asks for.
 #![tactic(auto)]
 
+mod constants;
 mod form;
 mod laws;
 mod lease;
@@ -11,6 +12,7 @@ mod printing;
 mod reading;
 mod typed;
 
+pub use constants::bounds_of_leases;
 pub use form::{KEPT_CODES6, is_kept6, is_well_formed6};
 pub use laws::leases6_are_read_back;
 pub use lease::{

@@ -105,7 +105,7 @@ fn settle<S: Store>(store: &mut S) -> Result<bool, NoMemory>
     }
 }
 
-/// Removes all asides, and settles that where there was one. A failed removal doesn't stop the others.
+/// Removes all asides, and settles that unless there was none. After a failed removal the rest is still removed.
 /// `Failed` comes of the listing alone.
 pub fn clear_asides<S: Store>(alloc: Global, store: &mut S) -> Result<Clearing, SaveFault>
     ensures later { S.faults store.old ≤ S.faults store.new }

@@ -3,6 +3,7 @@
 //! The values of options are kept as they came, each checked once for the form that its code asks for.
 #![tactic(auto)]
 
+mod constants;
 mod form;
 mod laws;
 mod lease;
@@ -10,6 +11,7 @@ mod printing;
 mod reading;
 mod typed;
 
+pub use constants::bounds_of_leases;
 pub use form::{KEPT_CODES, ValueForm, form_of, is_kept, is_well_formed};
 pub use laws::leases_are_read_back;
 pub use lease::{

@@ -224,14 +224,13 @@ fn last_code(values: &[Value]) -> u16
 }
 
 /// Whether a value may come after one with the code `before`.
-fn may_follow(alloc: Global, before: u16, code: u8, bytes: &[u8]) -> Result<bool, NoMemory>
-    ensures { IfOk result (λ may. may ≡ may_follow before (record { code = code; bytes = bytes.now })) }
+fn may_follow(before: u16, code: u8, bytes: &[u8]) -> bool
+    ensures { result ≡ may_follow before (record { code = code; bytes = bytes.now }) }
 {
-    if before < u16::from(code) && is_kept(code) && bytes.len() <= VALUE_LIMIT {
-        is_well_formed(alloc, code, bytes)
-    } else {
-        Ok(false)
-    }
+    before < u16::from(code)
+        && is_kept(code)
+        && bytes.len() <= VALUE_LIMIT
+        && is_well_formed(code, bytes)
 }
 
 /// The value that a line says after its first word.
@@ -248,7 +247,7 @@ fn value_of(alloc: Global, before: u16, text: &[u8]) -> Result<Option<Value>, No
     let Some(bytes) = hex_of(alloc, rest)? else {
         return Ok(None);
     };
-    if may_follow(alloc, before, code, &bytes)? {
+    if may_follow(before, code, &bytes) {
         Ok(Some(Value {
             code: u16::from(code),
             bytes,

@@ -92,11 +92,11 @@ fn a_host_has_no_address_of_these(rt: HostRuntime) {
 #[test]
 fn values_are_kept_where_they_are_well_formed(rt: HostRuntime) -> Result<(), Fail> {
     // two routers, and half a router
-    assert!(rt; is_well_formed(rt.alloc(), 3, &[10, 0, 0, 1, 10, 0, 0, 2])?);
-    assert!(rt; !is_well_formed(rt.alloc(), 3, &[10, 0])?);
+    assert!(rt; is_well_formed(3, &[10, 0, 0, 1, 10, 0, 0, 2]));
+    assert!(rt; !is_well_formed(3, &[10, 0]));
     // a search list of one name, and one that points at itself
-    assert!(rt; is_well_formed(rt.alloc(), 119, b"\x03lan\x00")?);
-    assert!(rt; !is_well_formed(rt.alloc(), 119, &[0xc0, 0])?);
+    assert!(rt; is_well_formed(119, b"\x03lan\x00"));
+    assert!(rt; !is_well_formed(119, &[0xc0, 0]));
     assert!(rt; is_kept(121));
     assert!(rt; !is_kept(51));
     Ok(())

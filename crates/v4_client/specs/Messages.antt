@@ -1,13 +1,13 @@
 -- What a client reads of a server's message.
-use Rattle.std.specs.Prelude.{ℕ, Bool, false, List, Option, Some, None, ◌==◌}
-use Rattle.std.specs.Option.{option_and_then}
-use Rattle.std.specs.List.{flat_map, list_any, list_all}
+use Rattle.std.specs.Prelude.{ℕ, Bool, false, List, length, Option, Some, None, ◌==◌, nat_lt}
+use Rattle.std.specs.List.{list_any, list_all}
 use Rattle.net_types.specs.declared.address.Mac.{Mac}
-use Rattle.v4_options.specs.Numbers.{u32_in}
 use Rattle.v4_options.specs.OptionArea.{Instance}
-use Rattle.v4_options.specs.OptionValue.{pieces, value_of}
+pub use Rattle.v4_options.specs.Numbers.{number_at}
+use Rattle.v4_options.specs.OptionValue.{bytes_at, value_of}
 use Rattle.v4_message.specs.declared.reading.Msg4.{Msg4}
 use Rattle.v4_message.specs.Messages.{Message4, message_of}
+use Rattle.lease_text.specs.declared.lease.TheConstants.{VALUE_LIMIT}
 use Rattle.lease_text.specs.ValueForms.{is_well_formed}
 use Rattle.v4_client.specs.declared.answers.Arrival4.{Arrival4}
 
@@ -23,14 +23,6 @@ arrival_from source at message = record { message = message_of message; source =
 abbrev pub arrival_of : Arrival4 → Arrival
 arrival_of arrival = arrival_from arrival.source arrival.at arrival.message
 
--- the bytes of a code's instances, end to end
-abbrev pub bytes_at : (code : ℕ) → List Instance → List ℕ
-bytes_at code instances = flat_map (λ piece. piece) (pieces code instances)
-
--- the number that a code's value is
-abbrev pub number_at : (code : ℕ) → List Instance → Option ℕ
-number_at code instances = option_and_then u32_in (value_of code instances)
-
 -- an option is there where it has an instance, and its value the form of its code
 abbrev pub is_value_there : (code : ℕ) → Option (List ℕ) → Bool
 is_value_there code None = false
@@ -41,6 +33,13 @@ is_there instances code = is_value_there code (value_of code instances)
 
 abbrev pub are_there : List Instance → (codes : List ℕ) → Bool
 are_there instances codes = list_all (is_there instances) codes
+
+-- an option has a value longer than a lease keeps one, and than a frame can bring
+abbrev pub is_long : (code : ℕ) → List Instance → Bool
+is_long code instances = nat_lt VALUE_LIMIT (length (bytes_at code instances))
+
+abbrev pub has_long_value : List Instance → (codes : List ℕ) → Bool
+has_long_value instances codes = list_any (λ code. is_long code instances) codes
 
 abbrev pub is_among : (codes : List ℕ) → (code : ℕ) → Bool
 is_among codes code = list_any (λ other. other == code) codes

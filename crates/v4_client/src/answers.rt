@@ -3,19 +3,19 @@
 ghost use Rattle.std.specs.Prelude.{◌≡◌, ◌<◌, ◌^◌, true, Some, IfOk, OnErr};
 ghost use Rattle.v4_client.specs.Answers.{answer_of, answering, is_answer, is_blacklisted, is_chosen, is_unexpired, offer_by, offer_of, reply_by, reply_in, reply_of};
 ghost use Rattle.v4_client.specs.Awaited.{is_awaited, is_awaited_by};
-ghost use Rattle.v4_client.specs.Messages.{arrival_of};
+ghost use Rattle.v4_client.specs.Messages.{arrival_of, has_long_value};
 ghost use Rattle.v4_client.specs.Settings.{settings_content};
 ghost use Rattle.v4_client.specs.Sound.{FitsState};
 
 use crate::moments::SECOND;
-use crate::options::{address_at, are_there, number_at, terms_granted};
+use crate::options::{are_there, terms_granted};
 use crate::settings::Set4;
 use crate::states::{Answer4, Exchange4, State4};
 use lease_text::{INFINITE_LEASE, is_host_address};
 use net_types::{Ip4, Mac, NoMemory};
 use std::alloc::Global;
 use v4_message::{MessageKind, Msg4};
-use v4_options::code;
+use v4_options::{addr_at, code, u32_at};
 
 /// A message as it was heard: from which hardware address, and at which moment.
 #[derive(Clone, Copy)]
@@ -45,7 +45,7 @@ fn answering(set: &Set4, xid: u32, arrival: &Arrival4) -> Option<Ip4>
     if !is_answer(set, xid, arrival) {
         return None;
     }
-    let server = address_at(&arrival.message.options, code::SERVER_IDENTIFIER)?;
+    let server = addr_at(&arrival.message.options, code::SERVER_IDENTIFIER)?;
     if is_blacklisted(set, server) {
         return None;
     }
@@ -54,10 +54,11 @@ fn answering(set: &Set4, xid: u32, arrival: &Arrival4) -> Option<Ip4>
 
 /// What the OFFER of a server says.
 fn offer_of(alloc: Global, set: &Set4, arrival: &Arrival4, server: Ip4) -> Result<Answer4, NoMemory>
-    ensures { IfOk result (λ answer. answer ≡ offer_of (settings_content set.now) (arrival_of arrival.now) server MessageKind.Offer) }
+    ensures memory { OnErr result (has_long_value (arrival_of arrival.now).message.instances (settings_content set.now).required ≡ true) }
+    ensures answer { IfOk result (λ answer. answer ≡ offer_of (settings_content set.now) (arrival_of arrival.now) server MessageKind.Offer) }
 {
     let message = &arrival.message;
-    if number_at(&message.options, code::LEASE_TIME).is_none() {
+    if u32_at(&message.options, code::LEASE_TIME).is_none() {
         return Ok(Answer4::Nothing);
     }
     if !is_host_address(message.yiaddr) {
@@ -74,7 +75,8 @@ fn offer_of(alloc: Global, set: &Set4, arrival: &Arrival4, server: Ip4) -> Resul
 
 /// What the message of a server says to a client that waits for an offer.
 fn offer_by(alloc: Global, set: &Set4, arrival: &Arrival4, server: Ip4) -> Result<Answer4, NoMemory>
-    ensures { IfOk result (λ answer. answer ≡ offer_by (settings_content set.now) (arrival_of arrival.now) (Some server)) }
+    ensures memory { OnErr result (has_long_value (arrival_of arrival.now).message.instances (settings_content set.now).required ≡ true) }
+    ensures answer { IfOk result (λ answer. answer ≡ offer_by (settings_content set.now) (arrival_of arrival.now) (Some server)) }
 {
     match arrival.message.kind {
         MessageKind::Offer => offer_of(alloc, set, arrival, server),
@@ -115,10 +117,11 @@ fn ack_by(
     server: Ip4,
 ) -> Result<Answer4, NoMemory>
     requires { exchange.first < 10 ^ 15 }
-    ensures { IfOk result (λ answer. answer ≡ reply_of (settings_content set.now) exchange (arrival_of arrival.now) server MessageKind.Ack) }
+    ensures memory { OnErr result (has_long_value (arrival_of arrival.now).message.instances (settings_content set.now).required ≡ true) }
+    ensures answer { IfOk result (λ answer. answer ≡ reply_of (settings_content set.now) exchange (arrival_of arrival.now) server MessageKind.Ack) }
 {
     let message = &arrival.message;
-    let Some(lease) = number_at(&message.options, code::LEASE_TIME) else {
+    let Some(lease) = u32_at(&message.options, code::LEASE_TIME) else {
         return Ok(Answer4::Nothing);
     };
     if message.yiaddr.number != exchange.address.number {
@@ -146,7 +149,8 @@ fn reply_by(
     server: Ip4,
 ) -> Result<Answer4, NoMemory>
     requires { exchange.first < 10 ^ 15 }
-    ensures { IfOk result (λ answer. answer ≡ reply_by (settings_content set.now) exchange (arrival_of arrival.now) (Some server)) }
+    ensures memory { OnErr result (has_long_value (arrival_of arrival.now).message.instances (settings_content set.now).required ≡ true) }
+    ensures answer { IfOk result (λ answer. answer ≡ reply_by (settings_content set.now) exchange (arrival_of arrival.now) (Some server)) }
 {
     if !is_chosen(exchange.server, server) {
         return Ok(Answer4::Nothing);
@@ -171,7 +175,8 @@ fn reply_in(
     exchange: Exchange4,
 ) -> Result<Answer4, NoMemory>
     requires { exchange.first < 10 ^ 15 }
-    ensures memory { OnErr result (is_awaited_by (settings_content set.now) (arrival_of arrival.now) (Some exchange.xid) ≡ true) }
+    ensures memory { OnErr result (has_long_value (arrival_of arrival.now).message.instances (settings_content set.now).required ≡ true) }
+    ensures awaited { OnErr result (is_awaited_by (settings_content set.now) (arrival_of arrival.now) (Some exchange.xid) ≡ true) }
     ensures answer { IfOk result (λ answer. answer ≡ reply_in (settings_content set.now) (arrival_of arrival.now) exchange) }
 {
     match answering(set, exchange.xid, arrival) {
@@ -181,7 +186,7 @@ fn reply_in(
 }
 
 /// What the message says to a client in this state. Memory is wanted only where it is an answer that is waited for, and only
-/// for the options that it must have.
+/// for the value of an option that it must have, where that is longer than `VALUE_LIMIT`.
 pub(crate) fn answer_of(
     alloc: Global,
     set: &Set4,
@@ -189,7 +194,8 @@ pub(crate) fn answer_of(
     state: State4,
 ) -> Result<Answer4, NoMemory>
     requires { FitsState state }
-    ensures memory { OnErr result (is_awaited (settings_content set.now) (arrival_of arrival.now) state ≡ true) }
+    ensures memory { OnErr result (has_long_value (arrival_of arrival.now).message.instances (settings_content set.now).required ≡ true) }
+    ensures awaited { OnErr result (is_awaited (settings_content set.now) (arrival_of arrival.now) state ≡ true) }
     ensures answer { IfOk result (λ answer. answer ≡ answer_of (settings_content set.now) (arrival_of arrival.now) state) }
 {
     match state {

@@ -4,6 +4,7 @@
 
 mod answers;
 mod client;
+mod constants;
 mod detection;
 mod hearing;
 mod inputs;
@@ -21,6 +22,7 @@ pub use client::{
     Client4, Out4, ask4, carrier4, client4_new, heard_arp4, heard4, held4, kept4, rebind4,
     release4, unsent4,
 };
+pub use constants::times_are_those_of_rfc_2131;
 pub use laws::{ends_at_expiry, holds_granted, ignores_foreign, probes_first, stays_sound};
 pub use moments::Backoff;
 pub use settings::{Set4, Site4};

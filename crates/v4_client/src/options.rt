@@ -1,11 +1,12 @@
 //! What a client reads of a message's options.
 
-ghost use Rattle.std.specs.Prelude.{◌≡◌, ◌≤◌, ◌<◌, ◌++◌, IfNone, IfOk, IfSome, OnOk, length};
+ghost use Rattle.std.specs.Prelude.{◌≡◌, ◌≤◌, ◌++◌, true, IfNone, IfOk, IfSome, OnErr, OnOk};
+ghost use Rattle.v4_options.specs.Numbers.{number_at};
+ghost use Rattle.v4_options.specs.OptionValue.{bytes_at};
 ghost use Rattle.v4_options.specs.OptionViews.{view_instances};
 ghost use Rattle.lease_text.specs.Leases.{values_content};
 ghost use Rattle.v4_client.specs.Granting.{class_len, kept_of, kept_values, mask_taken, net_len, terms_granted, times_of, times_taken, told_times, unless_refused, usual_times};
-ghost use Rattle.v4_client.specs.Messages.{are_there, arrival_of, bytes_at, is_among, is_there, number_at};
-ghost use Rattle.v4_message.specs.Messages.{address_at};
+ghost use Rattle.v4_client.specs.Messages.{are_there, arrival_of, has_long_value, is_among, is_long, is_there};
 
 use crate::answers::Arrival4;
 use crate::states::Exchange4;
@@ -13,10 +14,7 @@ use arrayvec::ArrayVec;
 use lease_text::{INFINITE_LEASE, KEPT_CODES, Terms4, VALUE_LIMIT, Value, is_well_formed};
 use net_types::{Ip4, Net4, NoMemory};
 use std::alloc::Global;
-use v4_options::{OptionView, addr_of, code, pieces_of, u32_of, value};
-
-/// The bytes of an address or of a number of 32 bits.
-const WORD_LEN: usize = 4;
+use v4_options::{OptionView, addr_at, code, pieces_of, u32_at, value};
 
 /// The renewal and rebinding times of a lease (T1 and T2), in seconds from its start.
 #[derive(Clone, Copy, Debug, PartialEq, Eq)]
@@ -25,49 +23,46 @@ pub struct Times4 {
     pub t2: u32,
 }
 
-/// The bytes of a code's instances, end to end, where they are at most those of a word.
-fn word_at(view: &OptionView, code: u8) -> Option<ArrayVec<u8, WORD_LEN>>
-    ensures long { IfNone result (4 < length (bytes_at code (view_instances view.now))) }
-    ensures word { IfSome result (λ word. word.items ≡ bytes_at code (view_instances view.now)) }
+/// The bytes of a code's instances, end to end, where they are at most `VALUE_LIMIT`.
+fn joined_at(view: &OptionView, code: u8) -> Option<ArrayVec<u8, VALUE_LIMIT>>
+    ensures long { IfNone result (is_long code (view_instances view.now) ≡ true) }
+    ensures joined { IfSome result (λ bytes. bytes.items ≡ bytes_at code (view_instances view.now)) }
 {
-    let mut word = ArrayVec::new();
+    let mut bytes = ArrayVec::new();
     'pieces: for piece in pieces_of(view, code) {
-        if word.try_extend_from_slice(piece).is_err() {
+        if bytes.try_extend_from_slice(piece).is_err() {
             return None;
         }
     }
-    Some(word)
+    Some(bytes)
 }
 
-/// The address that a code's value is.
-pub(crate) fn address_at(view: &OptionView, code: u8) -> Option<Ip4>
-    ensures { result ≡ address_at code (view_instances view.now) }
-{
-    let word = word_at(view, code)?;
-    addr_of(word.as_slice())
-}
-
-/// The number that a code's value is.
-pub(crate) fn number_at(view: &OptionView, code: u8) -> Option<u32>
-    ensures { result ≡ number_at code (view_instances view.now) }
-{
-    let word = word_at(view, code)?;
-    u32_of(word.as_slice())
-}
-
-/// Whether an option is there: it has an instance, and its value the form of its code.
+/// Whether an option is there: it has an instance, and its value the form of its code. The value of one instance is judged in
+/// place; that of several is joined for it, and only where it is longer than `VALUE_LIMIT` in memory.
 fn is_there(alloc: Global, view: &OptionView, code: u8) -> Result<bool, NoMemory>
-    ensures { IfOk result (λ there. there ≡ is_there (view_instances view.now) code) }
+    ensures memory { OnErr result (is_long code (view_instances view.now) ≡ true) }
+    ensures there { IfOk result (λ there. there ≡ is_there (view_instances view.now) code) }
 {
+    let mut pieces = pieces_of(view, code);
+    let Some(first) = pieces.next() else {
+        return Ok(false);
+    };
+    if pieces.next().is_none() {
+        return Ok(is_well_formed(code, first));
+    }
+    if let Some(bytes) = joined_at(view, code) {
+        return Ok(is_well_formed(code, bytes.as_slice()));
+    }
     match value(alloc, view, code)? {
-        Some(bytes) => is_well_formed(alloc, code, &bytes),
+        Some(bytes) => Ok(is_well_formed(code, &bytes)),
         None => Ok(false),
     }
 }
 
-/// Whether all these options are there.
+/// Whether all these options are there. Memory is wanted only for a value that is longer than `VALUE_LIMIT`.
 pub(crate) fn are_there(alloc: Global, view: &OptionView, codes: &[u8]) -> Result<bool, NoMemory>
-    ensures { IfOk result (λ there. there ≡ are_there (view_instances view.now) codes.now) }
+    ensures memory { OnErr result (has_long_value (view_instances view.now) codes.now ≡ true) }
+    ensures there { IfOk result (λ there. there ≡ are_there (view_instances view.now) codes.now) }
 {
     for code in codes {
         if !is_there(alloc, view, *code)? {
@@ -158,7 +153,7 @@ fn number_taken(view: &OptionView, refused: &[u8], code: u8) -> Option<u32>
     if is_among(refused, code) {
         return None;
     }
-    number_at(view, code)
+    u32_at(view, code)
 }
 
 /// The mask of the network, unless it is refused.
@@ -168,7 +163,7 @@ fn mask_taken(view: &OptionView, refused: &[u8]) -> Option<Ip4>
     if is_among(refused, code::SUBNET_MASK) {
         return None;
     }
-    address_at(view, code::SUBNET_MASK)
+    addr_at(view, code::SUBNET_MASK)
 }
 
 /// T1 and T2 of a lease of so many seconds.
@@ -228,7 +223,7 @@ fn push_kept(
     if bytes.len() > VALUE_LIMIT {
         return Ok(());
     }
-    if !is_well_formed(alloc, code, &bytes)? {
+    if !is_well_formed(code, &bytes) {
         return Ok(());
     }
     kept.push(Value {

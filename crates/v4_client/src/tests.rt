@@ -1,3 +1,4 @@
+use crate::options::are_there;
 use crate::{
     Carrier, Client4, News4, Out4, Set4, Tell, To4, ask4, carrier4, client4_new, heard_arp4,
     heard4, held4, kept4, rebind4, release4, unsent4,
@@ -10,6 +11,7 @@ use std::alloc::Global;
 use std::process::Abort;
 use std::test::*;
 use v4_message::{Ask4, Kind4, read4};
+use v4_options::{Areas, code, options_of};
 
 const MAC: Mac = Mac {
     bytes: [2, 0, 0, 0, 0, 1],
@@ -353,5 +355,27 @@ fn a_lease_is_refused_released_and_asked_for_again(rt: HostRuntime) -> Result<()
     let released = release4(&mut rebound, Tell::Server, 8000, 0)?;
     assert!(rt; released.news == News4::Stop && released.old.is_some());
     assert!(rt; kept4(&rebound).is_none());
+    Ok(())
+}
+
+#[test]
+fn options_that_are_there(rt: HostRuntime) -> Result<(), Fail> {
+    // A server of names and a mask of three bytes each.
+    let view = options_of(Areas {
+        options: &[6, 3, 10, 0, 0, 1, 3, 255, 255, 255],
+        file: &[],
+        sname: &[],
+    })?;
+    assert!(rt; !are_there(rt.alloc(), &view, &[code::DOMAIN_NAME_SERVERS])?);
+    assert!(rt; !are_there(rt.alloc(), &view, &[code::SUBNET_MASK])?);
+    assert!(rt; !are_there(rt.alloc(), &view, &[code::ROUTERS])?);
+    // A server of names in two instances, neither of which is an address.
+    let view = options_of(Areas {
+        options: &[6, 3, 10, 0, 0, 6, 1, 1, 3, 4, 10, 0, 0, 1],
+        file: &[],
+        sname: &[],
+    })?;
+    let codes = [code::DOMAIN_NAME_SERVERS, code::ROUTERS];
+    assert!(rt; are_there(rt.alloc(), &view, &codes)?);
     Ok(())
 }

@@ -2,11 +2,13 @@
 //! (RFC 2131).
 #![tactic(auto)]
 
+mod constants;
 mod heard;
 mod laws;
 pub mod sent;
 mod speaker;
 
+pub use constants::numbers_are_those_assigned;
 pub use heard::{Heard4, heard4_of};
 pub use laws::{
     frames_are_read_back, frames_spell_one_message, other_frames_spell_nothing,

@@ -1,11 +1,10 @@
 -- What a server's message says (RFC 2131, section 2), apart from its bytes.
 use Rattle.std.specs.Prelude.{ℕ, List, Option, Some, None}
-use Rattle.std.specs.Option.{option_map, option_and_then}
+use Rattle.std.specs.Option.{option_map}
 use Rattle.net_types.specs.declared.address.Ip4.{Ip4}
 use Rattle.net_types.specs.declared.address.Mac.{Mac}
 use Rattle.v4_options.specs.OptionArea.{Instance}
-use Rattle.v4_options.specs.OptionValue.{value_of}
-use Rattle.v4_options.specs.Numbers.{addr_in}
+pub use Rattle.v4_options.specs.Numbers.{address_at}
 use Rattle.v4_options.specs.OptionViews.{view_instances}
 use Rattle.net_types.specs.Fields.{u32_field, ip4_field, mac_field}
 use Rattle.v4_message.specs.declared.kind.MessageKind.{MessageKind}
@@ -47,9 +46,3 @@ message_unless bytes None = option_map (message_with bytes) (kind_among (message
 -- the message that bytes are: none where they have a fault
 unfoldable pub message_in : List ℕ → Option Message4
 message_in bytes = message_unless bytes (refusal_of bytes)
-
--- ---- values of options
-
--- the address that a code's value is
-abbrev pub address_at : (code : ℕ) → List Instance → Option Ip4
-address_at code instances = option_and_then addr_in (value_of code instances)

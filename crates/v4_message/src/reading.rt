@@ -24,7 +24,7 @@ pub enum Bad4 {
     NotReply,
     /// The magic cookie is missing (RFC 2131, section 3).
     NoCookie,
-    /// The first option whose length byte is missing or whose value runs past its area stands at this byte.
+    /// An area is cut within an option, the first of which begins at this byte.
     Malformed { place: usize },
     /// The message type isn't one byte, the number of a type (RFC 2132, section 9.6).
     NoType,

@@ -1,5 +1,6 @@
 -- The route at the front of a value, or why there is none.
-use Rattle.std.proofs.Common.{◌≡◌, ℕ, zero, suc, ◌+◌, ◌<◌, ◌≤◌, true, false, List, [], ◌∷◌, length, get_or, drop, Some, None, refl, sym, arith}
+use Rattle.std.proofs.Common.{◌≡◌, ℕ, zero, suc, ◌+◌, ◌<◌, ◌≤◌, true, false, List, [], ◌∷◌, length, get_or, drop, Option, Some, None, refl, sym, arith}
+use Rattle.std.specs.Prelude.{is_some}
 use Rattle.std.specs.Option.{option_map}
 use Rattle.std.proofs.lemmas.List.{drop-drop}
 use Rattle.v4_options.specs.Routes.{sent_bytes, route_of, has_route, routes_after, all_routes}
@@ -32,3 +33,7 @@ pub no_routes : (value : List ℕ) → length value ≡ 0 → all_routes value �
 unfolding all_routes
 no_routes [] none = refl
 no_routes (b ∷ rest) none = absurd (omega arith)
+
+pub mapped_is_some : {A B : Type 0} (f : A → B) (o : Option A) → is_some (option_map f o) ≡ is_some o
+mapped_is_some f None = refl
+mapped_is_some f (Some x) = refl

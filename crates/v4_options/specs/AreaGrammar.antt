@@ -28,7 +28,7 @@ abbrev pub IsEnd : List ℕ → Type 0
 IsEnd [] = Unit {0}
 IsEnd (code ∷ rest) = code ≡ 255
 
--- an option whose length byte is missing or whose value runs past the area
+-- an option that the end of the area cuts: it has no length byte, or fewer bytes than that says
 abbrev pub IsCut : List ℕ → Type 0
 IsCut [] = ⊥
 IsCut (code ∷ []) = (code ≢ 0) × (code ≢ 255)

@@ -54,6 +54,6 @@ malformed_after at (suc k) (b ∷ rest) = malformed_after (suc at) k rest
 malformed_after at zero (code ∷ rest) =
     place_by (front_of (code ∷ rest)) at (malformed_after (suc at) (more_bytes (front_of (code ∷ rest)) rest) rest)
 
--- The place of the first option of an area whose length byte is missing or whose value runs past the area.
+-- The place of the first option that the end of its area cuts.
 unfoldable pub malformed_in : ℕ → List ℕ → Option ℕ
 malformed_in at area = malformed_after at 0 area

@@ -1,5 +1,6 @@
 -- The value of an option is that of all its instances, end to end (RFC 3396, section 7).
-use Rattle.std.specs.Prelude.{ℕ, List, [], ◌∷◌, ◌++◌, map, filter, Option, Some, None, ◌==◌}
+use Rattle.std.specs.Prelude.{ℕ, Bool, List, [], ◌∷◌, ◌++◌, map, filter, Option, Some, None, ◌==◌}
+use Rattle.std.specs.Option.{is_some}
 use Rattle.std.specs.List.{flat_map}
 use Rattle.v4_options.specs.OptionArea.{Instance, instances_in}
 
@@ -19,6 +20,14 @@ joined (first ∷ others) = Some (first ++ flat_map (λ piece. piece) others)
 abbrev pub value_of : ℕ → List Instance → Option (List ℕ)
 value_of code instances = joined (pieces code instances)
 
+-- a code has an instance
+abbrev pub is_present : ℕ → List Instance → Bool
+is_present code instances = is_some (value_of code instances)
+
+-- the bytes of a code's value, none where it has no instance
+abbrev pub bytes_at : ℕ → List Instance → List ℕ
+bytes_at code instances = flat_map (λ piece. piece) (pieces code instances)
+
 -- the byte of a value that has one byte
 abbrev pub only_byte : List ℕ → Option ℕ
 only_byte [] = None
@@ -27,4 +36,4 @@ only_byte (byte ∷ next ∷ rest) = None
 
 -- the byte of a code's value, where it has a value of one byte
 abbrev pub byte_of : ℕ → List Instance → Option ℕ
-byte_of code instances = only_byte (flat_map (λ piece. piece) (pieces code instances))
+byte_of code instances = only_byte (bytes_at code instances)

@@ -17,7 +17,7 @@ pub enum Front {
     Pad,
     /// The end of the area: its last byte is passed, or the end option stands here.
     End,
-    /// An option whose length byte is missing or whose value runs past the area.
+    /// An option that the end of the area cuts: without its length byte, or with fewer bytes than that says.
     Cut,
     /// An option with a value of so many bytes.
     Whole(usize),

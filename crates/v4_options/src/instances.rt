@@ -1,15 +1,16 @@
 //! The walk over the instances of a code, and its value.
 
-ghost use Rattle.std.specs.Prelude.{◌≡◌, ◌↔◌, ◌≢◌, [], IfOk, if◌then◌else◌};
-ghost use Rattle.std.specs.Option.{option_map};
+ghost use Rattle.std.specs.Prelude.{◌≡◌, ◌≢◌, ◌≤◌, ◌<◌, ◌+◌, ◌++◌, [], IfNone, IfOk, IfSome, length, take, if◌then◌else◌};
+ghost use Rattle.std.specs.Option.{is_some, option_map};
 ghost use Rattle.std.specs.Iterator.{YieldsFirstBy, item_count};
 ghost use Rattle.v4_options.specs.OptionArea.{instances_in};
-ghost use Rattle.v4_options.specs.OptionValue.{pieces, joined, value_of, byte_of};
+ghost use Rattle.v4_options.specs.OptionValue.{pieces, joined, value_of, byte_of, bytes_at, is_present};
 ghost use Rattle.v4_options.specs.OptionViews.{view_instances, pieces_left};
+ghost use Rattle.v4_options.specs.Numbers.{address_at, number_at};
 
 use crate::area::find_option;
 use crate::view::OptionView;
-use net_types::NoMemory;
+use net_types::{Ip4, NoMemory};
 use std::alloc::{AllocError, Global};
 
 /// The values of one code's instances that are left of a walk over the areas.
@@ -108,4 +109,64 @@ pub fn byte_at(view: &OptionView, code: u8) -> Option<u8>
         only = Some(piece[0]);
     }
     only
+}
+
+/// Whether a code has an instance. It takes no memory.
+pub fn present(view: &OptionView, code: u8) -> bool
+    ensures { result ≡ is_present code (view_instances view.now) }
+{
+    pieces_of(view, code).next().is_some()
+}
+
+/// The bytes of an address or of a number of 32 bits.
+const WORD_LEN: usize = 4;
+
+/// Lays a piece behind the bytes of a word that are filled, and tells how many are then. None where there is no room.
+fn lay(word: &mut [u8; 4], filled: usize, piece: &[u8]) -> Option<usize>
+    requires { filled ≤ 4 }
+    ensures none { IfNone result (4 < filled + length piece.now) }
+    ensures within { IfSome result (λ end. end ≤ 4) }
+    ensures laid { IfSome result (λ end. take end word.new ≡ take filled word.old ++ piece.now) }
+{
+    if piece.len() > WORD_LEN - filled {
+        return None;
+    }
+    let end = filled + piece.len();
+    word[filled..end].copy_from_slice(piece);
+    Some(end)
+}
+
+/// The bytes of a code's instances, end to end, where they are those of a word.
+fn word_at(view: &OptionView, code: u8) -> Option<[u8; 4]>
+    ensures other { IfNone result (length (bytes_at code (view_instances view.now)) ≢ 4) }
+    ensures word { IfSome result (λ word. word ≡ bytes_at code (view_instances view.now)) }
+{
+    let mut word = [0; 4];
+    let mut filled = 0;
+    'pieces: for piece in pieces_of(view, code) {
+        let Some(end) = lay(&mut word, filled, piece) else {
+            return None;
+        };
+        filled = end;
+    }
+    if filled < WORD_LEN {
+        return None;
+    }
+    Some(word)
+}
+
+/// The number that a code's value is: that of all its instances, end to end. None unless it has 4 bytes. It takes no memory.
+pub fn u32_at(view: &OptionView, code: u8) -> Option<u32>
+    ensures { result ≡ number_at code (view_instances view.now) }
+{
+    let word = word_at(view, code)?;
+    Some(u32::from_be_bytes(word))
+}
+
+/// The address that a code's value is: that of all its instances, end to end. None unless it has 4 bytes. It takes no memory.
+pub fn addr_at(view: &OptionView, code: u8) -> Option<Ip4>
+    ensures { result ≡ address_at code (view_instances view.now) }
+{
+    let word = word_at(view, code)?;
+    Some(Ip4::from_octets(word))
 }

@@ -4,6 +4,7 @@
 
 mod area;
 pub mod code;
+mod constants;
 mod instances;
 mod laws;
 mod numbers;
@@ -11,12 +12,13 @@ mod overload;
 mod routes;
 mod view;
 
-pub use domain_names::{search_of, text_of};
-pub use instances::{Pieces, byte_at, pieces_of, value};
+pub use constants::codes_are_those_assigned;
+pub use domain_names::{is_search, is_text, search_of, text_of};
+pub use instances::{Pieces, addr_at, byte_at, pieces_of, present, u32_at, value};
 pub use laws::area_law;
 pub use numbers::{addr_of, addrs_of, u16_of, u32_of};
 pub use overload::Overload;
-pub use routes::{ClasslessRoute, routes_of};
+pub use routes::{ClasslessRoute, are_routes, routes_of};
 pub use view::{Areas, Malformed, OptionView, options_of};
 
 #[cfg(test)]

@@ -1,6 +1,6 @@
 //! Classless routes (RFC 3442).
 
-ghost use Rattle.std.specs.Prelude.{◌≡◌, ◌<◌, ◌≤◌, ◌∷◌, length, IfOk, IfSome, None, MatchOption};
+ghost use Rattle.std.specs.Prelude.{◌≡◌, ◌<◌, ◌≤◌, ◌∷◌, length, is_some, IfOk, IfSome, None, MatchOption};
 ghost use Rattle.std.specs.Option.{option_map};
 ghost use Rattle.v4_options.specs.Routes.{network, all_routes, routes_in};
 
@@ -84,4 +84,22 @@ pub fn routes_of(alloc: Global, value: &[u8]) -> Result<Option<Vec<ClasslessRout
         Ok(routes) => Ok(routes),
         Err(_) => Err(NoMemory),
     }
+}
+
+/// Whether the value is routes as `routes_of` reads them. It takes no memory.
+#[tactic(auto, using(crate::proofs::RouteSteps::no_routes, crate::proofs::RouteSteps::mapped_is_some))]
+pub fn are_routes(value: &[u8]) -> bool
+    ensures { result ≡ is_some (routes_in value.now) }
+{
+    if value.is_empty() {
+        return false;
+    }
+    let mut rest = value;
+    'routes: while !rest.is_empty() {
+        let Some((_, others)) = split_route(rest) else {
+            return false;
+        };
+        rest = others;
+    }
+    true
 }

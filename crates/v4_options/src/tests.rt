@@ -51,6 +51,9 @@ fn split_number(rt: HostRuntime) -> Result<(), Fail> {
     assert!(rt; pieces.next().is_none());
     let time = value(rt.alloc(), &view, code::LEASE_TIME)?.ok_or("no time")?;
     assert_eq!(rt; u32_of(&time), Some(3600));
+    assert_eq!(rt; u32_at(&view, code::LEASE_TIME), Some(3600));
+    assert!(rt; present(&view, code::LEASE_TIME));
+    assert!(rt; !present(&view, code::ROUTERS));
     // The second part with one byte alone.
     let view = options_of(Areas {
         options: &[51, 2, 0, 0, 51, 1, 14],
@@ -59,6 +62,22 @@ fn split_number(rt: HostRuntime) -> Result<(), Fail> {
     })?;
     let time = value(rt.alloc(), &view, code::LEASE_TIME)?.ok_or("no time")?;
     assert_eq!(rt; u32_of(&time), None);
+    assert_eq!(rt; u32_at(&view, code::LEASE_TIME), None);
+    Ok(())
+}
+
+#[test]
+fn split_address(rt: HostRuntime) -> Result<(), Fail> {
+    // The second part with a byte too many.
+    let view = options_of(Areas {
+        options: &[54, 1, 10, 54, 3, 0, 0, 1, 28, 4, 10, 0, 0, 255, 28, 1, 0],
+        file: &[],
+        sname: &[],
+    })?;
+    let server = addr_at(&view, code::SERVER_IDENTIFIER).ok_or("no server")?;
+    assert_eq!(rt; server.number, 0x0a00_0001);
+    assert!(rt; addr_at(&view, code::BROADCAST_ADDRESS).is_none());
+    assert!(rt; addr_at(&view, code::ROUTERS).is_none());
     Ok(())
 }
 
@@ -128,6 +147,7 @@ fn routes(rt: HostRuntime) -> Result<(), Fail> {
     // 192.168.7.0/24 by 10.0.0.1, and the default route by 10.0.0.1 (RFC 3442).
     let two = [24, 192, 168, 7, 10, 0, 0, 1, 0, 10, 0, 0, 1];
     let all = routes_of(rt.alloc(), &two)?.ok_or("no routes")?;
+    assert!(rt; are_routes(&two));
     assert_eq!(rt; all.len(), 2);
     assert_eq!(rt; all[0].dest.ip.number, 0xc0a8_0700);
     assert_eq!(rt; all[0].dest.len, 24);
@@ -137,8 +157,10 @@ fn routes(rt: HostRuntime) -> Result<(), Fail> {
     let cleared = routes_of(rt.alloc(), &[17, 10, 1, 255, 10, 0, 0, 1])?.ok_or("no routes")?;
     assert_eq!(rt; cleared.len(), 1);
     assert_eq!(rt; cleared[0].dest.ip.number, 0x0a01_8000);
-    // A width of 33.
+    // A width of 33, and a gateway cut in half after a whole route.
     assert!(rt; routes_of(rt.alloc(), &[33, 10, 0, 0, 1])?.is_none());
+    assert!(rt; !are_routes(&[33, 10, 0, 0, 1]));
+    assert!(rt; !are_routes(&[0, 10, 0, 0, 1, 0, 10, 0]));
     Ok(())
 }
 

@@ -15,7 +15,7 @@ pub struct Areas<'a> {
     pub sname: &'a [u8],
 }
 
-/// An option whose length byte is missing or whose value runs past its area.
+/// An option that the end of its area cuts: without its length byte, or with fewer bytes than that says.
 #[derive(Clone, Copy, Debug, PartialEq, Eq)]
 pub struct Malformed {
     pub place: usize,

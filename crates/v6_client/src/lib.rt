@@ -5,6 +5,7 @@
 mod answers;
 mod asking;
 mod client;
+mod constants;
 mod exchange;
 mod hearing;
 mod holding;
@@ -30,6 +31,7 @@ pub use client::{
     Client6, Out6, carrier6, client6_new, duid6, duplicate6, heard6, held6, kept6, rebind6,
     release6,
 };
+pub use constants::times_are_those_of_rfc_8415;
 pub use exchange::Exchange6;
 pub use laws::{
     calls_run6, holds_nothing_over6, holds_own_ias6, ignores_foreign6, keeps_granted6,

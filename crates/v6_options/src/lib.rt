@@ -4,6 +4,7 @@
 
 mod area;
 pub mod code;
+mod constants;
 mod deep;
 mod duid;
 mod ia;
@@ -14,13 +15,14 @@ mod options;
 mod readers;
 mod status;
 
+pub use constants::codes_are_those_assigned;
 pub use deep::{Malformed, check_options};
 pub use duid::Duid;
 pub use ia::{IaKind, IaSaid, ItemSaid};
 pub use ia_view::{IaView, IaViews, Items, ia_views};
 pub use laws::option_law;
 pub use options::{OptionView, Options, first_value, options_of};
-pub use readers::{dns6_of, search6_of};
+pub use readers::{are_servers6, dns6_of, is_search6, search6_of};
 pub use status::{Status, status_of};
 
 #[cfg(test)]

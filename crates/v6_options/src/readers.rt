@@ -1,13 +1,13 @@
 //! Values that are addresses of servers, and search lists.
 
-ghost use Rattle.std.specs.Prelude.{◌≡◌, ◌/◌, length, map, IfOk};
+ghost use Rattle.std.specs.Prelude.{◌≡◌, ◌/◌, length, map, is_some, IfOk};
 ghost use Rattle.std.specs.Option.{option_map};
 ghost use Rattle.std.specs.String.{string_bytes};
 ghost use Rattle.v6_options.specs.Readers.{addresses_in, dns6_in, pointer_after, search6_in};
 
 use crate::ia_view::ip6_at;
 use crate::layout::ADDRESS_LEN;
-use domain_names::search_of;
+use domain_names::{is_search, search_of};
 use net_types::{Ip6, NoMemory};
 use std::alloc::{AllocError, Global};
 
@@ -29,6 +29,13 @@ pub fn dns6_of(alloc: Global, value: &[u8]) -> Result<Option<Vec<Ip6>>, NoMemory
         Ok(servers) => Ok(Some(servers)),
         Err(_) => Err(NoMemory),
     }
+}
+
+/// Whether the value is servers as `dns6_of` reads them. It takes no memory.
+pub fn are_servers6(value: &[u8]) -> bool
+    ensures { result ≡ is_some (dns6_in value.now) }
+{
+    !value.is_empty() && value.len() % ADDRESS_LEN == 0
 }
 
 fn addresses(alloc: Global, value: &[u8]) -> Result<Vec<Ip6>, AllocError>
@@ -72,4 +79,11 @@ pub fn search6_of(alloc: Global, value: &[u8]) -> Result<Option<Vec<String>>, No
         return Ok(None);
     }
     search_of(alloc, value)
+}
+
+/// Whether the value is names as `search6_of` reads them. It takes no memory.
+pub fn is_search6(value: &[u8]) -> bool
+    ensures { result ≡ is_some (search6_in value.now) }
+{
+    !has_pointer(value) && is_search(value)
 }

@@ -17,7 +17,7 @@ pub trait Host {
     /// The numbers of the calls that fail, from 1 over all lives, where these are told.
     ghost failing: { Self → Option (List ℕ) };
 
-    /// Appends all rows held, in any order, each once.
+    /// Appends the rows of the host. Each comes once; their order is free.
     fn list(&mut self, rows: &mut Vec<HostRow>) -> Result<(), DeviceAnswer>
         ensures cause { HasDeviceCause (faults self.old) (faults self.new) result }
         ensures told { Lists (told self.old) (told self.new) rows.old.items rows.new.items result }

@@ -26,7 +26,7 @@ pub trait Store {
         ensures foretold { StoreForetold (failing self.old) (store_number (told self.old)) result }
         ensures failing { failing self.new ≡ failing self.old };
 
-    /// Appends the bytes of a file and answers true, or answers false where there is none.
+    /// Appends the bytes of a file. `false` says that there is no such file.
     fn read_file(&mut self, name: &str, into: &mut Vec<u8>) -> Result<bool, DeviceAnswer>
         requires { IsFileName name.now }
         ensures cause { HasDeviceCause (faults self.old) (faults self.new) result }

@@ -30,20 +30,20 @@ pub holds_listed : (told : HostTold) (held : List HostRow) (entries : List HostE
 holds_listed told held entries true h = stays told held entries (Lists true) (Listed (Some told.rows)) h
 holds_listed told held entries false h = stays told held entries (Lists false) (Listed None) h
 
-pub holds_unadded : (told : HostTold) (held : List HostRow) (entries : List HostEntry) (row : HostRow) → HoldsRows told held entries → HoldsRows (host_step told (Add row false)) held (entries ++ Add row false ∷ [])
+pub holds_unadded : (told : HostTold) (held : List HostRow) (entries : List HostEntry) (row : HostRow) → HoldsRows told held entries → HoldsRows (host_step told (Add false row)) held (entries ++ Add false row ∷ [])
 holds_unadded told held entries row h = stays told held entries _ _ h
 
-pub holds_unremoved : (told : HostTold) (held : List HostRow) (entries : List HostEntry) (row : HostRow) → HoldsRows told held entries → HoldsRows (host_step told (Remove row false)) held (entries ++ Remove row false ∷ [])
+pub holds_unremoved : (told : HostTold) (held : List HostRow) (entries : List HostEntry) (row : HostRow) → HoldsRows told held entries → HoldsRows (host_step told (Remove false row)) held (entries ++ Remove false row ∷ [])
 holds_unremoved told held entries row h = stays told held entries _ _ h
 
-pub holds_added : (told : HostTold) (held : List HostRow) (entries : List HostEntry) (row : HostRow) → IsRow row → HoldsRows told held entries → HoldsRows (host_step told (Add row true)) (insert_key row_cmp held row) (entries ++ Add row true ∷ [])
+pub holds_added : (told : HostTold) (held : List HostRow) (entries : List HostEntry) (row : HostRow) → IsRow row → HoldsRows told held entries → HoldsRows (host_step told (Add true row)) (insert_key row_cmp held row) (entries ++ Add true row ∷ [])
 holds_added told held entries row is h = record {
   rows = ap (with_row row) h.rows;
   are_rows = All-insert_key row_cmp row IsRow held h.are_rows is;
   counted = length_more told.calls _ entries _ h.counted;
 }
 
-pub holds_removed : (told : HostTold) (held : List HostRow) (entries : List HostEntry) (row : HostRow) → HoldsRows told held entries → HoldsRows (host_step told (Remove row true)) (remove_key (is_at (row_cmp row)) held) (entries ++ Remove row true ∷ [])
+pub holds_removed : (told : HostTold) (held : List HostRow) (entries : List HostEntry) (row : HostRow) → HoldsRows told held entries → HoldsRows (host_step told (Remove true row)) (remove_key (is_at (row_cmp row)) held) (entries ++ Remove true row ∷ [])
 holds_removed told held entries row h = record {
   rows = ap (without_row row) h.rows;
   are_rows = All-remove_key (is_at (row_cmp row)) IsRow held h.are_rows;
@@ -54,17 +54,17 @@ holds_removed told held entries row h = record {
 pub after_list : (first : List HostRow) (held : List HostRow) (done : Bool) (entries between after : List HostEntry) → between ≡ entries → after ≡ between ++ Lists done ∷ [] → HoldsRows (told_from first entries) held entries → HoldsRows (told_from first after) held after
 after_list first held done entries between after e f h = rw (f, e, told_more first entries (Lists done)) (holds_listed _ held entries done h)
 
-pub after_unadded : (first : List HostRow) (held : List HostRow) (row : HostRow) (entries between after : List HostEntry) → between ≡ entries → after ≡ between ++ Add row false ∷ [] → HoldsRows (told_from first entries) held entries → HoldsRows (told_from first after) held after
-after_unadded first held row entries between after e f h = rw (f, e, told_more first entries (Add row false)) (holds_unadded _ held entries row h)
+pub after_unadded : (first : List HostRow) (held : List HostRow) (row : HostRow) (entries between after : List HostEntry) → between ≡ entries → after ≡ between ++ Add false row ∷ [] → HoldsRows (told_from first entries) held entries → HoldsRows (told_from first after) held after
+after_unadded first held row entries between after e f h = rw (f, e, told_more first entries (Add false row)) (holds_unadded _ held entries row h)
 
-pub after_unremoved : (first : List HostRow) (held : List HostRow) (row : HostRow) (entries between after : List HostEntry) → between ≡ entries → after ≡ between ++ Remove row false ∷ [] → HoldsRows (told_from first entries) held entries → HoldsRows (told_from first after) held after
-after_unremoved first held row entries between after e f h = rw (f, e, told_more first entries (Remove row false)) (holds_unremoved _ held entries row h)
+pub after_unremoved : (first : List HostRow) (held : List HostRow) (row : HostRow) (entries between after : List HostEntry) → between ≡ entries → after ≡ between ++ Remove false row ∷ [] → HoldsRows (told_from first entries) held entries → HoldsRows (told_from first after) held after
+after_unremoved first held row entries between after e f h = rw (f, e, told_more first entries (Remove false row)) (holds_unremoved _ held entries row h)
 
-pub after_add : (first : List HostRow) (held held' : List HostRow) (row : HostRow) (entries between after : List HostEntry) → between ≡ entries → after ≡ between ++ Add row true ∷ [] → held' ≡ insert_key row_cmp held row → IsRow row → HoldsRows (told_from first entries) held entries → HoldsRows (told_from first after) held' after
-after_add first held held' row entries between after e f k is h = rw (k, f, e, told_more first entries (Add row true)) (holds_added _ held entries row is h)
+pub after_add : (first : List HostRow) (held held' : List HostRow) (row kept : HostRow) (entries between after : List HostEntry) → kept ≡ row → between ≡ entries → after ≡ between ++ Add true kept ∷ [] → held' ≡ insert_key row_cmp held row → IsRow row → HoldsRows (told_from first entries) held entries → HoldsRows (told_from first after) held' after
+after_add first held held' row kept entries between after same e f k is h = rw (k, f, e, same, told_more first entries (Add true row)) (holds_added _ held entries row is h)
 
-pub after_remove : (first : List HostRow) (held held' : List HostRow) (row : HostRow) (entries between after : List HostEntry) → between ≡ entries → after ≡ between ++ Remove row true ∷ [] → held' ≡ remove_key (is_at (row_cmp row)) held → HoldsRows (told_from first entries) held entries → HoldsRows (told_from first after) held' after
-after_remove first held held' row entries between after e f k h = rw (k, f, e, told_more first entries (Remove row true)) (holds_removed _ held entries row h)
+pub after_remove : (first : List HostRow) (held held' : List HostRow) (row kept : HostRow) (entries between after : List HostEntry) → kept ≡ row → between ≡ entries → after ≡ between ++ Remove true kept ∷ [] → held' ≡ remove_key (is_at (row_cmp row)) held → HoldsRows (told_from first entries) held entries → HoldsRows (told_from first after) held' after
+after_remove first held held' row kept entries between after same e f k h = rw (k, f, e, same, told_more first entries (Remove true row)) (holds_removed _ held entries row h)
 
 pub lists_rows : (first : List HostRow) (held : List HostRow) (entries between after : List HostEntry) (old new : List HostRow) (told : HostTold) → told_from first entries ≡ told → between ≡ entries → after ≡ between ++ Lists true ∷ [] → new ≡ old ++ held → IsStrictlySortedBy row_cmp held → HoldsRows (told_from first entries) held entries → ListsRows (Some told) (Some (told_from first after)) old new
 lists_rows first held entries between after old new told v e f n s h =

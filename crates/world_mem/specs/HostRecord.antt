@@ -28,10 +28,10 @@ host_faults calls = count_by host_failed calls
 abbrev pub host_step : HostTold → HostEntry → HostTold
 host_step told (Lists true) = host_answered (Listed (Some told.rows)) told.rows told
 host_step told (Lists false) = host_answered (Listed None) told.rows told
-host_step told (Add row true) = host_answered (Added row true) (with_row row told.rows) told
-host_step told (Add row false) = host_answered (Added row false) told.rows told
-host_step told (Remove row true) = host_answered (Removed row true) (without_row row told.rows) told
-host_step told (Remove row false) = host_answered (Removed row false) told.rows told
+host_step told (Add true row) = host_answered (Added row true) (with_row row told.rows) told
+host_step told (Add false row) = host_answered (Added row false) told.rows told
+host_step told (Remove true row) = host_answered (Removed row true) (without_row row told.rows) told
+host_step told (Remove false row) = host_answered (Removed row false) told.rows told
 
 -- what is told after the calls of a record, from the rows held first
 abbrev pub told_from : List HostRow → List HostEntry → HostTold

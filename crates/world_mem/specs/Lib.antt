@@ -1,3 +1,4 @@
+pub mod RowForms
 pub mod HostRecord
 pub mod LinkRecord
 pub mod Fuse

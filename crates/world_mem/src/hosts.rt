@@ -4,22 +4,28 @@ ghost use Rattle.world.specs.Rows.{IsRow};
 ghost use Rattle.world.specs.RowOrder.{in_row_order, row_cmp};
 
 use crate::record::{Numbers, accept, enter, next_fails, refuse};
+use crate::small_rows::SmallRow;
 use std::alloc::Global;
 use std::collections::BTreeSet;
 use std::marker::Model;
+use std::mem::size_of;
 use world::{DeviceAnswer, Host, HostRow, NoMemory};
 
 /// A call that a host answered. What a listing gave follows from the rows at the start and the calls before it.
-#[derive(Clone, Copy, Drop)]
+#[derive(Drop)]
 pub(crate) enum HostEntry {
     List { done: bool },
-    Add { row: HostRow, done: bool },
-    Remove { row: HostRow, done: bool },
+    Add { done: bool, row: SmallRow },
+    Remove { done: bool, row: SmallRow },
 }
+
+/// A turn may make several entries, and all are kept.
+const _: () = prove!(size_of::<HostEntry>() <= 32);
 
 /// The host's tables in memory.
 #[derive(Drop)]
 pub struct MemHost {
+    alloc: Global,
     first: Vec<HostRow>,
     rows: BTreeSet<HostRow>,
     calls: Vec<HostEntry>,
@@ -49,6 +55,7 @@ impl MemHost {
             };
         }
         Ok(MemHost {
+            alloc,
             first: rows,
             rows: held,
             calls: Vec::new(alloc),
@@ -95,12 +102,14 @@ impl Host for MemHost {
     }
 
     fn add(&mut self, row: &HostRow) -> Result<(), DeviceAnswer> {
-        if next_fails(&mut self.calls, &self.fails)? {
+        let fails = next_fails(&mut self.calls, &self.fails)?;
+        let small = SmallRow::new(self.alloc, *row)?;
+        if fails {
             return refuse(
                 &mut self.calls,
                 HostEntry::Add {
-                    row: *row,
                     done: false,
+                    row: small,
                 },
             );
         }
@@ -110,19 +119,21 @@ impl Host for MemHost {
         accept(
             &mut self.calls,
             HostEntry::Add {
-                row: *row,
                 done: true,
+                row: small,
             },
         )
     }
 
     fn remove(&mut self, row: &HostRow) -> Result<(), DeviceAnswer> {
-        if next_fails(&mut self.calls, &self.fails)? {
+        let fails = next_fails(&mut self.calls, &self.fails)?;
+        let small = SmallRow::new(self.alloc, *row)?;
+        if fails {
             return refuse(
                 &mut self.calls,
                 HostEntry::Remove {
-                    row: *row,
                     done: false,
+                    row: small,
                 },
             );
         }
@@ -130,8 +141,8 @@ impl Host for MemHost {
         accept(
             &mut self.calls,
             HostEntry::Remove {
-                row: *row,
                 done: true,
+                row: small,
             },
         )
     }

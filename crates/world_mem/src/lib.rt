@@ -10,6 +10,7 @@ mod hosts;
 mod links;
 mod record;
 mod replaying;
+mod small_rows;
 mod stores;
 mod streams;
 #[cfg(test)]

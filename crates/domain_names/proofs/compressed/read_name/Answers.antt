@@ -1,4 +1,4 @@
-use Rattle.std.proofs.Common.{◌≡◌, ◌+◌, ◌<◌, ◌≤◌, true, false, length, take, drop, subst, arith, eqb, vec_len, List, ℕ}
+use Rattle.std.proofs.Common.{◌≡◌, ◌+◌, ◌<◌, true, false, length, take, drop, arith, eqb}
 use Rattle.std.proofs.lemmas.Bool.{eqb-false}
 use Rattle.domain_names.specs.DomainName.{is_label}
 use Rattle.domain_names.specs.CompressedSteps.{with_label}
@@ -10,21 +10,17 @@ returns-then-not-is_label c =
     let bad : is_label (take c.in-Label.len (drop (c.pieces.at + 1) c.args.value.now)) ≡ false = cc in
     refuses_label _ _ _ _ _ _ c.pieces.invariant c.in-Label.len c.in-Label.ensures.exact bad
 
-pub returns-then-len-gt-NAME_MAX : goal.returns-then-len-gt-NAME_MAX
-returns-then-len-gt-NAME_MAX c =
-    let added = c.in_ok-add_label-in-Label.ensures in
-    let name : c.add_label.new.name.items ≡ with_label c.pieces.name.items (take c.in-Label.len (drop (c.pieces.at + 1) c.args.value.now)) = cc (added, c.label_at-label.ensures) in
-    let long : 253 < length c.add_label.new.name.items = omega (arith, c.add_label.new.name.ok) in
-    refuses_long _ _ _ _ _ _ c.pieces.invariant c.in-Label.len c.in-Label.ensures.exact (subst (λ (t : List ℕ). 253 < length t) name long)
+pub returns-in-Err : goal.returns-in-Err
+returns-in-Err c =
+    let long : 253 < length (with_label c.pieces.name.items (take c.in-Label.len (drop (c.pieces.at + 1) c.args.value.now))) = rw (← c.label_at-label.ensures) c.in-Err.ensures.long in
+    refuses_long _ _ _ _ _ _ c.pieces.invariant c.in-Label.len c.in-Label.ensures.exact long
 
-pub pieces-preserved-in-Label : goal.pieces-preserved-in-Label
-pieces-preserved-in-Label c =
-    let added : c.add_label.new.name.items ≡ with_label c.pieces.name.items c.label_at-label.result.now = c.in_ok-add_label-in-Label.ensures in
+pub pieces-preserved-in-Ok : goal.pieces-preserved-in-Ok
+pieces-preserved-in-Ok c =
     let good : is_label c.label_at-label.result.now ≡ true = cc in
-    let short : length c.add_label.new.name.items ≤ 253 = omega (arith, c.add_label.new.name.ok) in
     let next = read_label _ _ _ _ _ _ c.pieces.invariant c.in-Label.len c.label_at-label.result.now c.in-Label.ensures.exact c.label_at-label.ensures good
-    (subst (λ (t : List ℕ). length t ≤ 253) added short) in
-    rw (← added) at next
+    c.in-Ok.ensures.short in
+    rw (← c.in-Ok.ensures.added) at next
 
 pub pieces-preserved : goal.pieces-preserved
 pieces-preserved c =
@@ -33,6 +29,6 @@ pieces-preserved c =
 
 pub returns-in-End : goal.returns-in-End
 returns-in-End c =
-    let filled : eqb (vec_len c.pieces.name) 0 ≡ false = cc in
-    let named = read_end _ _ _ _ _ _ c.pieces.invariant c.in-End.ensures.exact (omega (arith, eqb-false _ _ filled, c.pieces.name.ok)) in
+    let filled : eqb (length c.pieces.name.items) 0 ≡ false = cc in
+    let named = read_end _ _ _ _ _ _ c.pieces.invariant c.in-End.ensures.exact (omega (arith, eqb-false _ _ filled)) in
     rw (← c.unwrap_or-in-End.ensures) at named

@@ -3,7 +3,7 @@ use Rattle.net_types.specs.declared.address.Ip4.{Ip4}
 use Rattle.net_types.specs.AddressText.{FitsIp4}
 use Rattle.frame_link.specs.Frames.{frame_in}
 use Rattle.frame_link.specs.Packets.{arp_in, announcement_text}
-use Rattle.host_tables.specs.Precedence.{outranks}
+use Rattle.host_model.specs.Precedence.{outranks}
 use Rattle.v6_client.specs.Runs.{carrier_turned, tick_turned}
 use Rattle.client_model.specs.ResolverParts.{resolver_wanted}
 use Rattle.turn_model.specs.Turns.{turn_asks}

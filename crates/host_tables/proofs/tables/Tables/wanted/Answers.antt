@@ -1,5 +1,5 @@
 use Rattle.std.proofs.Common.{ap, ◌∙◌}
-use Rattle.host_tables.specs.Precedence.{wanted_of}
+use Rattle.host_model.specs.Precedence.{wanted_of}
 use Rattle.host_tables.proofs.WantedRows.{united_wanted, united_fit}
 use Rattle.host_tables.proofs.tables.Tables.wanted.Goals as goal
 
