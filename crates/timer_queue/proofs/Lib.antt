@@ -1,6 +1,8 @@
-pub mod Edits
 pub mod Firsts
-pub mod Halving
 pub mod MomentLaws
+pub mod Naming
+pub mod Putting
+pub mod Sets
 pub mod Tables
 pub mod Takings
+pub mod Waiting

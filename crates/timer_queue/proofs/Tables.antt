@@ -16,7 +16,7 @@ use Rattle.timer_queue.specs.declared.key.Key.{Key}
 use Rattle.timer_queue.specs.declared.timer.Timer.{Timer}
 use Rattle.timer_queue.specs.Keys.{place_of, place_exact, key_cmp, key_cmp_total}
 use Rattle.timer_queue.specs.Timers.{timer_cmp, timer_cmp_total}
-use Rattle.timer_queue.specs.Ordered.{has_key}
+use Rattle.counted_search.specs.Ordered.{has_key}
 use Rattle.timer_queue.specs.Moments.{Moments}
 use Rattle.timer_queue.specs.Mirrors.{entry_of, moments_of, moment_at, is_moment, Mirrors}
 
@@ -25,7 +25,7 @@ use Rattle.timer_queue.specs.Mirrors.{entry_of, moments_of, moment_at, is_moment
 pub key_exact : IsAntisymmetric key_cmp
 key_exact a b e = place_exact a b (nat_cmp-IsAntisymmetric (place_of a) (place_of b) e)
 
-same_key : (a b : Key) → eq_by_cmp key_cmp a b ≡ true → a ≡ b
+pub same_key : (a b : Key) → eq_by_cmp key_cmp a b ≡ true → a ≡ b
 same_key a b e = key_exact a b ((Equal-is (key_cmp a b)).0 e)
 
 then_equal : (a b : Ordering) → ordering_then a b ≡ Equal → (a ≡ Equal) × (b ≡ Equal)

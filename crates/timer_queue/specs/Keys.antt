@@ -19,7 +19,7 @@ rank_of Dhcp6 = 2
 
 -- a key's place in the order of all keys: by interface, then by machine
 abbrev pub place_of : Key → ℕ
-place_of key = key.iface.number * 3 + rank_of key.machine
+place_of key = key.iface * 3 + rank_of key.machine
 
 -- keys at one place are one key
 rank_exact : (a b : TimedMachine) → rank_of a ≡ rank_of b → a ≡ b
@@ -42,9 +42,9 @@ pub place_exact : (a b : Key) → place_of a ≡ place_of b → a ≡ b
 place_exact a b e =
     let below_a = rank_below a.machine in
     let below_b = rank_below b.machine in
-    let ifaces : a.iface.number ≡ b.iface.number = omega arith in
+    let ifaces : a.iface ≡ b.iface = omega arith in
     let machines = rank_exact a.machine b.machine (omega arith) in
-    λ i. record { iface = record { number = ifaces i }; machine = machines i }
+    λ i. record { iface = ifaces i; machine = machines i }
 
 -- a key is told by its place
 abbrev pub key_code : Coded Key

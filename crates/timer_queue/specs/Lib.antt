@@ -1,5 +1,7 @@
+pub mod Dues
 pub mod Keys
 pub mod Mirrors
 pub mod Moments
-pub mod Ordered
+pub mod Names
+pub mod Places
 pub mod Timers

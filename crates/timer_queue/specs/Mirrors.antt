@@ -8,7 +8,7 @@ use Rattle.timer_queue.specs.declared.key.Key.{Key}
 use Rattle.timer_queue.specs.declared.timer.Timer.{Timer}
 use Rattle.timer_queue.specs.Keys.{place_of}
 use Rattle.timer_queue.specs.Moments.{Moments}
-use Rattle.timer_queue.specs.Ordered.{has_key}
+use Rattle.counted_search.specs.Ordered.{has_key}
 use Rattle.timer_queue.specs.Timers.{timer_cmp}
 
 abbrev pub entry_of : Timer → Key × ℕ

@@ -5,7 +5,6 @@ ghost use Rattle.std.specs.Ordering.{as_partial_cmp, eq_by_cmp};
 ghost use Rattle.std.proofs.Common.{rules};
 ghost use Rattle.timer_queue.specs.Keys.{place_of, key_cmp, key_cmp_total, key_eq_equivalence};
 
-use net_types::IfIndex;
 use std::cmp::Ordering;
 
 /// The timed machines of an interface, in the order in which they tick.
@@ -16,10 +15,11 @@ pub enum TimedMachine {
     Dhcp6,
 }
 
-/// One timed machine of one interface. Keys are ordered by interface, and those of one interface as its machines tick.
+/// One timed machine of one interface. Keys are ordered by the interface's place, and those of one interface as its machines tick.
 #[derive(Clone, Copy, Debug)]
 pub struct Key {
-    pub iface: IfIndex,
+    /// The place of the interface among all that are managed, from 0.
+    pub iface: u32,
     pub machine: TimedMachine,
 }
 
@@ -33,7 +33,7 @@ impl Key {
             TimedMachine::LinkLocal => 1,
             TimedMachine::Dhcp6 => 2,
         };
-        self.iface.number as usize * 3 + machine
+        self.iface as usize * 3 + machine
     }
 }
 

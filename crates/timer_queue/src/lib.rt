@@ -1,15 +1,18 @@
 //! When each timed machine is due. The queue tells the earliest moment at once, and changes that of a machine by two searches.
 #![tactic(auto)]
 
+mod dues;
 mod key;
-mod ordered;
+mod named;
+mod places;
 mod queue;
-pub mod search;
-pub mod steps;
 #[cfg(test)]
 mod tests;
 mod timer;
 
+pub use counted_search::Steps;
+pub use dues::{Dues, MachineDues};
 pub use key::{Key, TimedMachine};
+pub use named::Named;
+pub use places::{PLACES, Places};
 pub use queue::{KEYS, Queue};
-pub use steps::Steps;

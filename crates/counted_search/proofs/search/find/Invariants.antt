@@ -1,6 +1,6 @@
 use Rattle.std.proofs.Common.{ℕ, ◌+◌, ◌-◌, ◌^◌, ◌<◌, ◌≤◌, length}
-use Rattle.timer_queue.proofs.Halving.{Narrowed, Enough}
-use Rattle.timer_queue.proofs.search.find.Given as goal
+use Rattle.counted_search.proofs.Halving.{Narrowed, Enough}
+use Rattle.counted_search.proofs.search.find.Given as goal
 
 abbrev pub invariant-halves : goal.invariant-halves
 invariant-halves g l = record {

@@ -1,7 +1,7 @@
 use Rattle.std.proofs.Common.{◌≡◌, ◌+◌, ◌-◌, ◌/◌, sym, arith}
 use Rattle.std.specs.declared.cmp.Ordering.TheVariants.{Less, Greater}
-use Rattle.timer_queue.proofs.Halving.{read_at, from_less, from_greater, one_step}
-use Rattle.timer_queue.proofs.search.find.Goals as goal
+use Rattle.counted_search.proofs.Halving.{read_at, from_less, from_greater, one_step}
+use Rattle.counted_search.proofs.search.find.Goals as goal
 
 pub halves-preserved-in-Less : goal.halves-preserved-in-Less
 halves-preserved-in-Less g c =

@@ -1,0 +1,4 @@
+pub mod Edits
+pub mod FirstKeys
+pub mod Halving
+pub mod Merges

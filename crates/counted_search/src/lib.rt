@@ -1,0 +1,16 @@
+//! Keys in strictly ascending order in a vector, found by a search that counts its comparisons.
+#![tactic(auto)]
+
+mod first;
+mod merge;
+mod ordered;
+mod search;
+mod steps;
+#[cfg(test)]
+mod tests;
+
+pub use first::first_from;
+pub use merge::beyond;
+pub use ordered::{add, put_in, take_out};
+pub use search::find;
+pub use steps::Steps;

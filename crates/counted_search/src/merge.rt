@@ -1,0 +1,54 @@
+//! Two lists of keys in order, gone through at once.
+ghost use Rattle.std.specs.Prelude.{◌≡◌, ℕ, ◌+◌, ◌≤◌, not, length, drop, filter, IfOk};
+ghost use Rattle.std.specs.BTreeMap.Range.{IsLeBy};
+ghost use Rattle.std.specs.List.Sorted.{IsStrictlySortedBy};
+ghost use Rattle.counted_search.specs.Ordered.{has_key};
+
+use crate::steps::Steps;
+use std::alloc::{AllocError, Global};
+use std::cmp::Ordering;
+
+/// Whether a key is among those from a place on. The place goes past those that are below it.
+fn is_among<K: Ord>(keys: &[K], place: &mut usize, key: &K, steps: &mut Steps) -> bool
+    requires ordered { IsStrictlySortedBy K.cmp keys.now }
+    requires within { place.old ≤ length keys.now }
+    ensures answer { result ≡ has_key K.cmp (drop place.old keys.now) key.now }
+    ensures passed { (q : K) → IsLeBy K.cmp key.now q → has_key K.cmp (drop place.old keys.now) q ≡ has_key K.cmp (drop place.new keys.now) q }
+    ensures within { place.new ≤ length keys.now }
+    ensures grows { steps.old ≤ steps.new }
+    ensures steps { steps.new + place.old ≤ steps.old + place.new + 1 }
+{
+    'below: while *place < keys.len() {
+        steps.tick();
+        match keys[*place].cmp(key) {
+            Ordering::Less => *place += 1,
+            Ordering::Equal => return true,
+            Ordering::Greater => return false,
+        }
+    }
+    false
+}
+
+/// The keys that others lack, in order. It takes a step for each key of either list at most.
+pub fn beyond<K: Ord + Copy>(
+    alloc: Global,
+    keys: &[K],
+    others: &[K],
+    steps: &mut Steps,
+) -> Result<Vec<K>, AllocError>
+    requires keys { IsStrictlySortedBy K.cmp keys.now }
+    requires others { IsStrictlySortedBy K.cmp others.now }
+    ensures found { IfOk result (λ found. found.items ≡ filter (λ key. not (has_key K.cmp others.now key)) keys.now) }
+    ensures grows { steps.old ≤ steps.new }
+    ensures steps { steps.new ≤ steps.old + length keys.now + length others.now }
+{
+    let mut found = Vec::new(alloc);
+    let mut place = 0;
+    'lacked: for key in keys {
+        if is_among(others, &mut place, key, steps) {
+            continue;
+        }
+        found.push(*key)?;
+    }
+    Ok(found)
+}
