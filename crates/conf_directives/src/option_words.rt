@@ -3,7 +3,9 @@ ghost use Rattle.std.specs.Prelude.{◌≡◌, option_map, map, filter, filter_m
 ghost use Rattle.std.specs.List.{list_all, list_any};
 ghost use Rattle.std.specs.Char.{is_ascii_digit};
 ghost use Rattle.conf_directives.specs.Contents.{codes_content, said_content};
-ghost use Rattle.conf_directives.specs.Codes.{are_right, code_at, code_in, codes_by, codes_in, codes_of, codes_said, is_needed, is_noticed, is_rapid, is_wrong, name_in, number_in, option_rows, option_word, other_in, taken_code};
+ghost use Rattle.conf_directives.specs.Codes.{are_right, is_needed, is_noticed, is_rapid, is_wrong};
+ghost use Rattle.conf_directives.specs.Codes.{code_at, code_in, codes_by, codes_in, codes_of, codes_said, taken_code};
+ghost use Rattle.conf_directives.specs.Codes.{name_in, number_in, option_rows, option_word, other_in};
 ghost use Rattle.conf_directives.specs.Names.{named};
 
 use crate::names::{CodeList, named};

@@ -4,7 +4,9 @@ ghost use Rattle.std.specs.String.{string_bytes};
 ghost use Rattle.world.specs.FileNames.{IsFileName};
 ghost use Rattle.world.specs.HookCalls.{job_of};
 ghost use Rattle.lease_file.specs.FileReads.{got_reading};
-ghost use Rattle.daemon.specs.Answered.{rows_listed, names_of, FitsChange, OfferedBy, ListedBy, ChangedBy, AsidesBy, ReadBy, WrittenBy, SyncedBy, RenamedBy, RemovedBy, SettledBy, StartedBy, PolledBy, AbandonedBy, runs_on};
+ghost use Rattle.daemon.specs.Answered.{rows_listed, names_of, FitsChange, OfferedBy, ListedBy, ChangedBy};
+ghost use Rattle.daemon.specs.Answered.{AsidesBy, ReadBy, WrittenBy, SyncedBy, RenamedBy, RemovedBy, SettledBy};
+ghost use Rattle.daemon.specs.Answered.{StartedBy, PolledBy, AbandonedBy, runs_on};
 
 use crate::outside::Outside;
 use host_model::HostChange;

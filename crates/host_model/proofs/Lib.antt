@@ -1,3 +1,3 @@
 pub mod HostTableRows
-mod HostTableChanges
+pub mod HostTableChanges
 pub mod HostTableTurns
