@@ -1,23 +1,40 @@
--- A turn of an interface that has nothing to do.
-use Rattle.std.proofs.Common.{ℕ, ◌≡◌, Bool, true, false, cond, ◌||◌, List, [], ◌∷◌, Option, Some, None, get_or, length, set, nat_eq, refl, sym, ap, ◌<◌, ◌∙◌, arith}
+-- A turn of an interface that has nothing to do, and the places of those that have.
+use Rattle.std.proofs.Common.{ℕ, ◌≡◌, Bool, true, false, cond, ◌||◌, ◌⊎◌, inl, inr, List, Option, Some, None, get_or, length, nat_eq, refl, sym, ap, subst, ◌<◌, ◌≤◌, ◌∙◌, arith}
 use Rattle.std.specs.Prelude.{map}
+use Rattle.std.proofs.lemmas.Bool.{cases_lt, eq-eqb}
 use Rattle.std.proofs.lemmas.Bool.Decides.{nat_tests}
-use Rattle.std.proofs.lemmas.List.{map-set}
+use Rattle.std.proofs.lemmas.List.{get_or-take, length-map}
 use Rattle.net_types.specs.declared.address.Mac.{Mac}
 use Rattle.machine.specs.Moment.{is_due}
+use Rattle.timer_queue.specs.declared.dues.MachineDues.{MachineDues}
+use Rattle.timer_queue.specs.declared.key.TimedMachine.{TimedMachine}
+use Rattle.timer_queue.specs.declared.key.TimedMachine.TheVariants as key
+use Rattle.timer_queue.specs.declared.places.Places.{Places}
+use Rattle.timer_queue.specs.Dues.{due_of, is_taken, never}
+use Rattle.timer_queue.specs.Moments.{has_come}
+use Rattle.timer_queue.specs.Names.{named_as}
+use Rattle.timer_queue.specs.Places.{has}
+use Rattle.timer_queue.proofs.Naming.{named_at}
+use Rattle.timer_queue.proofs.Sets.{has_far}
+use Rattle.timer_queue.proofs.Waiting.{untaken}
 use Rattle.world.specs.declared.wakes.Event.{Event}
 use Rattle.world.specs.declared.wakes.Event.TheVariants.{Frame, Carrier, Duplicate, Release, Rebind, Stop, Quiet, End}
 use Rattle.script_model.specs.IfaceSets.{is_in}
 use Rattle.client_model.specs.declared.interfaces.Iface.{Iface}
 use Rattle.client_model.specs.declared.steps.TimedMachine.TheVariants as machine
-use Rattle.client_model.specs.Clients.{client_due, earlier}
+use Rattle.client_model.specs.Clients.{earlier}
+use Rattle.client_model.specs.Fitting.{FitsIface}
 use Rattle.client_model.specs.IfaceSteps.{IfaceStep, index_of, silent, then_step}
 use Rattle.client_model.specs.Interfaces.{iface_due, machine_due, machine_ticked, restarted, ticked, unsent_in}
-use Rattle.client_model.specs.IfaceTurns.{Turn, iface_turned, input_step, taken}
+use Rattle.client_model.specs.IfaceTurns.{Turn, input_step, taken}
 use Rattle.iface_core.proofs.Following.{not_due}
-use Rattle.client_core.specs.DueMoments.{first_due}
-use Rattle.client_core.specs.Resting.{StaysAtRest, has_work, is_called, is_met}
+use Rattle.client_core.specs.declared.kept.Kept.{Kept}
+use Rattle.client_core.specs.Due.{dues_of}
+use Rattle.client_core.specs.Renewing.{Takes}
+use Rattle.client_core.specs.Resting.{IsAtRest, StaysAtRest, is_called, is_met}
+use Rattle.client_core.specs.Running.{IsRunning}
 use Rattle.client_core.proofs.Going.{map_at}
+use Rattle.client_core.proofs.InPlace.{each_of}
 
 neither : (a b : Bool) → (a || b) ≡ false → (a ≡ false) × (b ≡ false)
 neither true b none = let never : true ≡ false = none in absurd cc
@@ -80,25 +97,70 @@ at_rest own turn iface none =
     (ap (ticked turn.at turn.salt) sent ∙ ticked_at_rest turn.at turn.salt iface due.0)
     (input_at_rest own turn.at turn.salt turn.bytes turn.event iface called.1)
 
--- ---- when the interfaces are due
+-- ---- the places of those that have something to do
 
-pub due_first : (ifaces : List Iface) → first_due (map iface_due ifaces) ≡ client_due ifaces
-due_first [] = refl
-due_first (iface ∷ ifaces) = ap (earlier (iface_due iface)) (due_first ifaces)
+-- a test that would put a place among them isn't met by one that isn't there
+unmet : (a b : Bool) → (a ≡ true → b ≡ true) → b ≡ false → a ≡ false
+unmet true b puts out = let never : true ≡ false = sym (puts refl) ∙ out in absurd cc
+unmet false b puts out = refl
 
-pub due_at : (ifaces : List Iface) (dues : List (Option ℕ)) (place : ℕ) (d : Iface) → dues ≡ map iface_due ifaces → place < length ifaces
-    → get_or dues place None ≡ iface_due (get_or ifaces place d)
-due_at ifaces dues place d due lt = ap (λ (all : List (Option ℕ)). get_or all place None) due ∙ map_at iface_due ifaces place d None lt
+come_due : (due : Option ℕ) (at : ℕ) → is_due due at ≡ has_come due at
+come_due None at = refl
+come_due (Some due) at = refl
 
-pub due_more : (ifaces : List Iface) (dues more : List (Option ℕ)) (place : ℕ) (new : Iface) → dues ≡ map iface_due ifaces
-    → more ≡ set dues place (iface_due new) → more ≡ map iface_due (set ifaces place new)
-due_more ifaces dues more place new due changes =
-    changes ∙ ap (λ (all : List (Option ℕ)). set all place (iface_due new)) due ∙ sym (map-set iface_due ifaces place new)
+later_both : (a b : Option ℕ) (at : ℕ) → is_due a at ≡ false → is_due b at ≡ false → is_due (earlier a b) at ≡ false
+later_both None b at first second = second
+later_both (Some a) None at first second = first
+later_both (Some a) (Some b) at first second = grind (arith, nat_tests, first, second)
 
--- an interface without work stays as it is
-pub stays_without_work : (own : List Mac) (turn : Turn) (ifaces : List Iface) (dues : List (Option ℕ)) (place : ℕ) (d : Iface) (works : Bool)
-    → dues ≡ map iface_due ifaces → place < length ifaces → works ≡ has_work (get_or dues place None) (index_of (get_or ifaces place d)) turn → works ≡ false
-    → iface_turned own turn (get_or ifaces place d) ≡ silent (get_or ifaces place d)
-stays_without_work own turn ifaces dues place d works due lt is none =
-    at_rest own turn (get_or ifaces place d)
-    (ap (λ (moment : Option ℕ). has_work moment (index_of (get_or ifaces place d)) turn) (sym (due_at ifaces dues place d due lt)) ∙ sym is ∙ none)
+-- an interface that isn't asked in a turn
+pub record IsIdle (turn : Turn) (iface : Iface) : Type 0 where
+  pub rests : IsAtRest turn iface
+  pub due : (machine : TimedMachine) → has_come (due_of machine (dues_of iface)) turn.at ≡ false
+
+module _ (turn : Turn) (ifaces : List Iface) (kept after : Kept) (places : Places) (running : IsRunning ifaces kept) (takes : Takes turn places kept after) where
+  pub is_near : (place : ℕ) → has places place ≡ false → place < 64
+  is_near place out = by (cases_lt place 64)
+    where
+      by : (place < 64) ⊎ (64 ≤ place) → place < 64
+      by (inl near) = near
+      by (inr far) = let never : true ≡ false = sym (has_far places place far) ∙ out in absurd cc
+
+  module _ (place : ℕ) (d : Iface) (lt : place < length ifaces) (out : has places place ≡ false) where
+    abbrev iface : Iface
+    iface = get_or ifaces place d
+
+    near : place < 64
+    near = is_near place out
+
+    -- its moments haven't come
+    none_come : (machine : TimedMachine) → has_come (due_of machine (dues_of iface)) turn.at ≡ false
+    none_come machine =
+        ap (λ (dues : MachineDues). has_come (due_of machine dues) turn.at)
+        (sym (get_or-take 64 (map dues_of ifaces) place never near ∙ map_at dues_of ifaces place d never lt))
+        ∙ untaken turn.at (map dues_of ifaces) kept.dues place running.due (unmet (is_taken turn.at kept.dues place) (has places place) (takes.due place near) out) machine
+
+    not_due_now : is_due (iface_due iface) turn.at ≡ false
+    not_due_now =
+        let dues : MachineDues = dues_of iface in
+        later_both (earlier dues.dhcp4 dues.link_local) dues.dhcp6 turn.at
+        (later_both dues.dhcp4 dues.link_local turn.at (come_due dues.dhcp4 turn.at ∙ none_come key.Dhcp4) (come_due dues.link_local turn.at ∙ none_come key.LinkLocal))
+        (come_due dues.dhcp6 turn.at ∙ none_come key.Dhcp6)
+
+    -- nothing comes to it from outside
+    named_here : has (named_as kept.named (index_of iface)) place ≡ true
+    named_here =
+        running.named (index_of iface) place near
+        ∙ named_at (map index_of ifaces) place (index_of iface) (subst (λ (n : ℕ). place < n) (sym (length-map ifaces index_of)) lt)
+        ∙ eq-eqb (get_or (map index_of ifaces) place 0) (index_of iface) (map_at index_of ifaces place d 0 lt)
+
+    uncalled : is_called (index_of iface) turn ≡ false
+    uncalled =
+        unmet (is_called (index_of iface) turn) (has places place)
+        (λ (called : _). takes.called (index_of iface) place (each_of FitsIface ifaces place d lt running.fit).managed.index near called named_here) out
+
+    pub is_idle : IsIdle turn (get_or ifaces place d)
+    is_idle = record {
+      rests = (λ i. not_due_now i || uncalled i);
+      due = none_come;
+    }

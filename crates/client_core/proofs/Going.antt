@@ -34,9 +34,11 @@ pub managed_fits : (own : List Mac) (turn : Turn) (old new : Iface) → FitsIfac
 managed_fits own turn old new fit goes = subst FitsManaged (sym (ap (λ (iface : Iface). iface.managed) goes ∙ turned_same own turn old)) fit.managed
 
 -- the rows that all want
+pub wanted_same : (ifaces : List Iface) → wanted_of (map iface_rows ifaces) ≡ wanted_rows ifaces
+wanted_same ifaces = ap unique_rows (flat_map-map (λ (rows : List HostRow). rows) iface_rows ifaces)
+
 pub wanted_here : (ifaces : List Iface) (kept : Kept) → IsRunning ifaces kept → wanted_of kept.tables ≡ wanted_rows ifaces
-wanted_here ifaces kept running =
-    ap wanted_of running.brings ∙ ap unique_rows (flat_map-map (λ (rows : List HostRow). rows) iface_rows ifaces)
+wanted_here ifaces kept running = ap wanted_of running.brings ∙ wanted_same ifaces
 
 -- ---- one of them in its place
 

@@ -15,8 +15,11 @@ use Rattle.client_model.specs.Jobs.{jobs_along}
 use Rattle.world.specs.HookCalls.{Job}
 use Rattle.client_model.specs.Clients.{Client, Sending, sends_of, joined, client_turned}
 use Rattle.client_model.specs.Fitting.{AreIfaces}
+use Rattle.client_model.specs.WantedRows.{wanted_rows}
+use Rattle.host_tables.specs.declared.union.Diff.{Diff}
 use Rattle.iface_core.specs.Outcomes.{Asked}
-use Rattle.client_core.specs.declared.changes.Touched.{Touched}
+use Rattle.client_core.specs.declared.effects.Touched.{Touched}
+use Rattle.client_core.specs.Leading.{Leads}
 use Rattle.client_core.specs.Stepping.{GoAll, Steps, IsOnInterface}
 use Rattle.client_core.specs.Touched.{KeepsUntouched}
 use Rattle.client_core.proofs.Fit.{steps_on}
@@ -64,6 +67,13 @@ pub untouched_in_place : (core : Client) (own : List Mac) (turn : Turn) (touched
 untouched_in_place core own turn touched before old new asked asking view all same kept =
     subst (λ (ys : List Iface). KeepsUntouched touched core.ifaces ys) (sym (placed own turn before old new asked asking all same))
     (subst (λ (xs : List Iface). KeepsUntouched touched xs new) (same ∙ view) kept)
+
+pub leads_in_place : (core : Client) (own : List Mac) (turn : Turn) (rows : Diff) (before : Vec Iface) (old new : List Iface) (asked asking : Asked)
+    → before.items ≡ core.ifaces → GoAll (iface_turned own turn) old new asked asking → old ≡ before.items
+    → Leads rows (wanted_rows old) (wanted_rows new) → Leads rows (wanted_rows core.ifaces) (wanted_rows (with_items before new).items)
+leads_in_place core own turn rows before old new asked asking view all same leads =
+    subst (λ (ys : List Iface). Leads rows (wanted_rows core.ifaces) (wanted_rows ys)) (sym (placed own turn before old new asked asking all same))
+    (subst (λ (xs : List Iface). Leads rows (wanted_rows xs) (wanted_rows new)) (same ∙ view) leads)
 
 -- the jobs of a turn are those of its interfaces
 pub turned_jobs : (core : Client) (own : List Mac) (turn : Turn) (ifaces : List Iface) (jobs before : List Job) → record { own = own; ifaces = ifaces } ≡ core

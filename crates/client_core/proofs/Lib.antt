@@ -1,5 +1,6 @@
 pub mod AtRest
 pub mod Destinations
+pub mod Earliest
 pub mod Fit
 pub mod Going
 pub mod HeardParts
@@ -14,3 +15,4 @@ pub mod SameRows
 pub mod ToldLaws
 pub mod TwoEach
 pub mod Untouched
+pub mod Walks

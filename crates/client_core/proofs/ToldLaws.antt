@@ -15,8 +15,8 @@ use Rattle.v4_client.specs.Clients.{held_of}
 use Rattle.v6_client.specs.Clients as dhcp6
 use Rattle.client_model.specs.declared.interfaces.Iface.{Iface}
 use Rattle.client_model.specs.ResolverParts.{has_part4, iface_parts, part4_with, parts6, resolver_parts, resolver_wanted, some_text}
-use Rattle.client_core.specs.declared.changes.Resolver.{Resolver}
-use Rattle.client_core.specs.declared.changes.Resolver.TheVariants.{Same, Other}
+use Rattle.client_core.specs.declared.effects.Resolver.{Resolver}
+use Rattle.client_core.specs.declared.effects.Resolver.TheVariants.{Same, Other}
 use Rattle.client_core.specs.ToldParts.{all_told, nothing_told, told4, told6, told_parts, told_with}
 use Rattle.client_core.specs.Touched.{Compares, either}
 use Rattle.client_core.proofs.Going.{map_at}

@@ -10,10 +10,10 @@ use Rattle.net_types.proofs.CaseLaws.{split}
 use Rattle.client_model.specs.declared.interfaces.Iface.{Iface}
 use Rattle.client_model.specs.IfaceSteps.{index_of}
 use Rattle.client_model.specs.Clients.{kept_lease, kept_lease6}
-use Rattle.client_core.specs.declared.changes.Changes.{Changes}
-use Rattle.client_core.specs.declared.changes.Changes.TheVariants.{Nothing, Leases, All}
-use Rattle.client_core.specs.declared.changes.Resolver.{Resolver}
-use Rattle.client_core.specs.declared.changes.Touched.{Touched}
+use Rattle.client_core.specs.declared.effects.Changes.{Changes}
+use Rattle.client_core.specs.declared.effects.Changes.TheVariants.{Nothing, Leases, All}
+use Rattle.client_core.specs.declared.effects.Resolver.{Resolver}
+use Rattle.client_core.specs.declared.effects.Touched.{Touched}
 use Rattle.client_core.specs.ToldParts.{all_told}
 use Rattle.client_core.specs.Touched.{is_touched, Compares, KeepsLeases, KeepsShown, KeepsUntouched, LeavesBut, may_keep, may_show, noted}
 use Rattle.client_core.proofs.InPlace.{Gone, next_of}

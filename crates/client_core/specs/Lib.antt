@@ -1,4 +1,5 @@
-pub mod DueMoments
+pub mod Due
+pub mod Leading
 pub mod Renewing
 pub mod Resting
 pub mod Routing

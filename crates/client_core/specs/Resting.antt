@@ -1,7 +1,12 @@
 -- Which interfaces have nothing to do in a turn: it changes nothing of them, and they say nothing.
-use Rattle.std.specs.Prelude.{◌≡◌, ℕ, Bool, true, false, ◌==◌, ◌||◌, List, Option}
+use Rattle.std.specs.Prelude.{◌≡◌, ℕ, ◌<◌, Bool, true, false, ◌==◌, ◌||◌, List, Option}
 use Rattle.net_types.specs.declared.address.Mac.{Mac}
 use Rattle.machine.specs.Moment.{is_due}
+use Rattle.timer_queue.specs.declared.named.Named.{Named}
+use Rattle.timer_queue.specs.declared.places.Places.{Places}
+use Rattle.timer_queue.specs.Names.{named_as}
+use Rattle.timer_queue.specs.Places.{has}
+use Rattle.world.specs.Rows.{IsInterface}
 use Rattle.world.specs.declared.wakes.Event.{Event}
 use Rattle.world.specs.declared.wakes.Event.TheVariants.{Frame, Carrier, Duplicate, Release, Rebind, Stop, Quiet, End}
 use Rattle.script_model.specs.IfaceSets.{is_in}
@@ -28,6 +33,11 @@ is_called index turn = is_in turn.unsent index || is_met index turn.event
 -- whether an interface that is due at a moment has something to do
 abbrev pub has_work : (due : Option ℕ) → (index : ℕ) → Turn → Bool
 has_work due index turn = is_due due turn.at || is_called index turn
+
+-- the interfaces that are asked for are at these places, where they have one below 64
+abbrev pub Finds : (asks : ℕ → Bool) → Named → Places → Type 0
+Finds asks named places =
+    (index place : ℕ) → IsInterface index → place < 64 → asks index ≡ true → has (named_as named index) place ≡ true → has places place ≡ true
 
 abbrev pub IsAtRest : Turn → Iface → Type 0
 IsAtRest turn iface = has_work (iface_due iface) (index_of iface) turn ≡ false

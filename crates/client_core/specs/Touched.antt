@@ -6,11 +6,11 @@ use Rattle.client_model.specs.declared.interfaces.Iface.{Iface}
 use Rattle.client_model.specs.Clients.{kept_lease, kept_lease6}
 use Rattle.client_model.specs.ResolverParts.{resolver_wanted}
 use Rattle.client_model.specs.WantedRows.{iface_rows}
-use Rattle.client_core.specs.declared.changes.Changes.{Changes}
-use Rattle.client_core.specs.declared.changes.Changes.TheVariants.{Nothing, Leases, All}
-use Rattle.client_core.specs.declared.changes.Resolver.{Resolver}
-use Rattle.client_core.specs.declared.changes.Resolver.TheVariants.{Same, Other}
-use Rattle.client_core.specs.declared.changes.Touched.{Touched}
+use Rattle.client_core.specs.declared.effects.Changes.{Changes}
+use Rattle.client_core.specs.declared.effects.Changes.TheVariants.{Nothing, Leases, All}
+use Rattle.client_core.specs.declared.effects.Resolver.{Resolver}
+use Rattle.client_core.specs.declared.effects.Resolver.TheVariants.{Same, Other}
+use Rattle.client_core.specs.declared.effects.Touched.{Touched}
 use Rattle.client_core.specs.ToldParts.{all_told, told_parts}
 
 -- whether the interface of this number is among them

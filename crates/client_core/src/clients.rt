@@ -4,6 +4,7 @@ ghost use Rattle.std.specs.String.{string_bytes};
 ghost use Rattle.machine.specs.Moment.{moment_of};
 ghost use Rattle.world.specs.HookCalls.{job_of};
 ghost use Rattle.world.specs.Rows.{IsRow};
+ghost use Rattle.host_model.specs.HostTable.{InRowOrder};
 ghost use Rattle.lease_text.specs.Bounds.{FitsLease};
 ghost use Rattle.lease_text.specs.Leases.{lease_content};
 ghost use Rattle.lease6_text.specs.Bounds.{FitsLease6};
@@ -16,23 +17,25 @@ ghost use Rattle.client_model.specs.ResolverParts.{resolver_wanted};
 ghost use Rattle.iface_core.specs.Beginnings.{beginning_of};
 ghost use Rattle.iface_core.specs.Inputs.{turn_of};
 ghost use Rattle.iface_core.specs.Outcomes.{asked_in, sends_in};
+ghost use Rattle.client_core.specs.Leading.{Leads};
 ghost use Rattle.client_core.specs.Running.{IsRunning};
 ghost use Rattle.client_core.specs.Stepping.{Steps, GoAll, IsOnInterface};
 ghost use Rattle.client_core.specs.Touched.{KeepsUntouched};
 
-use crate::changes::Touched;
+use crate::dues::first_due;
+use crate::effects::Touched;
 use crate::hook_jobs::{iface_of, make_jobs};
 use crate::kept::Kept;
 use crate::told_parts::parts_text;
 use crate::turning::turn_all;
 use client_model::Iface;
+use host_tables::Diff;
 use iface_core::{Beginning, Outs, Turn, iface_kept, iface_kept6, iface_open};
 use lease_text::Lease4;
 use lease6_text::Lease6;
 use machine::clamp_moment;
 use net_types::{IfIndex, IfSpec, Mac, NoMemory};
 use std::alloc::{AllocError, Global};
-use std::collections::BTreeSet;
 use std::marker::Model;
 use world::{Begin, HookJob, HostRow};
 
@@ -44,6 +47,7 @@ pub struct Core {
     ifaces: Vec<Iface>,
     kept: Kept,
     looks: u64,
+    changes: u64,
 }
 
 impl Model for Core {
@@ -122,6 +126,7 @@ pub fn core_open(
         ifaces,
         kept,
         looks: 0,
+        changes: 0,
     };
     Ok(Opened { core, outs, jobs })
 }
@@ -136,6 +141,8 @@ pub struct Stepped {
     pub jobs: Vec<HookJob>,
     /// What it touched of what goes into files.
     pub touched: Touched,
+    /// How the rows changed that the host is to hold.
+    pub rows: Diff,
 }
 
 /// One turn: what comes of it, and what the outside is asked.
@@ -145,6 +152,7 @@ pub fn step(core: Core, turn: Turn<'_>) -> Result<Stepped, NoMemory>
     ensures jobs { IfOk result (λ done. map job_of done.jobs.items ≡ (client_turned (turn_of turn.entry) core).jobs) }
     ensures on_interfaces { IfOk result (λ done. AllByRecursion IsOnInterface (sends_in done.outs)) }
     ensures untouched { IfOk result (λ done. KeepsUntouched done.touched core.ifaces done.core.ifaces) }
+    ensures leads { IfOk result (λ done. Leads done.rows (rows_of core) (rows_of done.core)) }
 {
     let Core {
         alloc,
@@ -152,6 +160,7 @@ pub fn step(core: Core, turn: Turn<'_>) -> Result<Stepped, NoMemory>
         mut ifaces,
         mut kept,
         looks: _,
+        changes: _,
     } = core;
     let mut outs = Outs::new(alloc);
     let mut jobs = Vec::new(alloc);
@@ -162,19 +171,22 @@ pub fn step(core: Core, turn: Turn<'_>) -> Result<Stepped, NoMemory>
         ifaces,
         kept,
         looks: walk.looks,
+        changes: walk.changes,
     };
     Ok(Stepped {
         core,
         outs,
         jobs,
         touched: walk.touched,
+        rows: walk.rows,
     })
 }
 
-/// The rows that the host is to hold on the managed interfaces.
-pub fn rows(core: &Core) -> &BTreeSet<HostRow>
-    ensures rows { result.now.keys ≡ rows_of core.now }
-    ensures fit { AllByRecursion IsRow result.now.keys }
+/// The rows that the host is to hold on the managed interfaces, in row order.
+pub fn rows(core: &Core) -> &[HostRow]
+    ensures rows { result.now ≡ rows_of core.now }
+    ensures fit { AllByRecursion IsRow result.now }
+    ensures in_order { InRowOrder result.now }
 {
     core.kept.tables.wanted()
 }
@@ -222,10 +234,15 @@ pub fn resolver_wanted(alloc: Global, core: &Core) -> Result<Option<String>, NoM
 pub fn core_due(core: &Core) -> Option<u64>
     ensures { result ≡ client_due core.now.ifaces }
 {
-    core.kept.dues.first()
+    first_due(&core.kept.dues, &core.ifaces)
 }
 
 /// How many interfaces had a turn of their own in the last step. The others had nothing to do.
 pub fn looks(core: &Core) -> u64 {
     core.looks
+}
+
+/// How many interfaces brought other rows in the last step than before it.
+pub fn changes(core: &Core) -> u64 {
+    core.changes
 }

@@ -1,66 +1,54 @@
 //! When interfaces are due: the place of an interface is its place among all of them.
 
-ghost use Rattle.std.specs.Prelude.{◌≡◌, ◌<◌, None, length, map, slice_index_or, slice_set, IfOk};
-ghost use Rattle.machine.specs.Moment.{is_due};
-ghost use Rattle.client_model.specs.Interfaces.{iface_due};
-ghost use Rattle.client_core.specs.DueMoments.{first_due};
+ghost use Rattle.std.specs.Prelude.{◌≡◌, map, IfOk};
+ghost use Rattle.client_model.specs.Clients.{client_due};
+ghost use Rattle.client_core.specs.Due.{dues_of};
+ghost use Rattle.timer_queue.specs.Dues.{AreMoments};
 
-use client_model::Iface;
-use iface_core::{earlier_of, iface_due};
-use machine::has_come;
-use std::alloc::{AllocError, Global};
-use std::marker::Model;
+use client_model::{Iface, TimedMachine};
+use iface_core::{earlier_of, iface_due, machine_due};
+use net_types::NoMemory;
+use std::alloc::Global;
+use timer_queue::{Dues, MachineDues, PLACES};
 
-/// The moments at which interfaces are due, in milliseconds since 1970.
-#[derive(Drop)]
-pub struct Dues {
-    moments: Vec<Option<u64>>,
+/// When the machines of an interface are due.
+pub fn dues_of(iface: &Iface) -> MachineDues
+    ensures { result ≡ dues_of iface.now }
+{
+    MachineDues {
+        dhcp4: machine_due(iface, TimedMachine::Dhcp4),
+        link_local: machine_due(iface, TimedMachine::LinkLocal),
+        dhcp6: machine_due(iface, TimedMachine::Dhcp6),
+    }
 }
 
-impl Model for Dues {
-    ghost use Rattle.std.specs.Prelude.{ℕ, List, Option};
-
-    ghost Value = { List (Option ℕ) };
-
-    ghost view = { λ dues. dues.moments.items };
+/// The queue of the moments of these interfaces.
+pub fn queue_of(alloc: Global, ifaces: &[Iface]) -> Result<Dues, NoMemory>
+    ensures { IfOk result (λ dues. AreMoments (map dues_of ifaces.now) dues) }
+{
+    let mut dues = Dues::new(alloc)?;
+    'places: for place in 0..ifaces.len() {
+        dues.put(place, dues_of(&ifaces[place]));
+    }
+    Ok(dues)
 }
 
-impl Dues {
-    /// When these interfaces are due.
-    pub fn of(alloc: Global, ifaces: &[Iface]) -> Result<Dues, AllocError>
-        ensures { IfOk result (λ dues. dues ≡ map iface_due ifaces.now) }
-    {
-        let mut moments = Vec::new(alloc);
-        for iface in ifaces {
-            moments.push(iface_due(iface))?;
-        }
-        Ok(Dues { moments })
+/// The earliest moment at which one of these interfaces is due.
+fn earliest_of(ifaces: &[Iface]) -> Option<u64>
+    ensures { result ≡ client_due ifaces.now }
+{
+    let mut first = None;
+    for iface in ifaces {
+        first = earlier_of(first, iface_due(iface));
     }
+    first
+}
 
-    /// Says when the interface at a place is due.
-    pub fn put(&mut self, place: usize, due: Option<u64>)
-        requires { place < length self.old }
-        ensures { self.new ≡ slice_set self.old place due }
-    {
-        self.moments[place] = due;
-    }
-
-    /// Whether the interface at a place is due at a moment.
-    pub fn has_come(&self, place: usize, at: u64) -> bool
-        requires { place < length self.now }
-        ensures { result ≡ is_due (slice_index_or self.now place None) at }
-    {
-        has_come(self.moments[place], at)
-    }
-
-    /// The earliest moment at which one is due.
-    pub fn first(&self) -> Option<u64>
-        ensures { result ≡ first_due self.now }
-    {
-        let mut first = None;
-        for due in &self.moments {
-            first = earlier_of(first, *due);
-        }
-        first
-    }
+/// The earliest moment at which one of all interfaces is due. The queue has no moments of those from place 64 on.
+pub fn first_due(dues: &Dues, ifaces: &[Iface]) -> Option<u64>
+    requires { AreMoments (map dues_of ifaces.now) dues.now }
+    ensures { result ≡ client_due ifaces.now }
+{
+    let others = &ifaces[PLACES.min(ifaces.len())..];
+    earlier_of(dues.first(), earliest_of(others))
 }

@@ -4,10 +4,11 @@ ghost use Rattle.std.specs.Prelude.{◌≡◌, ◌<◌, [], false, length, map, 
 ghost use Rattle.settings.specs.Fitting.{FitsManaged};
 ghost use Rattle.client_model.specs.Fitting.{AreIfaces};
 ghost use Rattle.client_model.specs.WantedRows.{iface_rows};
+ghost use Rattle.client_core.specs.Leading.{Alters};
 
 use crate::iface_rows::push_iface;
 use client_model::Iface;
-use host_tables::{HostRows, Tables};
+use host_tables::{Diff, HostRows, Steps, Tables};
 use net_types::NoMemory;
 use std::alloc::Global;
 
@@ -34,26 +35,28 @@ pub fn tables_of(alloc: Global, ifaces: &[Iface]) -> Result<Tables, NoMemory>
     Ok(tables)
 }
 
-/// Brings the rows of the interface at a place up to date, where they may differ.
+/// Brings the rows of the interface at a place up to date, where they may differ, and says how the wanted rows changed, where its
+/// rows did.
 pub fn renew_rows(
     alloc: Global,
     tables: &mut Tables,
     place: usize,
     iface: &Iface,
     may_differ: bool,
-) -> Result<(), NoMemory>
+) -> Result<Option<Diff>, NoMemory>
     requires fit { FitsManaged iface.now.managed }
     requires place { place < length tables.old }
     requires same { may_differ ≡ false → slice_index_or tables.old place [] ≡ iface_rows iface.now }
-    ensures { OnOk result (tables.new ≡ slice_set tables.old place (iface_rows iface.now)) }
+    ensures rows { OnOk result (tables.new ≡ slice_set tables.old place (iface_rows iface.now)) }
+    ensures alters { IfOk result (λ diff. Alters diff tables.old tables.new) }
 {
     if !may_differ {
-        return Ok(());
+        return Ok(None);
     }
     let rows = rows_of(alloc, iface)?;
     if tables.brought(place).is_same(&rows) {
-        return Ok(());
+        return Ok(None);
     }
-    let _diff = tables.change(place, rows)?;
-    Ok(())
+    let diff = tables.change(place, rows, &mut Steps::new())?;
+    Ok(Some(diff))
 }

@@ -2,9 +2,9 @@
 #![tactic(auto)]
 
 mod address_rows;
-mod changes;
 mod clients;
 mod dues;
+mod effects;
 mod hook_jobs;
 mod iface_rows;
 mod iface_tables;
@@ -19,10 +19,12 @@ mod share_rows;
 mod told_parts;
 mod turning;
 
-pub use changes::{Resolver, Touched};
 pub use clients::{
-    Core, Opened, Stepped, core_due, core_open, kept4, kept6, looks, resolver_wanted, rows, step,
+    Core, Opened, Stepped, changes, core_due, core_open, kept4, kept6, looks, resolver_wanted,
+    rows, step,
 };
+pub use effects::{Resolver, Touched};
+pub use host_tables::Diff;
 pub use iface_core::{Beginning, Outs, Sending, Turn, TurnInput, earlier_of};
 
 #[cfg(test)]

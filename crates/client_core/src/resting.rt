@@ -1,45 +1,49 @@
 //! Which interfaces have something to do in a turn.
 
-ghost use Rattle.std.specs.Prelude.{◌≡◌, ◌<◌, None, length, slice_index_or};
-ghost use Rattle.std.specs.List.{AllByRecursion};
-ghost use Rattle.world.specs.Rows.{IsInterface};
-ghost use Rattle.client_model.specs.IfaceSteps.{index_of};
+ghost use Rattle.std.specs.Prelude.{◌≡◌};
+ghost use Rattle.script_model.specs.IfaceSets.{is_in};
 ghost use Rattle.iface_core.specs.Inputs.{event_of, turn_of};
-ghost use Rattle.client_core.specs.Resting.{has_work, is_called, is_met};
+ghost use Rattle.client_core.specs.Resting.{Finds, is_called, is_met};
 
-use crate::dues::Dues;
-use client_model::Iface;
 use iface_core::{Turn, TurnInput, contains};
 use net_types::IfIndex;
+use timer_queue::{Named, Places};
 
-/// Whether an input brings something to an interface.
-fn is_met(index: IfIndex, input: TurnInput<'_>) -> bool
-    ensures { result ≡ is_met index.number (event_of input.entry) }
+/// The places of the interfaces to which an input brings something.
+fn met_places(named: &Named, input: TurnInput<'_>) -> Places
+    ensures { Finds (λ index. is_met index (event_of input.entry)) named.now result }
 {
     match input {
-        TurnInput::Frame { iface, .. } => index.number == iface,
-        TurnInput::Carrier { iface, .. } => index.number == iface,
-        TurnInput::Duplicate { iface, .. } => index.number == iface,
-        TurnInput::Release { iface } => index.number == iface,
-        TurnInput::Rebind { iface } => index.number == iface,
-        TurnInput::Stop => true,
-        TurnInput::Quiet => false,
+        TurnInput::Frame { iface, .. } => named.places(iface),
+        TurnInput::Carrier { iface, .. } => named.places(iface),
+        TurnInput::Duplicate { iface, .. } => named.places(iface),
+        TurnInput::Release { iface } => named.places(iface),
+        TurnInput::Rebind { iface } => named.places(iface),
+        TurnInput::Stop => Places::all(),
+        TurnInput::Quiet => Places::none(),
     }
 }
 
-/// Whether something comes to an interface from outside: the input, or word that a frame of its own couldn't be sent in the turn before.
-fn is_called(index: IfIndex, turn: &Turn<'_>) -> bool
-    requires { IsInterface index.number }
-    ensures { result ≡ is_called index.number (turn_of turn.now) }
+/// The places of the interfaces of which a frame couldn't be sent in the turn before.
+fn unsent_places(named: &Named, unsent: u64) -> Places
+    ensures { Finds (is_in unsent) named.now result }
 {
-    contains(turn.unsent, index) || is_met(index, turn.input)
+    let mut places = Places::none();
+    if unsent == 0 {
+        return places;
+    }
+    'indices: for before in 0..64 {
+        let index = IfIndex { number: before + 1 };
+        if contains(unsent, index) {
+            places = places.or(named.places(index.number));
+        }
+    }
+    places
 }
 
-/// Whether an interface has something to do in a turn: a machine of it is due, or something comes to it from outside.
-pub fn has_work(dues: &Dues, place: usize, index: IfIndex, turn: &Turn<'_>) -> bool
-    requires place { place < length dues.now }
-    requires index { IsInterface index.number }
-    ensures { result ≡ has_work (slice_index_or dues.now place None) index.number (turn_of turn.now) }
+/// The places of the interfaces to which something comes from outside: the input, or word that a frame of their own couldn't be sent.
+pub fn called_places(named: &Named, turn: &Turn<'_>) -> Places
+    ensures { Finds (λ index. is_called index (turn_of turn.now)) named.now result }
 {
-    dues.has_come(place, turn.at) || is_called(index, turn)
+    unsent_places(named, turn.unsent).or(met_places(named, turn.input))
 }

@@ -1,4 +1,4 @@
-ghost use Rattle.std.specs.Prelude.{map, IfOk};
+ghost use Rattle.std.specs.Prelude.{◌≡◌, map, IfOk};
 ghost use Rattle.net_types.specs.AddressText.{FitsMac};
 ghost use Rattle.net_types.specs.NameText.{FitsName};
 ghost use Rattle.settings.specs.Dhcp4Settings.{FitsDhcp4};
@@ -8,8 +8,8 @@ ghost use Rattle.world.specs.Rows.{IsInterface};
 ghost use Rattle.client_model.specs.Fitting.{AreBeginnings, FitsBeginning};
 ghost use Rattle.iface_core.specs.Beginnings.{beginning_of};
 
-use crate::{Beginning, Core, Turn, TurnInput, core_due, core_open, looks, step};
-use net_types::{IfIndex, IfSpec, Mac, NoMemory, read_name};
+use crate::{Beginning, Core, Turn, TurnInput, changes, core_due, core_open, looks, rows, step};
+use net_types::{IfIndex, IfSpec, Ip6, Mac, Net6, NoMemory, read_name};
 use settings::{
     Dhcp4Conf, Dhcp6Conf, HookConf, IaConf, Identifier, IfConf, Managed, ResolverConf, Script,
 };
@@ -23,6 +23,14 @@ const COUNT: u32 = 64;
 
 const MAC: Mac = Mac {
     bytes: [2, 0, 0, 0, 0, 1],
+};
+
+/// The static address of each, 2001:db8::1/64.
+const NET: Net6 = Net6 {
+    ip: Ip6 {
+        number: 0x2001_0db8_0000_0000_0000_0000_0000_0001,
+    },
+    len: 64,
 };
 
 /// The DUID that is made of the hardware address (RFC 8415, section 11.4).
@@ -87,7 +95,7 @@ fn hook_conf(alloc: Global) -> HookConf {
     }
 }
 
-/// An interface where DHCPv6 runs without the first delay, and no IPv4.
+/// An interface with a static address, where DHCPv6 runs without the first delay, and no IPv4.
 fn managed(alloc: Global, index: IfIndex) -> Result<Managed, Fail>
     requires { IsInterface index.number }
     ensures { IfOk result FitsManaged }
@@ -108,7 +116,7 @@ fn managed(alloc: Global, index: IfIndex) -> Result<Managed, Fail>
         reboot: 5,
         metric: None,
         address: None,
-        address6: None,
+        address6: Some(NET),
         router: None,
         dhcp4: dhcp4_conf(alloc),
         dhcp6,
@@ -156,43 +164,70 @@ fn core(alloc: Global) -> Result<Core, Fail> {
     Ok(opened.core)
 }
 
-#[test]
-fn a_turn_asks_those_alone_that_have_something_to_do(rt: HostRuntime) -> Result<(), Fail> {
-    let core = core(rt.alloc())?;
-    assert_eq!(rt; core_due(&core), Some(1001));
-    let turn = Turn {
-        at: 1001,
+/// A turn in which time passes alone.
+fn quiet(at: u64) -> Turn<'static>
+    ensures { result.at ≡ at }
+{
+    Turn {
+        at,
         salt: 0,
         unsent: 0,
         input: TurnInput::Quiet,
-    };
-    let stepped = step(core, turn)?;
+    }
+}
+
+#[test]
+fn a_turn_asks_those_alone_that_are_due(rt: HostRuntime) -> Result<(), Fail> {
+    let core = core(rt.alloc())?;
+    assert_eq!(rt; core_due(&core), Some(1001));
+    let stepped = step(core, quiet(1001))?;
     assert_eq!(rt; stepped.outs.sends.len(), 1);
     assert_eq!(rt; looks(&stepped.core), 1);
+    assert_eq!(rt; changes(&stepped.core), 0);
+    let stepped = step(stepped.core, quiet(1002))?;
+    assert_eq!(rt; looks(&stepped.core), 0);
+    assert_eq!(rt; changes(&stepped.core), 0);
+    assert!(rt; stepped.rows.gone.is_empty());
+    assert!(rt; stepped.rows.come.is_empty());
+    Ok(())
+}
+
+#[test]
+fn a_turn_asks_those_alone_that_are_called(rt: HostRuntime) -> Result<(), Fail> {
+    let stepped = step(core(rt.alloc())?, quiet(1001))?;
+    let carrier = TurnInput::Carrier {
+        iface: 40,
+        up: true,
+    };
     let turn = Turn {
-        at: 1002,
-        input: TurnInput::Carrier {
-            iface: 40,
-            up: true,
-        },
-        ..turn
+        input: carrier,
+        ..quiet(1002)
     };
     let stepped = step(stepped.core, turn)?;
     assert_eq!(rt; looks(&stepped.core), 1);
+    assert_eq!(rt; changes(&stepped.core), 1);
+    assert!(rt; stepped.rows.gone.is_empty());
+    assert!(rt; !stepped.rows.come.is_empty());
     let turn = Turn {
-        at: 1003,
         unsent: 3,
-        input: TurnInput::Quiet,
-        ..turn
+        ..quiet(1003)
     };
     let stepped = step(stepped.core, turn)?;
     assert_eq!(rt; looks(&stepped.core), 3);
-    let turn = Turn {
-        at: 1003,
-        unsent: 0,
-        ..turn
-    };
-    let stepped = step(stepped.core, turn)?;
+    let stepped = step(stepped.core, quiet(1003))?;
     assert_eq!(rt; looks(&stepped.core), 0);
+    Ok(())
+}
+
+#[test]
+fn a_stop_asks_all(rt: HostRuntime) -> Result<(), Fail> {
+    let turn = Turn {
+        input: TurnInput::Stop,
+        ..quiet(1001)
+    };
+    let stepped = step(core(rt.alloc())?, turn)?;
+    assert_eq!(rt; looks(&stepped.core), 64);
+    assert_eq!(rt; changes(&stepped.core), 1);
+    assert!(rt; rows(&stepped.core).is_empty());
     Ok(())
 }

@@ -13,7 +13,7 @@ ghost use Rattle.client_model.specs.ResolverParts.{some_text};
 ghost use Rattle.client_core.specs.ToldParts.{all_told, nothing_told, told4, told6, told_parts, told_with};
 ghost use Rattle.client_core.specs.Touched.{Compares};
 
-use crate::changes::Resolver;
+use crate::effects::Resolver;
 use crate::resolver_parts::{has_part4, part_of, part4_with, part6_with};
 use crate::same_parts::is_same;
 use client_model::Iface;

@@ -1,21 +1,28 @@
-ghost use Rattle.std.specs.Prelude.{◌≡◌, ◌<◌, ◌^◌, ◌++◌, [], map, IfOk, OnOk};
+ghost use Rattle.std.specs.Prelude.{◌≡◌, ◌<◌, ◌^◌, ◌++◌, List, [], Some, map, IfOk, OnOk};
 ghost use Rattle.world.specs.HookCalls.{job_of};
+ghost use Rattle.world.specs.declared.rows.HostRow.{HostRow};
 ghost use Rattle.settings.specs.Fitting.{FitsManaged};
 ghost use Rattle.client_model.specs.IfaceTurns.{iface_turned};
 ghost use Rattle.client_model.specs.Jobs.{jobs_along};
+ghost use Rattle.client_model.specs.WantedRows.{wanted_rows};
+ghost use Rattle.host_tables.specs.Unions.{Differ};
 ghost use Rattle.iface_core.specs.Inputs.{turn_of};
 ghost use Rattle.iface_core.specs.Outcomes.{Goes, asked_in};
+ghost use Rattle.client_core.specs.declared.effects.Resolver.TheVariants.{Same};
+ghost use Rattle.client_core.specs.Leading.{Leads, LeadsOn};
 ghost use Rattle.client_core.specs.Running.{IsRunning};
 ghost use Rattle.client_core.specs.Stepping.{GoAll};
-ghost use Rattle.client_core.specs.Touched.{KeepsUntouched, LeavesBut};
+ghost use Rattle.client_core.specs.Touched.{KeepsUntouched, LeavesBut, either, may_keep, noted};
 
-use crate::changes::{Changes, Resolver, Touched, note};
+use crate::effects::{Changes, Resolver, Touched, note};
 use crate::hook_jobs::make_jobs;
-use crate::kept::Kept;
-use crate::resting::has_work;
+use crate::kept::{Kept, Renewed};
 use client_model::Iface;
+use host_tables::Diff;
 use iface_core::{Outs, Turn, iface_turn};
-use net_types::{Mac, NoMemory};
+use net_types::{IfIndex, Mac, NoMemory};
+use std::alloc::Global;
+use std::mem;
 use world::HookJob;
 
 /// A turn of an interface. Where nothing is new its rows are as before, and what it tells the resolver; where it says nothing either,
@@ -50,8 +57,63 @@ fn turn_iface(
 pub struct Walk {
     /// What it touched of what goes into files.
     pub touched: Touched,
+    /// How the rows changed that the host is to hold.
+    pub rows: Diff,
     /// How many interfaces had a turn of their own.
     pub looks: u64,
+    /// How many of them brought other rows.
+    pub changes: u64,
+}
+
+impl Walk {
+    /// No interface had its turn.
+    fn new(alloc: Global) -> Walk
+        ensures touched { result.touched.ifaces.items ≡ [] }
+        ensures resolver { result.touched.resolver ≡ Same }
+        ensures rows { (places : List (List HostRow)) → Differ places places result.rows }
+    {
+        Walk {
+            touched: Touched {
+                ifaces: Vec::new(alloc),
+                resolver: Resolver::Same,
+            },
+            rows: Diff::none(alloc),
+            looks: 0,
+            changes: 0,
+        }
+    }
+
+    /// How the rows changed, with one change more.
+    fn lead_on(&mut self, alloc: Global, change: Diff) -> Result<(), NoMemory>
+        ensures touched { self.new.touched ≡ self.old.touched }
+        ensures rows { OnOk result (LeadsOn (Some change) self.old.rows self.new.rows) }
+    {
+        self.changes = self.changes.saturating_add(1);
+        let so_far = mem::replace(&mut self.rows, Diff::none(alloc));
+        self.rows = so_far.then(alloc, change)?;
+        Ok(())
+    }
+
+    /// The interface of this index had its turn.
+    fn add(
+        &mut self,
+        alloc: Global,
+        index: IfIndex,
+        changes: Changes,
+        renewed: Renewed,
+    ) -> Result<(), NoMemory>
+        ensures touched { OnOk result (self.new.touched.ifaces.items ≡ self.old.touched.ifaces.items ++ noted (may_keep changes) index) }
+        ensures resolver { OnOk result (self.new.touched.resolver ≡ either self.old.touched.resolver renewed.resolver) }
+        ensures rows { OnOk result (LeadsOn renewed.rows self.old.rows self.new.rows) }
+    {
+        self.looks = self.looks.saturating_add(1);
+        note(&mut self.touched.ifaces, changes.may_keep(), index)?;
+        self.touched.resolver = self.touched.resolver.or(renewed.resolver);
+        match renewed.rows {
+            None => Ok(()),
+            Some(change) => self.lead_on(alloc, change),
+        }
+    }
 }
 
 /// A turn of each interface that has something to do, in order, after which what is kept of it is up to date and what it told hooks
@@ -71,26 +133,18 @@ pub fn turn_all(
     ensures running { OnOk result (IsRunning ifaces.new kept.new) }
     ensures untouched { IfOk result (λ walk. KeepsUntouched walk.touched ifaces.old ifaces.new) }
     ensures jobs { OnOk result (map job_of jobs.new.items ≡ map job_of jobs.old.items ++ jobs_along [] ifaces.old (map (iface_turned own.now (turn_of turn.now)) ifaces.old)) }
+    ensures leads { IfOk result (λ walk. Leads walk.rows (wanted_rows ifaces.old) (wanted_rows ifaces.new)) }
 {
     let alloc = *jobs.allocator();
-    let mut touched = Vec::new(alloc);
-    let mut resolver = Resolver::Same;
-    let mut looks: u64 = 0;
-    'places: for place in 0..ifaces.len() {
-        let index = ifaces[place].managed.spec.index;
-        if !has_work(&kept.dues, place, index, turn) {
-            continue;
-        }
-        looks = looks.saturating_add(1);
+    let busy = kept.take(turn);
+    let mut walk = Walk::new(alloc);
+    let mut place = busy.next_from(0, ifaces.len());
+    'places: while place < ifaces.len() {
         let changes = turn_iface(&mut ifaces[place], turn, own, outs)?;
         let renewed = kept.renew(alloc, place, &ifaces[place], changes)?;
-        resolver = resolver.or(renewed);
-        note(&mut touched, changes.may_keep(), index)?;
+        walk.add(alloc, ifaces[place].managed.spec.index, changes, renewed)?;
         make_jobs(jobs, ifaces, outs)?;
+        place = busy.next_from(place + 1, ifaces.len());
     }
-    let touched = Touched {
-        ifaces: touched,
-        resolver,
-    };
-    Ok(Walk { touched, looks })
+    Ok(walk)
 }

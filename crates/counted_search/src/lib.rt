@@ -10,7 +10,7 @@ mod steps;
 mod tests;
 
 pub use first::first_from;
-pub use merge::beyond;
+pub use merge::{beyond, beyond_into};
 pub use ordered::{add, put_in, take_out};
 pub use search::find;
 pub use steps::Steps;

@@ -2,6 +2,7 @@
 ghost use Rattle.std.specs.Prelude.{◌≡◌, ℕ, ◌+◌, ◌≤◌, not, length, drop, filter, IfOk};
 ghost use Rattle.std.specs.BTreeMap.Range.{IsLeBy};
 ghost use Rattle.std.specs.List.Sorted.{IsStrictlySortedBy};
+ghost use Rattle.std.specs.Vec.{vec_capacity};
 ghost use Rattle.counted_search.specs.Ordered.{has_key};
 
 use crate::steps::Steps;
@@ -29,6 +30,27 @@ fn is_among<K: Ord>(keys: &[K], place: &mut usize, key: &K, steps: &mut Steps) -
     false
 }
 
+/// Fills a vector that has room for all keys with those that others lack, in order: that takes no memory. It takes a step for each
+/// key of either list at most.
+pub fn beyond_into<K: Ord + Copy>(keys: &[K], others: &[K], found: &mut Vec<K>, steps: &mut Steps)
+    requires keys { IsStrictlySortedBy K.cmp keys.now }
+    requires others { IsStrictlySortedBy K.cmp others.now }
+    requires room { length keys.now ≤ vec_capacity found.old }
+    ensures found { found.new.items ≡ filter (λ key. not (has_key K.cmp others.now key)) keys.now }
+    ensures grows { steps.old ≤ steps.new }
+    ensures steps { steps.new ≤ steps.old + length keys.now + length others.now }
+{
+    found.clear();
+    let mut place = 0;
+    'lacked: for key in keys {
+        if is_among(others, &mut place, key, steps) {
+            continue;
+        }
+        // There is room, so this can't fail.
+        let _ = found.push(*key);
+    }
+}
+
 /// The keys that others lack, in order. It takes a step for each key of either list at most.
 pub fn beyond<K: Ord + Copy>(
     alloc: Global,
@@ -42,13 +64,7 @@ pub fn beyond<K: Ord + Copy>(
     ensures grows { steps.old ≤ steps.new }
     ensures steps { steps.new ≤ steps.old + length keys.now + length others.now }
 {
-    let mut found = Vec::new(alloc);
-    let mut place = 0;
-    'lacked: for key in keys {
-        if is_among(others, &mut place, key, steps) {
-            continue;
-        }
-        found.push(*key)?;
-    }
+    let mut found = Vec::with_capacity(alloc, keys.len())?;
+    beyond_into(keys, others, &mut found, steps);
     Ok(found)
 }

@@ -20,7 +20,7 @@ use Rattle.daemon.specs.declared.serving.ServeEnd.TheVariants as ends
 use Rattle.daemon.specs.Waits.{WaitsThere}
 use Rattle.daemon.specs.Streams.{WritesLines, WritesSome, WritesFront}
 use Rattle.daemon.specs.Serving.{MakesTurn, AreWhole, Goes, Ends, HasServeCause}
-use Rattle.daemon.specs.Cuts.{Between, InTurn, AtEnd, cut_lines, cut_turns, turns_left, wakes_asked, CutsAt, TellsUnlessMemory, HandledAll, WaitFails, BreaksOff}
+use Rattle.daemon.specs.Cuts.{Between, InTurn, AtEnd, cut_lines, cut_turns, turns_left, CutsAt, TellsUnlessMemory, HandledAll, WaitFails, BreaksOff}
 use Rattle.daemon.proofs.Stretches.{turns-append, life_after-append, turns_calls-append, whole_then}
 use Rattle.daemon.proofs.Waitings.{woke}
 use Rattle.daemon.proofs.OneTurn.{turn_first, turn_tells}

@@ -1,17 +1,20 @@
 -- The files that a life keeps, as the code keeps them.
-use Rattle.std.proofs.Common.{ℕ, ◌≡◌, ◌+◌, ◌<◌, ◌≤◌, add-one, Bool, true, false, cond, bytes_eq, ◌||◌, List, [], ◌∷◌, ◌++◌, length, get_or, set, take, drop, drop-cons, Option, Some, None, Bor, refl, sym, ap, subst, ◌∙◌, append-nil, append_assoc, arith}
+use Rattle.std.proofs.Common.{ℕ, ◌≡◌, ◌+◌, ◌<◌, ◌≤◌, add-one, Bool, true, false, cond, not, bytes_eq, ◌||◌, ◌==◌, List, [], ◌∷◌, ◌++◌, length, get_or, set, take, drop, drop-cons, Option, Some, None, Bor, refl, sym, ap, subst, ◌∙◌, append-nil, append_assoc, arith}
 use Rattle.std.proofs.lemmas.List.{drop_all, take_all, take_more_set, drop-set-lt, with_items_is}
 use Rattle.std.specs.Global.{Vec}
 use Rattle.std.specs.Vec.{with_items}
 use Rattle.std.proofs.lemmas.Slice.Eq.{bytes_eq-Decides}
 use Rattle.std.specs.Prelude.{option_map}
-use Rattle.std.specs.List.{AllByRecursion}
+use Rattle.std.specs.List.{AllByRecursion, list_any}
+use Rattle.std.proofs.lemmas.Bool.{and_parts, not-true}
+use Rattle.std.proofs.lemmas.Bool.Decides.{nat_tests}
+use Rattle.net_types.specs.declared.interface.IfIndex.{IfIndex}
 use Rattle.client_model.specs.declared.interfaces.Iface.{Iface}
 use Rattle.lease_text.specs.LeaseLines.{lease4_text}
 use Rattle.lease6_text.specs.LeaseLines.{lease6_text}
-use Rattle.client_core.specs.declared.changes.Resolver.{Resolver as Telling}
-use Rattle.client_core.specs.declared.changes.Resolver.TheVariants.{Same, Other}
-use Rattle.client_core.specs.declared.changes.Touched as client
+use Rattle.client_core.specs.declared.effects.Resolver.{Resolver as Telling}
+use Rattle.client_core.specs.declared.effects.Resolver.TheVariants.{Same, Other}
+use Rattle.client_core.specs.declared.effects.Touched as client
 use Rattle.client_core.specs.Touched.{is_other, is_touched, KeepsUntouched}
 use Rattle.device_calls.specs.Calls.{Call}
 use Rattle.device_calls.specs.Programs.{Asks, Done, after, Makes}
@@ -22,7 +25,7 @@ use Rattle.device_calls.proofs.Doing.{does_done, does_after}
 use Rattle.turn_model.specs.KeptFiles.{Keeps, Duid, Lease4, Lease6, Resolver, KeptFile, same_content, is_settled, wanted_in, bringing, known_after, keeping_one, keeping, is_unknown}
 use Rattle.daemon.specs.declared.keeping.Touched.{Touched}
 use Rattle.daemon.specs.declared.keeping.Touched.TheVariants.{All, These}
-use Rattle.daemon.specs.Keeping.{may_differ, IsKept, AreKept, AreKeptBut}
+use Rattle.daemon.specs.Keeping.{is_nothing, may_differ, IsKept, AreKept, AreKeptBut}
 
 -- ---- one file
 
@@ -139,6 +142,34 @@ but_first P files i d lt all = (subst (AllByRecursion P) (drop_one files i d lt)
 
 pub but_more : (P : KeptFile → Type 0) (files : List KeptFile) (i : ℕ) (next : KeptFile) → i < length files → AllByRecursion P (drop i files) → AllByRecursion P (drop (i + 1) (set files i next))
 but_more P files i next lt all = subst (AllByRecursion P) (sym (drop-set-lt (i + 1) files i next (omega arith))) (subst (AllByRecursion P) (drop_one files i next lt) all).1
+
+-- ---- where nothing was touched
+
+none_among : (index : ℕ) (ifaces : List IfIndex) → (length ifaces == 0) ≡ true → is_touched index ifaces ≡ false
+none_among index [] none = refl
+none_among index (iface ∷ ifaces) none = absurd (grind (arith, nat_tests))
+
+stays_same : (touched : Touched) (keeps : Keeps) → is_nothing touched ≡ true → may_differ keeps touched ≡ false
+stays_same All keeps none = absurd cc
+stays_same (These these) (Duid bytes) none = refl
+stays_same (These these) (Lease4 iface) none = none_among iface these.now.ifaces.items (and_parts (length these.now.ifaces.items == 0) (not (is_other these.now.resolver)) none).0
+stays_same (These these) (Lease6 iface) none = none_among iface these.now.ifaces.items (and_parts (length these.now.ifaces.items == 0) (not (is_other these.now.resolver)) none).0
+stays_same (These these) Resolver none = not-true (is_other these.now.resolver) (and_parts (length these.now.ifaces.items == 0) (not (is_other these.now.resolver)) none).1
+
+-- all files hold what they are to hold
+pub keeping_nothing : (ifaces : List Iface) (touched : Touched) (files : List KeptFile) (seen : Seen) (text : List ℕ) → is_nothing touched ≡ true → list_any (λ file. is_unknown file.known) files ≡ false
+    → AreKeptBut touched ifaces files → Does (keeping ifaces files) files seen seen text text
+keeping_nothing ifaces touched [] seen text none known kept = does_done [] seen text
+keeping_nothing ifaces touched (file ∷ files) seen text none known kept =
+    let both = or_none (is_unknown file.known) (list_any (λ (one : KeptFile). is_unknown one.known) files) known in
+    does_after (keeping_one (wanted_in ifaces file.keeps) file) (λ first. after (keeping ifaces files) (λ rest. Done (first ∷ rest))) file (file ∷ files) seen seen seen text text text
+    (keeps_settled (wanted_in ifaces file.keeps) file seen text (kept.0 (stays_same touched file.keeps none) both.0))
+    (does_after (keeping ifaces files) (λ rest. Done (file ∷ rest)) files (file ∷ files) seen seen seen text text text
+    (keeping_nothing ifaces touched files seen text none both.1 kept.1) (does_done (file ∷ files) seen text))
+
+pub kept_still : (ifaces : List Iface) (touched : Touched) (files : List KeptFile) → is_nothing touched ≡ true → AreKeptBut touched ifaces files → AreKept ifaces files
+kept_still ifaces touched [] none kept = tt
+kept_still ifaces touched (file ∷ files) none kept = (kept.0 (stays_same touched file.keeps none), kept_still ifaces touched files none kept.1)
 
 -- ---- from turn to turn
 

@@ -3,6 +3,7 @@ pub mod Ones
 pub mod Printings
 pub mod Causes
 pub mod Parts
+pub mod HostSteps
 pub mod Hookings
 pub mod OpeningSteps
 pub mod Bringing

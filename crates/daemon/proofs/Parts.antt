@@ -6,7 +6,7 @@ use Rattle.std.specs.Prelude.{map, filter, reverse}
 use Rattle.std.specs.List.{AllByRecursion}
 use Rattle.world.specs.declared.rows.HostRow.{HostRow}
 use Rattle.world.specs.Rows.{IsRow}
-use Rattle.world.specs.RowOrder.{rows_beyond}
+use Rattle.host_tables.specs.declared.union.Diff.{Diff}
 use Rattle.settings.specs.declared.interfaces.Managed.{Managed}
 use Rattle.iface_core.specs.declared.outs.Sending.{Sending}
 use Rattle.iface_core.specs.Outcomes.{sending_of}
@@ -20,6 +20,7 @@ use Rattle.device_calls.specs.Does.{Does}
 use Rattle.device_calls.proofs.Doing.{does_done, does_then}
 use Rattle.turn_model.specs.Turns.{marked, offering, known_with, changing, rows_on, hosting_listed, hosting}
 use Rattle.daemon.specs.Answered.{FitsChange}
+use Rattle.daemon.specs.Tables.{changes_by}
 
 pub if_ok : {A E : Type 0} {P Q : A → Type 0} (r : Result A E) → ((x : A) → P x → Q x) → IfOk r P → IfOk r Q
 if_ok (Ok x) f p = f x p
@@ -56,14 +57,14 @@ kept_fit : (b : Bool) (row : HostRow) (rest : List HostRow) → IsRow row → Al
 kept_fit true row rest fit more = (fit, more)
 kept_fit false row rest fit more = more
 
-filter_fit : (p : HostRow → Bool) (rows : List HostRow) → AllByRecursion IsRow rows → AllByRecursion IsRow (filter p rows)
+pub filter_fit : (p : HostRow → Bool) (rows : List HostRow) → AllByRecursion IsRow rows → AllByRecursion IsRow (filter p rows)
 filter_fit p [] fit = tt
 filter_fit p (row ∷ rows) fit = kept_fit (p row) row (filter p rows) fit.0 (filter_fit p rows fit.1)
 
-pub changes_fit : (known wanted : List HostRow) (made : List HostChange) → made ≡ changes known wanted → AllByRecursion IsRow wanted → AllByRecursion FitsChange made
-changes_fit known wanted made same fit =
+pub changes_fit : (diff : Diff) (made : List HostChange) → made ≡ changes_by diff → AllByRecursion IsRow diff.come.items → AllByRecursion FitsChange made
+changes_fit diff made same fit =
     subst (λ (cs : List HostChange). AllByRecursion FitsChange cs) (sym same)
-    (removes_fit (reverse (rows_beyond wanted known)) (map Add (rows_beyond known wanted)) (adds_fit (rows_beyond known wanted) (filter_fit _ wanted fit)))
+    (removes_fit (reverse diff.gone.items) (map Add diff.come.items) (adds_fit diff.come.items fit))
 
 -- ---- a loop over the changes
 

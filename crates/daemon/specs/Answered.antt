@@ -1,6 +1,5 @@
 -- What one device did at one question, in the words of the definitions.
 use Rattle.std.specs.Prelude.{ℕ, ◌≡◌, Bool, true, false, not, if◌then◌else◌, List, [], ◌∷◌, map, Option, None, Some, IfSome, option_map, String}
-use Rattle.std.specs.BTreeSet.{BTreeSet}
 use Rattle.std.specs.Global.{Global, Vec}
 use Rattle.std.specs.String.{string_bytes}
 use Rattle.world.specs.Rows.{IsRow}
@@ -20,8 +19,8 @@ use Rattle.host_model.specs.HostTurn.{change_call}
 use Rattle.device_calls.specs.Worlds.{Told, told_from, fails_send, fails_host, fails_store, fails_renaming, fails_start, host_with, store_written, store_synced, store_renamed, store_without}
 use Rattle.device_calls.specs.Telling.{Adds}
 
-abbrev pub keys_of : Option (BTreeSet HostRow) → Option (List HostRow)
-keys_of rows = option_map (λ set. set.keys) rows
+abbrev pub rows_in : Option (Vec HostRow) → Option (List HostRow)
+rows_in rows = option_map (λ v. v.items) rows
 
 -- the rows of a listing, in row order
 abbrev pub rows_listed : Option (Vec HostRow) → Option (List HostRow)

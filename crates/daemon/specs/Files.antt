@@ -1,9 +1,11 @@
 -- The files that a life keeps, as the code has them.
-use Rattle.std.specs.Prelude.{ℕ, List, Option, option_map}
+use Rattle.std.specs.Prelude.{ℕ, Bool, true, false, List, Option, option_map}
 use Rattle.std.specs.Global.{Vec}
 use Rattle.turn_model.specs.KeptFiles as model
 use Rattle.daemon.specs.declared.keeping.Keeps.{Keeps}
 use Rattle.daemon.specs.declared.keeping.Keeps.TheVariants as kept
+use Rattle.daemon.specs.declared.kept.Knowledge.{Knowledge}
+use Rattle.daemon.specs.declared.kept.Knowledge.TheVariants.{Whole, Partial}
 use Rattle.daemon.specs.declared.keeping.Known.{Known}
 use Rattle.daemon.specs.declared.keeping.Known.TheVariants as code
 
@@ -21,3 +23,8 @@ keeps_of (kept.Duid duid) = model.Duid duid.bytes.items
 keeps_of (kept.Lease4 iface) = model.Lease4 iface.number
 keeps_of (kept.Lease6 iface) = model.Lease6 iface.number
 keeps_of kept.Resolver = model.Resolver
+
+-- some file is unknown
+abbrev pub is_partial : Knowledge → Bool
+is_partial Whole = false
+is_partial Partial = true

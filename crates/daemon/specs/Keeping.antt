@@ -1,5 +1,5 @@
 -- Files that hold what they are to hold, so that nothing is asked for them.
-use Rattle.std.specs.Prelude.{ℕ, ◌≡◌, Bool, true, false, List}
+use Rattle.std.specs.Prelude.{ℕ, ◌≡◌, ◌==◌, ◌&&◌, not, Bool, true, false, List, length}
 use Rattle.std.specs.List.{AllByRecursion}
 use Rattle.client_model.specs.declared.interfaces.Iface.{Iface}
 use Rattle.client_core.specs.Touched.{is_other, is_touched}
@@ -22,6 +22,11 @@ is_all (These touched) = false
 abbrev pub has_resolver : Touched → Bool
 has_resolver All = true
 has_resolver (These touched) = is_other touched.now.resolver
+
+-- nothing may be to be kept otherwise than before
+abbrev pub is_nothing : Touched → Bool
+is_nothing All = false
+is_nothing (These touched) = (length touched.now.ifaces.items == 0) && not (is_other touched.now.resolver)
 
 -- What the file is to hold may be another than before. The DUID stays as it is once the life is opened.
 abbrev pub may_differ : Keeps → Touched → Bool

@@ -4,6 +4,7 @@ pub mod Hooking
 pub mod Files
 pub mod Keeping
 pub mod Loading
+pub mod Tables
 pub mod Lives
 pub mod Acts
 pub mod Streams

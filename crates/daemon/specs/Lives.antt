@@ -1,17 +1,13 @@
 -- A life as the code has it.
 use Rattle.std.specs.Prelude.{ℕ, ◌<◌, ◌^◌, ◌+◌, Bool, true, false, Option, Some, None}
-use Rattle.std.specs.BTreeSet.{BTreeSet}
-use Rattle.std.specs.Prelude.{List, option_map}
-use Rattle.world.specs.declared.rows.HostRow.{HostRow}
+use Rattle.client_model.specs.Clients.{rows_of}
 use Rattle.turn_model.specs.Turns as model
 use Rattle.daemon.specs.declared.lives.Life.{Life}
 use Rattle.daemon.specs.Keeping.{AreKept}
-
-abbrev pub keys_of : Option (BTreeSet HostRow) → Option (List HostRow)
-keys_of rows = option_map (λ set. set.keys) rows
+use Rattle.daemon.specs.Tables.{known_in}
 
 abbrev pub life_of : Life → model.Life
-life_of life = record { client = life.core; known = keys_of life.known; files = life.files.items; hooks = life.hooks; now = life.moment; stop = life.stop; unsent = life.unsent }
+life_of life = record { client = life.core; known = known_in life.table (rows_of life.core); files = life.files; hooks = life.hooks; now = life.moment; stop = life.stop; unsent = life.unsent }
 
 abbrev pub IsBelowEnd : Option ℕ → Type 0
 IsBelowEnd None = Unit {0}
@@ -25,7 +21,7 @@ pub record IsTimely (life : Life) : Type 0 where
 -- and its files hold what they are to hold, where that is known
 pub record IsOrderly (life : Life) : Type 0 where
   pub timely : IsTimely life
-  pub kept : AreKept life.core.ifaces life.files.items
+  pub kept : AreKept life.core.ifaces life.files
 
 abbrev pub retry_unless : Bool → ℕ → Option ℕ
 retry_unless true now = None

@@ -1,61 +1,51 @@
-ghost use Rattle.std.specs.Prelude.{◌≡◌, ◌++◌, IfOk, OnOk, map, reverse};
-ghost use Rattle.world.specs.RowOrder.{rows_beyond};
-ghost use Rattle.host_model.specs.HostTurn.{changes, applied};
+//! What leads from the rows that a host has to those that it is to have.
+ghost use Rattle.std.specs.Prelude.{◌≡◌, IfOk, map, reverse};
+ghost use Rattle.host_model.specs.HostTable.{InRowOrder};
+ghost use Rattle.client_core.specs.Leading.{Leads};
+ghost use Rattle.daemon.specs.Tables.{changes_by};
 
+use client_core::Diff;
+use counted_search::{Steps, beyond};
 use host_model::HostChange;
 use std::alloc::{AllocError, Global};
-use std::collections::BTreeSet;
 use world::HostRow;
 
-fn removals(
-    alloc: Global,
-    known: &BTreeSet<HostRow>,
-    wanted: &BTreeSet<HostRow>,
-) -> Result<Vec<HostChange>, AllocError>
-    ensures { IfOk result (λ v. v.items ≡ map HostChange.Remove (reverse (rows_beyond wanted.now.keys known.now.keys))) }
+fn removals(alloc: Global, gone: &[HostRow]) -> Result<Vec<HostChange>, AllocError>
+    ensures { IfOk result (λ v. v.items ≡ map HostChange.Remove (reverse gone.now)) }
 {
-    let gone: Vec<HostRow> = known.difference(wanted).copied().collect(alloc)?;
     gone.iter()
         .rev()
         .map(|row| HostChange::Remove(*row))
         .collect(alloc)
 }
 
-fn additions(
-    alloc: Global,
-    known: &BTreeSet<HostRow>,
-    wanted: &BTreeSet<HostRow>,
-) -> Result<Vec<HostChange>, AllocError>
-    ensures { IfOk result (λ v. v.items ≡ map HostChange.Add (rows_beyond known.now.keys wanted.now.keys)) }
+fn additions(alloc: Global, come: &[HostRow]) -> Result<Vec<HostChange>, AllocError>
+    ensures { IfOk result (λ v. v.items ≡ map HostChange.Add come.now) }
 {
-    let come: Vec<HostRow> = wanted.difference(known).copied().collect(alloc)?;
     come.iter().map(|row| HostChange::Add(*row)).collect(alloc)
 }
 
-/// What leads from the known rows to the wanted ones: removals in the reverse of the row order, then additions in row order.
-pub fn changes_between(
-    alloc: Global,
-    known: &BTreeSet<HostRow>,
-    wanted: &BTreeSet<HostRow>,
-) -> Result<Vec<HostChange>, AllocError>
-    ensures { IfOk result (λ v. v.items ≡ changes known.now.keys wanted.now.keys) }
+/// Removals in the reverse of the row order, then additions in row order.
+pub fn changes_by(alloc: Global, diff: &Diff) -> Result<Vec<HostChange>, AllocError>
+    ensures { IfOk result (λ v. v.items ≡ changes_by diff.now) }
 {
-    let mut changes = removals(alloc, known, wanted)?;
-    changes.extend_from_slice(&additions(alloc, known, wanted)?)?;
+    let mut changes = removals(alloc, &diff.gone)?;
+    changes.extend_from_slice(&additions(alloc, &diff.come)?)?;
     Ok(changes)
 }
 
-/// A table with a change that was done.
-pub fn apply(known: &mut BTreeSet<HostRow>, change: HostChange) -> Result<(), AllocError>
-    ensures { OnOk result (known.new.keys ≡ applied change known.old.keys) }
+/// What the wanted rows differ in from the known ones.
+pub fn diff_between(
+    alloc: Global,
+    known: &[HostRow],
+    wanted: &[HostRow],
+) -> Result<Diff, AllocError>
+    requires known { InRowOrder known.now }
+    requires wanted { InRowOrder wanted.now }
+    ensures { IfOk result (λ diff. Leads diff known.now wanted.now) }
 {
-    match change {
-        HostChange::Remove(row) => {
-            let _was_there = known.remove(&row);
-        }
-        HostChange::Add(row) => {
-            let _is_new = known.insert(row)?;
-        }
-    }
-    Ok(())
+    let mut steps = Steps::new();
+    let gone = beyond(alloc, known, wanted, &mut steps)?;
+    let come = beyond(alloc, wanted, known, &mut steps)?;
+    Ok(Diff { gone, come })
 }

@@ -11,7 +11,6 @@ use crate::saying::say;
 use crate::serving::ServeEnd;
 use crate::waking::write_all;
 use client_core::rows;
-use std::alloc::Global;
 use transcript_text::TranscriptLine;
 use world::{HostRow, NoMemory, Sink};
 
@@ -33,22 +32,16 @@ fn say_holds(rows: &[HostRow], text: &mut Vec<u8>) -> Result<(), NoMemory>
     Ok(())
 }
 
-fn say_closing(alloc: Global, life: &Life, text: &mut Vec<u8>) -> Result<(), NoMemory>
+fn say_closing(life: &Life, text: &mut Vec<u8>) -> Result<(), NoMemory>
     ensures { OnOk result (Prints text.old.items text.new.items (closing_lines (life_of life.now))) }
 {
-    let wanted: Vec<HostRow> = rows(&life.core).iter().copied().collect(alloc)?;
-    say_holds(&wanted, text)?;
+    say_holds(rows(&life.core), text)?;
     say(&TranscriptLine::EndOfLife, text)?;
     Ok(())
 }
 
 /// Writes the last lines of a life: the addresses that it leaves.
-pub fn close<O: Sink>(
-    alloc: Global,
-    life: &Life,
-    out: &mut O,
-    text: &mut Vec<u8>,
-) -> Result<(), ServeEnd>
+pub fn close<O: Sink>(life: &Life, out: &mut O, text: &mut Vec<u8>) -> Result<(), ServeEnd>
     ensures ok { IfOk result (λ _. (O.faults out.old ≤ O.faults out.new) × WritesLines (O.written out.old) (O.written out.new) (closing_lines (life_of life.now))) }
     ensures front { IfErr result (λ _. WritesFront (O.written out.old) (O.written out.new) [] (closing_lines (life_of life.now))) }
     ensures cause { IfErr result (λ end. HasServeCause end (O.faults out.old) (O.faults out.new) 0 0) }
@@ -56,7 +49,7 @@ pub fn close<O: Sink>(
     ensures stays { O.never_fails out.new ≡ O.never_fails out.old }
 {
     text.clear();
-    say_closing(alloc, life, text)?;
+    say_closing(life, text)?;
     write_all(out, text)?;
     Ok(())
 }

@@ -1,19 +1,23 @@
-ghost use Rattle.std.specs.Prelude.{◌≡◌, List, Some, IfOk, OnOk, filter};
+ghost use Rattle.std.specs.Prelude.{◌≡◌, List, Option, Some, None, IfOk, IfSome, filter};
 ghost use Rattle.std.specs.List.{AllByRecursion};
+ghost use Rattle.world.specs.declared.rows.HostRow.{HostRow};
 ghost use Rattle.world.specs.RowOrder.{in_row_order};
 ghost use Rattle.world.specs.Rows.{IsRow};
 ghost use Rattle.settings.specs.ManagedRows.{is_managed};
-ghost use Rattle.host_model.specs.HostTurn.{changes};
+ghost use Rattle.host_model.specs.HostTable.{InRowOrder};
+ghost use Rattle.host_model.specs.HostTurn.{after_changes};
 ghost use Rattle.device_calls.specs.Calls.{ListRows, Change};
 ghost use Rattle.device_calls.specs.Programs.{Then, Done};
 ghost use Rattle.device_calls.specs.Does.{Does};
-ghost use Rattle.turn_model.specs.Turns.{known_with, changing, rows_on, hosting};
-ghost use Rattle.daemon.specs.Answered.{rows_listed, FitsChange};
-ghost use Rattle.daemon.specs.Lives.{keys_of};
+ghost use Rattle.turn_model.specs.Turns.{changing, hosting};
+ghost use Rattle.daemon.specs.Answered.{rows_in, rows_listed, FitsChange};
+ghost use Rattle.daemon.specs.Tables.{known_in, WasKnown, Updates, Hosts};
 
-use crate::changes::{apply, changes_between};
+use crate::changes::{changes_by, diff_between};
 use crate::outside::Outside;
 use crate::saying::{say_change, say_listing};
+use crate::tables::{Pending, Table};
+use client_core::Diff;
 use host_model::HostChange;
 use settings::Managed;
 use std::alloc::{AllocError, Global};
@@ -40,8 +44,8 @@ fn on_managed(
         .collect(alloc)
 }
 
-/// Rows in row order, each once.
-fn ordered(alloc: Global, rows: &[HostRow]) -> Result<BTreeSet<HostRow>, AllocError>
+/// These rows, each once.
+fn row_set(alloc: Global, rows: &[HostRow]) -> Result<BTreeSet<HostRow>, AllocError>
     ensures { IfOk result (λ set. set.keys ≡ in_row_order rows.now) }
 {
     let mut set = BTreeSet::new(alloc);
@@ -51,22 +55,19 @@ fn ordered(alloc: Global, rows: &[HostRow]) -> Result<BTreeSet<HostRow>, AllocEr
     Ok(set)
 }
 
-fn managed_rows(
-    alloc: Global,
-    managed: &[Managed],
-    rows: &BTreeSet<HostRow>,
-) -> Result<BTreeSet<HostRow>, AllocError>
-    ensures { IfOk result (λ set. set.keys ≡ rows_on managed.now rows.now.keys) }
+/// Rows in row order, each once.
+fn ordered(alloc: Global, rows: &[HostRow]) -> Result<Vec<HostRow>, AllocError>
+    ensures { IfOk result (λ sorted. sorted.items ≡ in_row_order rows.now) }
 {
-    let all: Vec<HostRow> = rows.iter().copied().collect(alloc)?;
-    ordered(alloc, &on_managed(alloc, managed, &all)?)
+    let set = row_set(alloc, rows)?;
+    set.iter().copied().collect(alloc)
 }
 
 fn ordered_listing(
     alloc: Global,
     rows: Option<Vec<HostRow>>,
-) -> Result<Option<BTreeSet<HostRow>>, AllocError>
-    ensures { IfOk result (λ set. keys_of set ≡ rows_listed rows) }
+) -> Result<Option<Vec<HostRow>>, AllocError>
+    ensures { IfOk result (λ sorted. rows_in sorted ≡ rows_listed rows) }
 {
     match rows {
         None => Ok(None),
@@ -74,17 +75,19 @@ fn ordered_listing(
     }
 }
 
+/// The host's rows in row order, where listing them doesn't fail.
 fn list<W: Outside>(
     alloc: Global,
     outside: &mut W,
     text: &mut Vec<u8>,
-) -> Result<Option<BTreeSet<HostRow>>, NoMemory>
-    ensures does { IfOk result (λ rows. Does (Then ListRows Done) (keys_of rows) (W.seen outside.old) (W.seen outside.new) text.old.items text.new.items) }
+) -> Result<Option<Vec<HostRow>>, NoMemory>
+    ensures does { IfOk result (λ rows. Does (Then ListRows Done) (rows_in rows) (W.seen outside.old) (W.seen outside.new) text.old.items text.new.items) }
+    ensures in_order { IfOk result (λ rows. IfSome (rows_in rows) InRowOrder) }
     ensures waiting { (W.seen outside.new).waiting ≡ (W.seen outside.old).waiting }
 {
     let listed = outside.list(alloc)?;
     let rows = ordered_listing(alloc, listed)?;
-    say_listing(alloc, &rows, text)?;
+    say_listing(&rows, text)?;
     Ok(rows)
 }
 
@@ -102,80 +105,79 @@ fn change<W: Outside>(
     Ok(done)
 }
 
-/// The known rows after a change.
-fn known_after(
-    known: Option<BTreeSet<HostRow>>,
-    change: HostChange,
-    done: bool,
-) -> Result<Option<BTreeSet<HostRow>>, NoMemory>
-    ensures { IfOk result (λ after. keys_of after ≡ known_with done change (keys_of known)) }
-{
-    match known {
-        Some(mut rows) if done => {
-            apply(&mut rows, change)?;
-            Ok(Some(rows))
-        }
-        _ => Ok(None),
-    }
-}
-
-/// Makes all the changes. A failed one doesn't stop the others, and makes the rows unknown.
+/// Makes all the changes. A failed one doesn't stop the others, and makes the table unknown.
 fn make_changes<W: Outside>(
     outside: &mut W,
     changes: &[HostChange],
-    known: BTreeSet<HostRow>,
     text: &mut Vec<u8>,
-) -> Result<Option<BTreeSet<HostRow>>, NoMemory>
+) -> Result<Table, NoMemory>
     requires { AllByRecursion FitsChange changes.now }
-    ensures does { IfOk result (λ after. Does (changing changes.now (Some known.keys)) (keys_of after) (W.seen outside.old) (W.seen outside.new) text.old.items text.new.items) }
+    ensures does { IfOk result (λ table. (known : List HostRow) → Does (changing changes.now (Some known)) (known_in table (after_changes changes.now known)) (W.seen outside.old) (W.seen outside.new) text.old.items text.new.items) }
     ensures waiting { (W.seen outside.new).waiting ≡ (W.seen outside.old).waiting }
 {
-    let mut after = Some(known);
+    let mut table = Table::AsWanted;
     for one in changes {
         let done = change(outside, *one, text)?;
-        after = known_after(after, *one, done)?;
+        table = table.after(done);
     }
-    Ok(after)
+    Ok(table)
 }
 
-/// Makes the host's rows the wanted ones, and says which rows are known then.
-fn change_to<W: Outside>(
+/// Makes the changes that lead to the wanted rows.
+fn update<W: Outside>(
     alloc: Global,
     outside: &mut W,
-    known: BTreeSet<HostRow>,
-    wanted: &BTreeSet<HostRow>,
+    diff: &Diff,
     text: &mut Vec<u8>,
-) -> Result<Option<BTreeSet<HostRow>>, NoMemory>
-    requires { AllByRecursion IsRow wanted.now.keys }
-    ensures does { IfOk result (λ after. Does (changing (changes known.keys wanted.now.keys) (Some known.keys)) (keys_of after) (W.seen outside.old) (W.seen outside.new) text.old.items text.new.items) }
+) -> Result<Table, NoMemory>
+    requires { AllByRecursion IsRow diff.now.come.items }
+    ensures does { IfOk result (λ table. Updates diff.now table (W.seen outside.old) (W.seen outside.new) text.old.items text.new.items) }
     ensures waiting { (W.seen outside.new).waiting ≡ (W.seen outside.old).waiting }
 {
-    let all = changes_between(alloc, &known, wanted)?;
-    make_changes(outside, &all, known, text)
+    let changes = changes_by(alloc, diff)?;
+    make_changes(outside, &changes, text)
 }
 
-/// The host calls of a turn: a listing where the rows aren't known, then the changes to the wanted ones.
-/// Answers the rows that are known then.
+/// Looks at an unknown table, and makes its rows on managed interfaces the wanted ones.
+fn look_again<W: Outside>(
+    alloc: Global,
+    outside: &mut W,
+    managed: &[Managed],
+    wanted: &[HostRow],
+    text: &mut Vec<u8>,
+) -> Result<Table, NoMemory>
+    requires rows { AllByRecursion IsRow wanted.now }
+    requires in_order { InRowOrder wanted.now }
+    ensures does { IfOk result (λ table. Does (hosting managed.now wanted.now None) (known_in table wanted.now) (W.seen outside.old) (W.seen outside.new) text.old.items text.new.items) }
+    ensures waiting { (W.seen outside.new).waiting ≡ (W.seen outside.old).waiting }
+{
+    match list(alloc, outside, text)? {
+        None => Ok(Table::Unknown),
+        Some(rows) => {
+            let mine = on_managed(alloc, managed, &rows)?;
+            let diff = diff_between(alloc, &mine, wanted)?;
+            update(alloc, outside, &diff, text)
+        }
+    }
+}
+
+/// The host calls of a turn: a listing where the table isn't known, then the changes to the wanted rows.
 pub fn host_turn<W: Outside>(
     alloc: Global,
     outside: &mut W,
     managed: &[Managed],
-    known: Option<BTreeSet<HostRow>>,
-    wanted: &BTreeSet<HostRow>,
+    pending: Pending,
+    wanted: &[HostRow],
     text: &mut Vec<u8>,
-) -> Result<Option<BTreeSet<HostRow>>, NoMemory>
-    requires { AllByRecursion IsRow wanted.now.keys }
-    ensures does { IfOk result (λ after. Does (hosting managed.now wanted.now.keys (keys_of known)) (keys_of after) (W.seen outside.old) (W.seen outside.new) text.old.items text.new.items) }
+) -> Result<Table, NoMemory>
+    requires rows { AllByRecursion IsRow wanted.now }
+    requires in_order { InRowOrder wanted.now }
+    requires known { (known : Option (List HostRow)) × WasKnown pending wanted.now known }
+    ensures does { IfOk result (λ table. Hosts managed.now pending wanted.now table (W.seen outside.old) (W.seen outside.new) text.old.items text.new.items) }
     ensures waiting { (W.seen outside.new).waiting ≡ (W.seen outside.old).waiting }
 {
-    match known {
-        Some(known) => change_to(alloc, outside, known, wanted, text),
-        None => match list(alloc, outside, text)? {
-            None => Ok(None),
-            Some(rows) => {
-                let mine = managed_rows(alloc, managed, &rows)?;
-                change_to(alloc, outside, mine, wanted, text)
-            }
-        },
+    match pending {
+        Pending::Changes(diff) => update(alloc, outside, &diff, text),
+        Pending::Unknown => look_again(alloc, outside, managed, wanted, text),
     }
 }

@@ -1,6 +1,6 @@
 //! The files that a life keeps: what is known of each, and how it is brought to what it is to hold.
 ghost use Rattle.std.specs.Prelude.{◌≡◌, ◌||◌, false, length, IfOk, OnOk, Some, None, option_map};
-ghost use Rattle.std.specs.List.{AllByRecursion, list_any};
+ghost use Rattle.std.specs.List.{AllByRecursion};
 ghost use Rattle.std.specs.String.{string_bytes};
 ghost use Rattle.world.specs.FileNames.{IsFileName};
 ghost use Rattle.lease_text.specs.Leases.{lease_content};
@@ -12,7 +12,7 @@ ghost use Rattle.client_core.specs.Touched.{is_touched};
 ghost use Rattle.device_calls.specs.Does.{Does};
 ghost use Rattle.turn_model.specs.KeptFiles.{wanted_in, same_content, is_left, is_settled, bringing, known_after, keeping, is_unknown};
 ghost use Rattle.daemon.specs.Files.{content_of, known_of, keeps_of};
-ghost use Rattle.daemon.specs.Keeping.{has_resolver, is_all, is_among, may_differ, IsKept, AreKept, AreKeptBut, KeepsFile};
+ghost use Rattle.daemon.specs.Keeping.{has_resolver, is_all, is_among, is_nothing, may_differ, IsKept, AreKept, AreKeptBut, KeepsFile};
 
 use crate::outside::Outside;
 use crate::stores::{remove, rename, settle, sync, write};
@@ -59,6 +59,16 @@ impl Touched<'_> {
         match self {
             Touched::All => true,
             Touched::These(_) => false,
+        }
+    }
+
+    /// Whether nothing was touched.
+    pub fn is_nothing(self) -> bool
+        ensures { result ≡ is_nothing self.entry }
+    {
+        match self {
+            Touched::All => false,
+            Touched::These(these) => these.ifaces.is_empty() && !these.resolver.is_other(),
         }
     }
 
@@ -379,11 +389,4 @@ pub fn keep_all<W: Outside>(
     let mut files = files;
     keep_each(alloc, core, touched, &mut files, outside, text)?;
     Ok(files)
-}
-
-/// Whether a file is unknown.
-pub fn any_unknown(files: &[KeptFile]) -> bool
-    ensures { result ≡ list_any (λ file. is_unknown file.known) files.now }
-{
-    files.iter().any(|file| file.is_unknown())
 }

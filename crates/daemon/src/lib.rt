@@ -10,6 +10,7 @@ mod files;
 mod hooks;
 mod hosts;
 mod keeping;
+mod kept;
 mod leases4;
 mod leases6;
 mod lives;
@@ -20,6 +21,7 @@ mod saying;
 mod sends;
 mod serving;
 mod stores;
+mod tables;
 mod turns;
 mod waking;
 

@@ -5,11 +5,11 @@ ghost use Rattle.turn_model.specs.Turns.{stop_after, retry_at, end_at, is_past, 
 ghost use Rattle.daemon.specs.Lives.{life_of, IsBelowEnd, IsTimely, retry_unless};
 
 use crate::hooks::hooks_due;
-use crate::keeping::{KeptFile, any_unknown};
+use crate::kept::KeptFiles;
+use crate::tables::Table;
 use client_core::{Core, core_due, earlier_of};
 use hook_child::Supervisor;
-use std::collections::BTreeSet;
-use world::{Event, HostRow};
+use world::Event;
 
 /// Moments are below this, in milliseconds since 1970.
 const END_OF_TIME: u64 = 1_000_000_000_000_000;
@@ -24,10 +24,10 @@ const GRACE: u64 = 5000;
 #[derive(Drop)]
 pub struct Life {
     pub core: Core,
-    /// The host's rows on managed interfaces, where they are known.
-    pub known: Option<BTreeSet<HostRow>>,
+    /// What is known of the host's table.
+    pub table: Table,
     /// The files that it keeps.
-    pub files: Vec<KeptFile>,
+    pub files: KeptFiles,
     /// The jobs of hooks that wait, and the child that runs.
     pub hooks: Supervisor,
     /// The moment of the last turn, in milliseconds since 1970.
@@ -95,10 +95,10 @@ impl Life {
         requires { IsTimely self.now }
         ensures { result ≡ until (life_of self.now) }
     {
-        let files = retry(!any_unknown(&self.files), self.moment);
+        let files = retry(!self.files.any_unknown(), self.moment);
         let files_or_end = earlier_of(files, last_moment(self.stop));
         let hooks_or_later = earlier_of(hooks_due(&self.hooks, self.moment), files_or_end);
-        let table = retry(self.known.is_some(), self.moment);
+        let table = retry(self.table.is_known(), self.moment);
         earlier_of(core_due(&self.core), earlier_of(table, hooks_or_later))
     }
 

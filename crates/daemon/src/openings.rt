@@ -14,10 +14,12 @@ ghost use Rattle.daemon.specs.Waits.{KnowsChild, OnlyChild};
 use crate::acts::{Outlook, Step, act};
 use crate::files::load_all;
 use crate::keeping::Touched;
+use crate::kept::KeptFiles;
 use crate::lives::{Life, cut};
 use crate::outside::Outside;
 use crate::saying::say;
 use crate::stores::{list, remove, settle};
+use crate::tables::Pending;
 use client_core::core_open;
 use hook_child::supervisor_new;
 use net_types::IfSpec;
@@ -85,8 +87,8 @@ pub fn open<W: Outside>(
         jobs: opened.jobs,
     };
     let outlook = Outlook {
-        known: None,
-        files: found.files,
+        pending: Pending::Unknown,
+        files: KeptFiles::new(found.files),
         hooks: supervisor_new(alloc)?,
         moment: cut(begin.at),
         stop: None,

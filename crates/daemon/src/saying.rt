@@ -5,11 +5,9 @@ ghost use Rattle.transcript_text.specs.Printed.{line_of};
 ghost use Rattle.host_model.specs.HostTurn.{change_call};
 ghost use Rattle.device_calls.specs.CallLines.{host_lines};
 ghost use Rattle.device_calls.specs.Printing.{Prints};
-ghost use Rattle.daemon.specs.Lives.{keys_of};
+ghost use Rattle.daemon.specs.Answered.{rows_in};
 
 use host_model::HostChange;
-use std::alloc::Global;
-use std::collections::BTreeSet;
 use transcript_text::{TranscriptLine, print_line};
 use world::{HostRow, NoMemory};
 
@@ -32,27 +30,22 @@ fn say_rows(rows: &[HostRow], text: &mut Vec<u8>) -> Result<(), NoMemory>
 }
 
 #[tactic(auto, using(device_calls::proofs::Printings::prints_then))]
-fn say_listed(alloc: Global, rows: &BTreeSet<HostRow>, text: &mut Vec<u8>) -> Result<(), NoMemory>
-    ensures { OnOk result (Prints text.old.items text.new.items (host_lines (calls.Listed (Some rows.now.keys)))) }
+fn say_listed(rows: &[HostRow], text: &mut Vec<u8>) -> Result<(), NoMemory>
+    ensures { OnOk result (Prints text.old.items text.new.items (host_lines (calls.Listed (Some rows.now)))) }
 {
-    let all: Vec<HostRow> = rows.iter().copied().collect(alloc)?;
-    let count = all.len() as u64;
+    let count = rows.len() as u64;
     say(&TranscriptLine::HostListed { count }, text)?;
-    say_rows(&all, text)?;
+    say_rows(rows, text)?;
     Ok(())
 }
 
 /// Appends the lines of a listing.
-pub fn say_listing(
-    alloc: Global,
-    rows: &Option<BTreeSet<HostRow>>,
-    text: &mut Vec<u8>,
-) -> Result<(), NoMemory>
-    ensures { OnOk result (Prints text.old.items text.new.items (host_lines (calls.Listed (keys_of rows.now)))) }
+pub fn say_listing(rows: &Option<Vec<HostRow>>, text: &mut Vec<u8>) -> Result<(), NoMemory>
+    ensures { OnOk result (Prints text.old.items text.new.items (host_lines (calls.Listed (rows_in rows.now)))) }
 {
     match rows {
         None => say(&TranscriptLine::HostListFailed, text),
-        Some(rows) => say_listed(alloc, rows, text),
+        Some(rows) => say_listed(rows, text),
     }
 }
 

@@ -120,7 +120,7 @@ fn live_on<O: Sink, W: Outside>(
     let life = open(alloc, managed, specs, start, outside, &mut text)?;
     write_all(out, &text)?;
     let last = take_turns(alloc, managed, life, outside, out, turns, &mut text)?;
-    close(alloc, &last, out, &mut text)?;
+    close(&last, out, &mut text)?;
     Ok(())
 }
 

@@ -73,7 +73,7 @@ pub fn turn<W: Outside>(
 {
     let Life {
         core,
-        known,
+        table,
         files,
         mut hooks,
         moment,
@@ -96,7 +96,7 @@ pub fn turn<W: Outside>(
         jobs: stepped.jobs,
     };
     let outlook = Outlook {
-        known,
+        pending: table.since(stepped.rows),
         files,
         hooks,
         moment,

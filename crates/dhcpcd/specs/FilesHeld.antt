@@ -1,4 +1,4 @@
--- What the store holds in a life: each lease that is kept, in the file of its interface.
+-- What the store holds in a life: the DUID, each lease that is kept, in the file of its interface, and what the resolver is told.
 use Rattle.std.specs.Prelude.{List, [], ◌∷◌}
 use Rattle.net_types.specs.declared.interface.IfSpec.{IfSpec}
 use Rattle.world.specs.LinkCalls.{Given}
@@ -12,7 +12,7 @@ use Rattle.dhcpcd.specs.HostHeld.{lived_on}
 use Rattle.dhcpcd.specs.Replays.{Failing, Between, world_in, after_life}
 
 -- A life over devices that tell what they hold. After the opening and after each turn, whatever fails, what is known of a file is
--- so; and where no call that was to change files failed in it, each file is the text of the lease that its interface keeps.
+-- so; and where no call that was to change files failed in it, each file is the text of what is kept in it.
 pub record KeepsRightly (managed : List Managed) (specs : List IfSpec) (world : World) : Type 0 where
   pub opening_keeps : KeepsFiles managed (ran_opening managed specs world).calls (running_opened managed specs world)
   pub turns_keep : (earlier : List Given) (given : Given)

@@ -43,7 +43,7 @@ row_is a b e = row_cmp_exact a b ((Equal-is (row_cmp a b)).0 e)
 pub row_itself : (row : HostRow) → is_eq (row_cmp row row) ≡ true
 row_itself row = ap is_eq (tied_itself row_cmp_total row)
 
-same_reversed : (r : Ordering) → is_eq (ordering_reverse r) ≡ is_eq r
+pub same_reversed : (r : Ordering) → is_eq (ordering_reverse r) ≡ is_eq r
 same_reversed Less = refl
 same_reversed Equal = refl
 same_reversed Greater = refl

@@ -1,15 +1,14 @@
 -- The sets of the rows of all places, as one place brings other rows.
-use Rattle.std.proofs.Common.{ℕ, zero, suc, ◌≡◌, ◌<◌, Bool, true, false, not, ◌||◌, ◌&&◌, List, [], ◌∷◌, ◌++◌, nat_eq, length, get_or, set, refl, sym, ap, ap₂, subst, ◌∙◌, arith}
+use Rattle.std.proofs.Common.{ℕ, zero, suc, ◌≡◌, ◌<◌, Bool, true, false, not, ◌||◌, ◌&&◌, List, [], ◌∷◌, ◌++◌, nat_eq, length, get_or, set, refl, sym, ap, ap₂, ◌∙◌, arith}
 use Rattle.std.proofs.lemmas.Bool.{false≢true, and_parts, eqb-true}
 use Rattle.std.proofs.lemmas.Bool.Decides.{nat_tests}
 use Rattle.std.proofs.lemmas.List.Folds.{list_any-append}
 use Rattle.std.specs.List.{list_any}
 use Rattle.std.specs.BTreeMap.{is_at}
-use Rattle.std.specs.BTreeSet.{BTreeSet}
+use Rattle.std.specs.Global.{Vec}
 use Rattle.net_types.proofs.CaseLaws.{split}
 use Rattle.world.specs.declared.rows.HostRow.{HostRow}
 use Rattle.world.specs.RowOrder.{row_cmp, has_row, rows_beyond}
-use Rattle.host_model.specs.HostTable.{InRowOrder}
 use Rattle.host_tables.specs.declared.bringing.Bringing.{Bringing}
 use Rattle.host_tables.specs.declared.union.Diff.{Diff}
 use Rattle.host_tables.specs.declared.union.Union.{Union}
@@ -146,25 +145,25 @@ updated_is false true = refl
 updated_is false false = refl
 
 -- the steps of an exchange
-pub record Steps (place : ℕ) (before after : List HostRow) (old out new : Union) (stood stand lacks wanted : BTreeSet HostRow) (diff : Diff) : Type 0 where
-  pub heads_before : AreHeads before after (rows_in old.brought.keys) stood.keys
+pub record ExchangeSteps (place : ℕ) (before after : List HostRow) (old out new : Union) (stood stand lacks wanted : Vec HostRow) (diff : Diff) : Type 0 where
+  pub heads_before : AreHeads before after (rows_in old.brought.items) stood.items
   pub takes_out : TakesOut place before old out
   pub brings : Brings place after out new
-  pub heads_after : AreHeads before after (rows_in new.brought.keys) stand.keys
-  pub gone : diff.gone.items ≡ rows_beyond stand.keys stood.keys
-  pub come : diff.come.items ≡ rows_beyond stood.keys stand.keys
-  pub removes : RemovesRows diff.gone.items new.wanted.keys lacks.keys
-  pub adds : AddsRows diff.come.items lacks.keys wanted.keys
+  pub heads_after : AreHeads before after (rows_in new.brought.items) stand.items
+  pub gone : diff.gone.items ≡ rows_beyond stand.items stood.items
+  pub come : diff.come.items ≡ rows_beyond stood.items stand.items
+  pub removes : RemovesRows diff.gone.items new.wanted.items lacks.items
+  pub adds : AddsRows diff.come.items lacks.items wanted.items
 
-module _ (place : ℕ) (before after : List HostRow) (old out new : Union) (stood stand lacks wanted : BTreeSet HostRow) (diff : Diff)
-    (steps : Steps place before after old out new stood stand lacks wanted diff)
+module _ (place : ℕ) (before after : List HostRow) (old out new : Union) (stood stand lacks wanted : Vec HostRow) (diff : Diff)
+    (steps : ExchangeSteps place before after old out new stood stand lacks wanted diff)
     (places : List (List HostRow)) (lt : place < length places) (is : before ≡ get_or places place []) (unites : Unites places old) where
   abbrev later : List (List HostRow)
   later = set places place after
 
-  wholly : (q : HostRow) (at : ℕ) → has_bringing new.brought.keys q at ≡ has_row (get_or later at []) q
+  wholly : (q : HostRow) (at : ℕ) → has_bringing new.brought.items q at ≡ has_row (get_or later at []) q
   wholly =
-      exchanged_bringings places place before after (has_bringing old.brought.keys) (has_bringing out.brought.keys) (has_bringing new.brought.keys) lt is unites.brought
+      exchanged_bringings places place before after (has_bringing old.brought.items) (has_bringing out.brought.items) (has_bringing new.brought.items) lt is unites.brought
       steps.takes_out.brought steps.brings.brought
 
   module _ (q : HostRow) where
@@ -180,33 +179,33 @@ module _ (place : ℕ) (before after : List HostRow) (old out new : Union) (stoo
     abbrev close : Bool
     close = list_any (contends q) after
 
-    stood_is : has_row stood.keys q ≡ ((near && was) || (close && was))
+    stood_is : has_row stood.items q ≡ ((near && was) || (close && was))
     stood_is =
         steps.heads_before.has q ∙ ap (λ (s : Bool). (near && s) || (close && s))
-        (same_stands (rows_in old.brought.keys) (all_rows places) (same_rows_brought places old.brought.keys unites.brought) q)
+        (same_stands (rows_in old.brought.items) (all_rows places) (same_rows_brought places old.brought.items unites.brought) q)
 
-    stand_is : has_row stand.keys q ≡ ((near && will) || (close && will))
+    stand_is : has_row stand.items q ≡ ((near && will) || (close && will))
     stand_is =
         steps.heads_after.has q ∙ ap (λ (s : Bool). (near && s) || (close && s))
-        (same_stands (rows_in new.brought.keys) (all_rows later) (same_rows_brought later new.brought.keys wholly) q)
+        (same_stands (rows_in new.brought.items) (all_rows later) (same_rows_brought later new.brought.items wholly) q)
 
-    gone_is : has_row (rows_beyond stand.keys stood.keys) q ≡ (not will && was)
+    gone_is : has_row (rows_beyond stand.items stood.items) q ≡ (not will && was)
     gone_is =
-        has_filter (λ row. not (has_row stand.keys row)) stood.keys q ∙ ap₂ (λ (a b : Bool). not a && b) stand_is stood_is
+        has_filter (λ row. not (has_row stand.items row)) stood.items q ∙ ap₂ (λ (a b : Bool). not a && b) stand_is stood_is
         ∙ beyond_is was will near close (stays_standing places place before after q lt is)
 
-    come_is : has_row (rows_beyond stood.keys stand.keys) q ≡ (not was && will)
+    come_is : has_row (rows_beyond stood.items stand.items) q ≡ (not was && will)
     come_is =
-        has_filter (λ row. not (has_row stood.keys row)) stand.keys q ∙ ap₂ (λ (a b : Bool). not a && b) stood_is stand_is
+        has_filter (λ row. not (has_row stood.items row)) stand.items q ∙ ap₂ (λ (a b : Bool). not a && b) stood_is stand_is
         ∙ beyond_is will was near close (λ none out. sym (stays_standing places place before after q lt is none out))
 
-    wanted_is : has_row wanted.keys q ≡ will
+    wanted_is : has_row wanted.items q ≡ will
     wanted_is =
         steps.adds.has q
         ∙ ap₂ (λ (a b : Bool). a || b)
         (steps.removes.has q
         ∙ ap₂ (λ (a b : Bool). a && not b)
-        (ap (λ (w : BTreeSet HostRow). has_row w.keys q) (steps.brings.wanted ∙ steps.takes_out.wanted) ∙ unites.wanted q)
+        (ap (λ (w : Vec HostRow). has_row w.items q) (steps.brings.wanted ∙ steps.takes_out.wanted) ∙ unites.wanted q)
         (ap (λ (rows : List HostRow). has_row rows q) steps.gone ∙ gone_is))
         (ap (λ (rows : List HostRow). has_row rows q) steps.come ∙ come_is)
         ∙ updated_is was will
@@ -219,18 +218,18 @@ module _ (place : ℕ) (before after : List HostRow) (old out new : Union) (stoo
   exchanged = record {
     unites = record {
       brought = wholly;
+      each_once = steps.brings.each_once;
       wanted = wanted_is;
-      in_order = steps.adds.in_order (steps.removes.in_order
-          (subst (λ (w : BTreeSet HostRow). InRowOrder w.keys) (sym (steps.brings.wanted ∙ steps.takes_out.wanted)) unites.in_order));
+      in_order = steps.adds.in_order;
     };
     differ = record {
       gone = steps.gone
-          ∙ same_rows (rows_beyond stand.keys stood.keys) (rows_beyond (wanted_of later) (wanted_of places))
-          (filter_in_order (λ row. not (has_row stand.keys row)) stood.keys steps.heads_before.in_order)
+          ∙ same_rows (rows_beyond stand.items stood.items) (rows_beyond (wanted_of later) (wanted_of places))
+          (filter_in_order (λ row. not (has_row stand.items row)) stood.items steps.heads_before.in_order)
           (filter_in_order (λ row. not (has_row (wanted_of later) row)) (wanted_of places) (wanted_sorted places)) (λ q. gone_is q ∙ sym (beyond_has q places later));
       come = steps.come
-          ∙ same_rows (rows_beyond stood.keys stand.keys) (rows_beyond (wanted_of places) (wanted_of later))
-          (filter_in_order (λ row. not (has_row stood.keys row)) stand.keys steps.heads_after.in_order)
+          ∙ same_rows (rows_beyond stood.items stand.items) (rows_beyond (wanted_of places) (wanted_of later))
+          (filter_in_order (λ row. not (has_row stood.items row)) stand.items steps.heads_after.in_order)
           (filter_in_order (λ row. not (has_row (wanted_of places) row)) (wanted_of later) (wanted_sorted later)) (λ q. come_is q ∙ sym (beyond_has q later places));
     };
   }
@@ -250,6 +249,7 @@ empty_more (rows ∷ places) = ap (λ (more : List HostRow). rows ++ more) (empt
 pub with_empty : (places : List (List HostRow)) (union : Union) → Unites places union → Unites (places ++ [] ∷ []) union
 with_empty places union unites = record {
   brought = λ row at. unites.brought row at ∙ ap (λ (rows : List HostRow). has_row rows row) (sym (empty_end places at));
+  each_once = unites.each_once;
   wanted = λ row. unites.wanted row ∙ ap (λ (rows : List HostRow). stands rows row) (sym (empty_more places));
   in_order = unites.in_order;
 }

@@ -9,9 +9,6 @@ use Rattle.std.specs.Ordering.{nat_cmp, ordering_then, ordering_reverse, is_eq, 
 use Rattle.std.specs.Cmp.{Equal-is, tied_itself, tied_then, nat_cmp_total}
 use Rattle.std.specs.BTreeMap.{is_at}
 use Rattle.std.specs.BTreeMap.Range.{IsLeBy}
-use Rattle.std.specs.BTreeSet.{BTreeSet, IsKeyInRange, IsKeyRangeOf}
-use Rattle.std.specs.Prelude.{IfSome, slice_get}
-use Rattle.std.specs.declared.ops.Bound.TheVariants.{Included, Unbounded}
 use Rattle.net_types.proofs.CaseLaws.{split}
 use Rattle.world.specs.declared.rows.HostRow.{HostRow}
 use Rattle.world.specs.declared.rows.HostRow.TheVariants.{Addr, Route}
@@ -20,7 +17,7 @@ use Rattle.world.specs.RowOrder.{row_iface, row_cmp, row_cmp_total, has_row}
 use Rattle.host_tables.specs.declared.bringing.Bringing.{Bringing}
 use Rattle.host_model.specs.Precedence.{goes_before, outranks, is_kept}
 use Rattle.host_tables.specs.Bringings.{target_of, contends, stands, bringing_cmp, bringing_cmp_total, has_bringing, rows_in}
-use Rattle.host_tables.proofs.Contending.{or_is, or_more, off_where, off_last, on_both, row_is, row_itself, passed_among, passed_by_none, before_cmp, before_cmp_total, goes_before_is, one_target, contending, outranks_is, eq_numbers}
+use Rattle.host_tables.proofs.Contending.{same_reversed, or_is, or_more, off_where, off_last, on_both, row_is, row_itself, passed_among, passed_by_none, before_cmp, before_cmp_total, goes_before_is, one_target, contending, outranks_is, eq_numbers}
 
 -- ---- answers one after another
 
@@ -149,7 +146,7 @@ bringer (b ∷ bs) row has =
     record { place = more.place; has = or_more (is_eq (bringing_cmp (bringing row more.place) b)) _ more.has })
 
 -- a bringing of this row at this place, told apart by both
-pub bringing_is : (x row : HostRow) (place at : ℕ) → is_eq (bringing_cmp (bringing x place) (bringing row at)) ≡ (nat_eq at place && is_eq (row_cmp row x))
+bringing_is : (x row : HostRow) (place at : ℕ) → is_eq (bringing_cmp (bringing x place) (bringing row at)) ≡ (nat_eq at place && is_eq (row_cmp row x))
 bringing_is x row place at =
     split (is_eq (row_cmp row x))
     (λ same. ap (λ (r : HostRow). is_eq (bringing_cmp (bringing r place) (bringing row at))) (sym (row_is row x same)) ∙ own row ∙ sym (ap (λ (b : Bool). nat_eq at place && b) same ∙ and_on (nat_eq at place)))
@@ -173,6 +170,10 @@ bringing_is x row place at =
     own r =
         all_tied _ _ _ (nat_cmp place at) (tied_itself row_cmp_total (target_of r)) (tied_itself nat_cmp_total (row_iface r)) (tied_itself row_cmp_total r)
         ∙ eq_numbers place at ∙ number_turned place at
+
+-- the other way about
+pub bringing_at : (row x : HostRow) (at place : ℕ) → is_eq (bringing_cmp (bringing row at) (bringing x place)) ≡ (nat_eq at place && is_eq (row_cmp row x))
+bringing_at row x at place = ap is_eq (bringing_cmp_total.antisymm (bringing row at) (bringing x place)) ∙ same_reversed (bringing_cmp (bringing x place) (bringing row at)) ∙ bringing_is x row place at
 
 -- ---- what the search finds
 
@@ -236,22 +237,3 @@ module _ (bs : List Bringing) (row : HostRow) where
             let above : outranks k.row o ≡ true = outranks_is k.row o ∙ on_both _ _ one (goes_before_is k.row o ∙ below) in
             ap (λ (b : Bool). not b && has_row rows o) (passed_among (λ other. outranks other o) rows k.row (row_brought bs k.row k.place has) above))
             (λ no. off_last (is_kept rows o) (has_row rows o) no)
-
--- ---- what the range gives
-
--- the first of the bringings from a row of no place on
-pub record FirstFrom (bs : List Bringing) (row : HostRow) (k : Bringing) : Type 0 where
-  pub low : IsLeBy bringing_cmp (record { row = row; place = 0 }) k
-  pub has : list_any (is_at (bringing_cmp k)) bs ≡ true
-  pub least : (b : Bringing) → IsLeBy bringing_cmp (record { row = row; place = 0 }) b → list_any (is_at (bringing_cmp b)) bs ≡ true → IsLeBy bringing_cmp k b
-
-pub first_from : (brought : BTreeSet Bringing) (row : HostRow) (k : Bringing) (range rest : List Bringing)
-    → IsKeyRangeOf bringing_cmp (Included (record { row = row; place = 0 })) Unbounded brought range → range ≡ k ∷ rest → FirstFrom brought.keys row k
-first_from brought row k range rest is begins =
-    let is_first : IsKeyInRange bringing_cmp (Included (record { row = row; place = 0 })) Unbounded brought k =
-    subst (λ (r : List Bringing). IfSome (slice_get r 0) (IsKeyInRange bringing_cmp (Included (record { row = row; place = 0 })) Unbounded brought)) begins is.1 in
-    record {
-      low = is_first.0.0;
-      has = is_first.1;
-      least = λ b after has. subst (λ (r : List Bringing). IfSome (slice_get r 0) (λ first. IsLeBy bringing_cmp first b)) begins (is.2 b (after, tt) has);
-    }

@@ -1,5 +1,8 @@
 pub mod Contending
+pub mod Counting
+pub mod Differing
 pub mod Exchanges
+pub mod Fewness
 pub mod Heads
 pub mod RowByRow
 pub mod RowsAlike

@@ -8,6 +8,7 @@ use Rattle.std.specs.BTreeMap.{is_at}
 use Rattle.world.specs.declared.rows.HostRow.{HostRow}
 use Rattle.world.specs.RowOrder.{row_cmp, has_row}
 use Rattle.host_tables.specs.Bringings.{contends, stands, stands_at, stands_for}
+use Rattle.host_tables.proofs.Contending.{equal_turned}
 
 or_none : (a : Bool) → (a || false) ≡ a
 or_none true = refl
@@ -44,44 +45,46 @@ heads_more targets rows i d q was now new lt so_far step =
     ∙ more_again was (stands_for (take i targets) rows q) (stands_at (get_or targets i d) rows q)
     ∙ ap (λ (b : Bool). was || b) (sym (stands_more targets rows i d q lt))
 
-less_here : (b h a r : Bool) → cond (a && r) false (b && not (a && h)) ≡ (b && not (a && (h || r)))
-less_here b h false r = refl
+less_here : (b h a r : Bool) → (not (a && r) && (b && not (a && h))) ≡ (b && not (a && (h || r)))
 less_here true true true true = refl
 less_here true true true false = refl
 less_here true false true true = refl
 less_here true false true false = refl
+less_here true h false r = refl
 less_here false h true true = refl
 less_here false h true false = refl
+less_here false h false r = refl
 
-more_here : (b h a r : Bool) → cond (a && r) true (b || (a && h)) ≡ (b || (a && (h || r)))
-more_here b h false r = refl
+more_here : (b h a r : Bool) → ((a && r) || (b || (a && h))) ≡ (b || (a && (h || r)))
 more_here true h true true = refl
 more_here true h true false = refl
+more_here true h false r = refl
 more_here false true true true = refl
 more_here false true true false = refl
 more_here false false true true = refl
 more_here false false true false = refl
+more_here false h false r = refl
 
 -- one bringing after those before
 pub taken_more : (rows : List HostRow) (i : ℕ) (d q : HostRow) (here e was now new : Bool) → i < length rows
-    → now ≡ (was && not (here && has_row (take i rows) q)) → new ≡ cond e false now → e ≡ (here && is_eq (row_cmp q (get_or rows i d)))
+    → now ≡ (was && not (here && has_row (take i rows) q)) → new ≡ (not e && now) → e ≡ (here && is_eq (row_cmp q (get_or rows i d)))
     → new ≡ (was && not (here && has_row (take (i + 1) rows) q))
 taken_more rows i d q here e was now new lt so_far step it =
-    step ∙ ap (λ (b : Bool). cond b false now) it ∙ ap (λ (b : Bool). cond (here && is_eq (row_cmp q (get_or rows i d))) false b) so_far
+    step ∙ ap (λ (b : Bool). not b && now) it ∙ ap (λ (b : Bool). not (here && is_eq (row_cmp q (get_or rows i d))) && b) so_far
     ∙ less_here was (has_row (take i rows) q) here (is_eq (row_cmp q (get_or rows i d)))
     ∙ ap (λ (b : Bool). was && not (here && b)) (sym (any_more (is_at (row_cmp q)) rows i d lt))
 
 pub brought_more : (rows : List HostRow) (i : ℕ) (d q : HostRow) (here e was now new : Bool) → i < length rows
-    → now ≡ (was || (here && has_row (take i rows) q)) → new ≡ cond e true now → e ≡ (here && is_eq (row_cmp q (get_or rows i d)))
+    → now ≡ (was || (here && has_row (take i rows) q)) → new ≡ (e || now) → e ≡ (here && is_eq (row_cmp q (get_or rows i d)))
     → new ≡ (was || (here && has_row (take (i + 1) rows) q))
 brought_more rows i d q here e was now new lt so_far step it =
-    step ∙ ap (λ (b : Bool). cond b true now) it ∙ ap (λ (b : Bool). cond (here && is_eq (row_cmp q (get_or rows i d))) true b) so_far
+    step ∙ ap (λ (b : Bool). b || now) it ∙ ap (λ (b : Bool). (here && is_eq (row_cmp q (get_or rows i d))) || b) so_far
     ∙ more_here was (has_row (take i rows) q) here (is_eq (row_cmp q (get_or rows i d)))
     ∙ ap (λ (b : Bool). was || (here && b)) (sym (any_more (is_at (row_cmp q)) rows i d lt))
 
 -- ---- one head
 
-pub more_one : (w c e : Bool) → c ≡ e → cond e true w ≡ (w || c)
+pub more_one : (w c e : Bool) → c ≡ e → (e || w) ≡ (w || c)
 more_one true c true same = refl
 more_one true c false same = refl
 more_one false c true same = sym same
@@ -90,3 +93,22 @@ more_one false c false same = sym same
 pub more_none : (w c : Bool) → c ≡ false → w ≡ (w || c)
 more_none true c none = refl
 more_none false c none = sym none
+
+-- ---- rows themselves, after those before
+
+or_here : (e w : Bool) → cond e true w ≡ (e || w)
+or_here true w = refl
+or_here false w = refl
+
+pub removed_more : (rows : List HostRow) (i : ℕ) (d q : HostRow) (was now new : Bool) → i < length rows
+    → now ≡ (was && not (has_row (take i rows) q)) → new ≡ (not (is_eq (row_cmp q (get_or rows i d))) && now) → new ≡ (was && not (has_row (take (i + 1) rows) q))
+removed_more rows i d q was now new lt so_far step = taken_more rows i d q true (is_eq (row_cmp q (get_or rows i d))) was now new lt so_far step refl
+
+pub added_more : (rows : List HostRow) (i : ℕ) (d q : HostRow) (was now new : Bool) → i < length rows
+    → now ≡ (was || has_row (take i rows) q) → new ≡ (is_eq (row_cmp q (get_or rows i d)) || now) → new ≡ (was || has_row (take (i + 1) rows) q)
+added_more rows i d q was now new lt so_far step = brought_more rows i d q true (is_eq (row_cmp q (get_or rows i d))) was now new lt so_far step refl
+
+pub inserted_more : (rows : List HostRow) (i : ℕ) (d q : HostRow) (was now new : Bool) → i < length rows
+    → now ≡ (was || has_row (take i rows) q) → new ≡ cond (is_eq (row_cmp (get_or rows i d) q)) true now → new ≡ (was || has_row (take (i + 1) rows) q)
+inserted_more rows i d q was now new lt so_far step =
+    added_more rows i d q was now new lt so_far (step ∙ or_here (is_eq (row_cmp (get_or rows i d) q)) now ∙ ap (λ (b : Bool). b || now) (equal_turned (get_or rows i d) q))

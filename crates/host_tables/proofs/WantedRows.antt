@@ -22,15 +22,15 @@ wanted_has places q =
 pub wanted_sorted : (places : List (List HostRow)) → InRowOrder (wanted_of places)
 wanted_sorted places = in_order_sorted (filter (is_kept (all_rows places)) (all_rows places))
 
-pub united_wanted : (places : List (List HostRow)) (union : Union) → Unites places union → union.wanted.keys ≡ wanted_of places
+pub united_wanted : (places : List (List HostRow)) (union : Union) → Unites places union → union.wanted.items ≡ wanted_of places
 united_wanted places union unites =
-    same_rows union.wanted.keys (wanted_of places) unites.in_order (wanted_sorted places) (λ q. unites.wanted q ∙ sym (wanted_has places q))
+    same_rows union.wanted.items (wanted_of places) unites.in_order (wanted_sorted places) (λ q. unites.wanted q ∙ sym (wanted_has places q))
 
 all_fit : (places : List (List HostRow)) → AllFit places → AllByRecursion IsRow (all_rows places)
 all_fit [] fit = tt
 all_fit (rows ∷ places) fit = all_join IsRow rows (all_rows places) fit.0 (all_fit places fit.1)
 
-pub united_fit : (places : List (List HostRow)) (union : Union) → Unites places union → AllFit places → AllByRecursion IsRow union.wanted.keys
+pub united_fit : (places : List (List HostRow)) (union : Union) → Unites places union → AllFit places → AllByRecursion IsRow union.wanted.items
 united_fit places union unites fit =
     subst (AllByRecursion IsRow) (sym (united_wanted places union unites)) (order_fit (is_kept (all_rows places)) (all_rows places) (all_fit places fit))
 

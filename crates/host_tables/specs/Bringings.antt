@@ -1,6 +1,7 @@
 -- Rows with the places that bring them, in an order in which rows with one target stand together.
 use Rattle.std.specs.Prelude.{ℕ, Bool, false, ◌&&◌, List, map, Option, Some, None}
 use Rattle.std.specs.List.{list_any}
+use Rattle.std.specs.List.Sorted.{IsStrictlySortedBy}
 use Rattle.std.specs.declared.cmp.Ordering.{Ordering}
 use Rattle.std.specs.Ordering.{nat_cmp, on, then_cmp, is_eq, eq_by_cmp}
 use Rattle.std.specs.Cmp.{IsTotalOrder, IsEquivalence, eq_by_cmp_equiv}
@@ -26,6 +27,10 @@ contends a b = is_eq (row_cmp (target_of a) (target_of b))
 abbrev pub bringing_cmp : Bringing → Bringing → Ordering
 bringing_cmp = then_cmp (on (λ b. target_of b.row) row_cmp) (then_cmp (on (λ b. row_iface b.row) nat_cmp)
     (then_cmp (on (λ b. b.row) row_cmp) (on (λ b. b.place) nat_cmp)))
+
+-- in that order, each once
+abbrev pub InBringingOrder : List Bringing → Type 0
+InBringingOrder bringings = IsStrictlySortedBy bringing_cmp bringings
 
 -- whether the place brings the row
 abbrev pub has_bringing : List Bringing → HostRow → ℕ → Bool

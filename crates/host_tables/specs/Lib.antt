@@ -1,2 +1,3 @@
 pub mod Bringings
+pub mod Costs
 pub mod Unions

@@ -3,11 +3,13 @@
 
 mod bringing;
 mod host_rows;
+mod standing;
 mod tables;
 #[cfg(test)]
 mod tests;
 mod union;
 
+pub use counted_search::Steps;
 pub use host_rows::HostRows;
 pub use tables::Tables;
 pub use union::Diff;

@@ -1,16 +1,17 @@
-ghost use Rattle.std.specs.Prelude.{◌≡◌, ◌<◌, [], ◌∷◌, ◌++◌, length, slice_index_or, slice_set, OnOk, OnErr, IfOk};
+ghost use Rattle.std.specs.Prelude.{◌≡◌, ◌<◌, ◌≤◌, ◌+◌, ◌^◌, ℕ, [], ◌∷◌, ◌++◌, length, slice_index_or, slice_set, OnOk, OnErr, IfOk};
 ghost use Rattle.std.specs.List.{AllByRecursion};
 ghost use Rattle.world.specs.Rows.{IsRow};
+ghost use Rattle.host_model.specs.HostTable.{InRowOrder};
 ghost use Rattle.host_model.specs.Precedence.{wanted_of};
+ghost use Rattle.host_tables.specs.Costs.{most_steps, rows_exchanged, rows_of_all};
 ghost use Rattle.host_tables.specs.Unions.{Differ};
 
 use crate::host_rows::HostRows;
 use crate::union::{Diff, Union};
+use counted_search::Steps;
 use net_types::NoMemory;
 use std::alloc::Global;
-use std::collections::BTreeSet;
 use std::marker::Model;
-use std::mem;
 use world::HostRow;
 
 /// The rows that each place brings, as an interface is one, and what a host is to hold of them.
@@ -45,68 +46,41 @@ impl Tables {
         }
     }
 
-    /// The tables with a further place.
-    fn with(self, rows: HostRows) -> Result<Tables, NoMemory>
-        ensures { IfOk result (λ tables. tables ≡ self ++ rows ∷ []) }
-    {
-        let Tables {
-            alloc,
-            mut places,
-            mut union,
-        } = self;
-        let place = places.len();
-        let _diff = union.exchange(alloc, place, &[], rows.as_slice())?;
-        places.push(rows)?;
-        Ok(Tables {
-            alloc,
-            places,
-            union,
-        })
-    }
-
-    /// The tables where this place brings other rows.
-    fn changed(self, place: usize, rows: HostRows) -> Result<(Tables, Diff), NoMemory>
-        requires { place < length self }
-        ensures tables { IfOk result (λ done. done.0 ≡ slice_set self place rows) }
-        ensures differ { IfOk result (λ done. Differ self (slice_set self place rows) done.1) }
-    {
-        let Tables {
-            alloc,
-            mut places,
-            mut union,
-        } = self;
-        let diff = union.exchange(alloc, place, places[place].as_slice(), rows.as_slice())?;
-        places[place] = rows;
-        let tables = Tables {
-            alloc,
-            places,
-            union,
-        };
-        Ok((tables, diff))
-    }
-
-    /// Adds a place, after all others, that brings these rows. Where memory runs out no place is left.
+    /// Adds a place, after all others, that brings these rows. Where memory runs out all is as it was.
     pub fn push(&mut self, rows: HostRows) -> Result<(), NoMemory>
         ensures grown { OnOk result (self.new ≡ self.old ++ rows ∷ []) }
-        ensures lost { OnErr result (self.new ≡ []) }
+        ensures kept { OnErr result (self.new ≡ self.old) }
     {
-        let empty = Tables::new(self.alloc);
-        *self = mem::replace(self, empty).with(rows)?;
+        self.places.reserve(1)?;
+        let place = self.places.len();
+        let _diff = self
+            .union
+            .exchange(self.alloc, place, &[], rows.as_slice(), &mut Steps::new())?;
+        // There is room, so this can't fail.
+        let _ = self.places.push(rows);
         Ok(())
     }
 
-    /// Puts these rows in the place of those that this place brings, and answers what that makes of the wanted rows. The time that
-    /// it takes grows with the number of these rows and of those before, and not with all. Where memory runs out no place is
-    /// left.
-    pub fn change(&mut self, place: usize, rows: HostRows) -> Result<Diff, NoMemory>
+    /// Puts these rows in the place of those that this place brings, and answers what that makes of the wanted rows. The steps that
+    /// it takes grow with the number of these rows and of those before, and not with all. Where memory runs out all is as it was.
+    pub fn change(
+        &mut self,
+        place: usize,
+        rows: HostRows,
+        steps: &mut Steps,
+    ) -> Result<Diff, NoMemory>
         requires { place < length self.old }
         ensures changed { OnOk result (self.new ≡ slice_set self.old place rows) }
         ensures differ { IfOk result (λ diff. Differ self.old (slice_set self.old place rows) diff) }
-        ensures lost { OnErr result (self.new ≡ []) }
+        ensures kept { OnErr result (self.new ≡ self.old) }
+        ensures grows { steps.old ≤ steps.new }
+        ensures steps { (d : ℕ) → rows_of_all self.old place rows < 2 ^ d → steps.new ≤ steps.old + most_steps (rows_exchanged self.old place rows) d }
     {
-        let empty = Tables::new(self.alloc);
-        let (tables, diff) = mem::replace(self, empty).changed(place, rows)?;
-        *self = tables;
+        let before = self.places[place].as_slice();
+        let diff = self
+            .union
+            .exchange(self.alloc, place, before, rows.as_slice(), steps)?;
+        self.places[place] = rows;
         Ok(diff)
     }
 
@@ -120,9 +94,10 @@ impl Tables {
 
     /// The rows that a host is to hold: those that the places bring, each once. Where routes agree in destination, length and
     /// metric, the interface with the lowest number has its way, and on it the route that row order puts first.
-    pub fn wanted(&self) -> &BTreeSet<HostRow>
-        ensures rows { result.now.keys ≡ wanted_of self.now }
-        ensures fit { AllByRecursion IsRow result.now.keys }
+    pub fn wanted(&self) -> &[HostRow]
+        ensures rows { result.now ≡ wanted_of self.now }
+        ensures fit { AllByRecursion IsRow result.now }
+        ensures in_order { InRowOrder result.now }
     {
         &self.union.wanted
     }

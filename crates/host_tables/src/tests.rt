@@ -1,5 +1,8 @@
-use crate::{HostRows, Tables};
+ghost use Rattle.world.specs.Rows.{IsInterface, IsRow};
+
+use crate::{Diff, HostRows, Steps, Tables};
 use net_types::{IfIndex, Ip4, Net, Net4};
+use std::alloc::{AllocError, Global};
 use std::test::Fail;
 use world::{HostRow, Via};
 
@@ -29,18 +32,22 @@ const BY_TWO: HostRow = HostRow::Route {
     metric: 50,
 };
 
+fn rows_of(alloc: Global, row: HostRow) -> Result<HostRows, AllocError>
+    requires { IsRow row }
+{
+    let mut rows = HostRows::new(alloc);
+    rows.push(row)?;
+    Ok(rows)
+}
+
 #[test]
 fn a_shared_route_goes_over_to_the_next_interface(rt: HostRuntime) -> Result<(), Fail> {
-    let mut one = HostRows::new(rt.alloc());
-    one.push(BY_ONE)?;
-    let mut two = HostRows::new(rt.alloc());
-    two.push(BY_TWO)?;
     let mut tables = Tables::new(rt.alloc());
-    tables.push(one)?;
-    tables.push(two)?;
+    tables.push(rows_of(rt.alloc(), BY_ONE)?)?;
+    tables.push(rows_of(rt.alloc(), BY_TWO)?)?;
     assert!(rt; tables.wanted().contains(&BY_ONE));
     assert_eq!(rt; tables.wanted().len(), 1);
-    tables.change(0, HostRows::new(rt.alloc()))?;
+    tables.change(0, HostRows::new(rt.alloc()), &mut Steps::new())?;
     assert!(rt; tables.wanted().contains(&BY_TWO));
     assert_eq!(rt; tables.wanted().len(), 1);
     Ok(())
@@ -51,14 +58,59 @@ fn a_row_stays_that_another_place_brings(rt: HostRuntime) -> Result<(), Fail> {
     let mut one = HostRows::new(rt.alloc());
     one.push(BY_ONE)?;
     one.push(BY_ONE)?;
-    let mut again = HostRows::new(rt.alloc());
-    again.push(BY_ONE)?;
     let mut tables = Tables::new(rt.alloc());
     tables.push(one)?;
-    tables.push(again)?;
-    tables.change(1, HostRows::new(rt.alloc()))?;
+    tables.push(rows_of(rt.alloc(), BY_ONE)?)?;
+    tables.change(1, HostRows::new(rt.alloc()), &mut Steps::new())?;
     assert!(rt; tables.wanted().contains(&BY_ONE));
-    tables.change(0, HostRows::new(rt.alloc()))?;
+    tables.change(0, HostRows::new(rt.alloc()), &mut Steps::new())?;
     assert!(rt; tables.wanted().is_empty());
+    Ok(())
+}
+
+/// An address of an interface's own.
+fn own_address(iface: u32) -> HostRow
+    requires { IsInterface iface }
+    ensures { IsRow result }
+{
+    HostRow::Addr {
+        iface: IfIndex { number: iface },
+        net: Net::V4(Net4 {
+            ip: Ip4 {
+                number: 0x0a00_0000 + iface,
+            },
+            len: 24,
+        }),
+    }
+}
+
+/// One row for another, among those of 64 places: all rows before and after are 128, fewer than 2^8.
+#[test]
+fn a_change_of_one_row_among_many_takes_few_steps(rt: HostRuntime) -> Result<(), Fail> {
+    let mut tables = Tables::new(rt.alloc());
+    for iface in 1..64 {
+        tables.push(rows_of(rt.alloc(), own_address(iface))?)?;
+    }
+    tables.push(rows_of(rt.alloc(), own_address(64))?)?;
+    let mut steps = Steps::new();
+    let diff = tables.change(0, rows_of(rt.alloc(), BY_ONE)?, &mut steps)?;
+    assert_eq!(rt; diff.gone.as_slice(), [own_address(1)].as_slice());
+    assert_eq!(rt; diff.come.as_slice(), [BY_ONE].as_slice());
+    assert!(rt; steps.count() <= 8 * 3 * 9);
+    Ok(())
+}
+
+#[test]
+fn one_change_after_another_is_told_as_one(rt: HostRuntime) -> Result<(), Fail> {
+    let mut steps = Steps::new();
+    let mut tables = Tables::new(rt.alloc());
+    tables.push(HostRows::new(rt.alloc()))?;
+    let first = tables.change(0, rows_of(rt.alloc(), BY_ONE)?, &mut steps)?;
+    let second = tables.change(0, rows_of(rt.alloc(), BY_TWO)?, &mut steps)?;
+    let diff = Diff::none(rt.alloc())
+        .then(rt.alloc(), first)?
+        .then(rt.alloc(), second)?;
+    assert!(rt; diff.gone.is_empty());
+    assert_eq!(rt; diff.come.as_slice(), [BY_TWO].as_slice());
     Ok(())
 }

@@ -1,5 +1,5 @@
 //! Appending to bytes. Where memory runs out the bytes are as before.
-ghost use Rattle.std.specs.Prelude.{◌≡◌, ◌++◌, decimal, flat_map, ◌<◌, OnOk, OnErr, IfSome};
+ghost use Rattle.std.specs.Prelude.{◌≡◌, ◌++◌, decimal, flat_map, length, ◌<◌, ◌*◌, OnOk, OnErr, IfSome};
 ghost use Rattle.std.specs.Char.{digit_char};
 ghost use Rattle.net_types.specs.HexText.{byte_hex, hex_text};
 ghost use Rattle.transcript_text.specs.Pieces.{names_text};
@@ -67,19 +67,26 @@ fn hex_digit(digit: u8) -> u8
     }
 }
 
+/// Writes two digits a byte over all of the pairs.
+fn write_pairs(bytes: &[u8], pairs: &mut [u8])
+    requires { length pairs.old ≡ 2 * length bytes.now }
+    ensures { pairs.new ≡ flat_map byte_hex bytes.now }
+{
+    for (place, byte) in bytes.iter().enumerate() {
+        pairs[2 * place] = hex_digit(*byte / 16);
+        pairs[2 * place + 1] = hex_digit(*byte % 16);
+    }
+}
+
 /// Appends two digits a byte.
 fn append_pairs(bytes: &[u8], into: &mut Vec<u8>) -> Result<(), NoMemory>
     ensures ok { OnOk result (into.new.items ≡ into.old.items ++ flat_map byte_hex bytes.now) }
     ensures err { OnErr result (into.new.items ≡ into.old.items) }
 {
     let len = into.len();
-    for byte in bytes {
-        let digits = [hex_digit(*byte / 16), hex_digit(*byte % 16)];
-        if let Err(error) = append_bytes(&digits, into) {
-            into.truncate(len);
-            return Err(error);
-        }
-    }
+    // A length at the limit of `usize` has no memory.
+    into.resize(len.saturating_add(2 * bytes.len()), 0)?;
+    write_pairs(bytes, &mut into[len..]);
     Ok(())
 }
 

@@ -1,10 +1,13 @@
-use Rattle.std.proofs.Common.{ap, ◌∙◌}
+use Rattle.std.proofs.Common.{List, map, sym, ap, subst, ◌∙◌}
+use Rattle.timer_queue.specs.Dues.{AreMoments}
+use Rattle.client_model.specs.declared.interfaces.Iface.{Iface}
 use Rattle.client_model.specs.Clients.{Client, client_due}
-use Rattle.client_core.specs.DueMoments.{first_due}
-use Rattle.client_core.proofs.AtRest.{due_first}
+use Rattle.client_core.specs.Due.{dues_of}
 use Rattle.client_core.proofs.clients.core_due.Goals as goal
 
+pub first_due-requires : goal.first_due-requires
+first_due-requires c =
+    subst (λ (ifaces : List Iface). AreMoments (map dues_of ifaces) c.core.inside.kept.dues) (sym c.deref.ensures.value) c.core.invariant.due
+
 pub returns : goal.returns
-returns c =
-    c.first.ensures ∙ ap first_due c.core.invariant.due ∙ due_first c.core.inside.ifaces.items
-    ∙ ap (λ (client : Client). client_due client.ifaces) c.core.view_is
+returns c = c.first_due.ensures ∙ ap client_due c.deref.ensures.value ∙ ap (λ (client : Client). client_due client.ifaces) c.core.view_is

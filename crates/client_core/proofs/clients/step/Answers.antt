@@ -12,7 +12,7 @@ use Rattle.iface_core.specs.Inputs.{turn_of}
 use Rattle.iface_core.specs.Outcomes.{asked_in}
 use Rattle.client_core.specs.Running.{IsRunning}
 use Rattle.client_core.specs.Stepping.{GoAll}
-use Rattle.client_core.proofs.Joined.{joined_on, in_place, placed, turned_steps, untouched_in_place, turned_jobs}
+use Rattle.client_core.proofs.Joined.{joined_on, in_place, leads_in_place, placed, turned_steps, untouched_in_place, turned_jobs}
 use Rattle.client_core.proofs.clients.step.Goals as goal
 
 pub turn_all-requires-clause-running : goal.turn_all-requires-clause-running
@@ -51,6 +51,13 @@ returns-clause-untouched c =
     untouched_in_place c.args.core c.deref.result.now turn c.in_ok-walk.walk.touched c.core.inside.ifaces c.deref_mut.result.now c.turn_all.new.ifaces
     (asked_in c.new-outs.result) (asked_in c.turn_all.new.outs) (ap (λ (client : Client). client.ifaces) c.core.view_is)
     c.in_ok-walk.ensures.goes c.deref_mut.ensures.value c.in_ok-walk.ensures.untouched
+
+pub returns-clause-leads : goal.returns-clause-leads
+returns-clause-leads c =
+    let turn : Turn = turn_of c.args.turn in
+    leads_in_place c.args.core c.deref.result.now turn c.in_ok-walk.walk.rows c.core.inside.ifaces c.deref_mut.result.now c.turn_all.new.ifaces
+    (asked_in c.new-outs.result) (asked_in c.turn_all.new.outs) (ap (λ (client : Client). client.ifaces) c.core.view_is)
+    c.in_ok-walk.ensures.goes c.deref_mut.ensures.value c.in_ok-walk.ensures.leads
 
 pub returns-clause-jobs : goal.returns-clause-jobs
 returns-clause-jobs c =

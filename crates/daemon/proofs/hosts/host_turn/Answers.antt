@@ -1,12 +1,16 @@
-use Rattle.std.proofs.Common.{ap}
-use Rattle.daemon.specs.Lives.{keys_of}
-use Rattle.daemon.proofs.Parts.{listed_none, listed_some, if_ok}
+use Rattle.daemon.proofs.Parts.{if_ok}
+use Rattle.daemon.proofs.HostSteps.{pending_fit, hosts_changes, hosts_unknown}
 use Rattle.daemon.proofs.hosts.host_turn.Goals as goal
 
-pub returns-in-None-2-clause-does : goal.returns-in-None-2-clause-does
-returns-in-None-2-clause-does g c = listed_none c.args.managed.now c.args.wanted.now.keys (keys_of c.args.known) (keys_of c.in_ok-list-in-None.field-0) _ _ _ _ (ap keys_of c.in-None.is) (ap keys_of c.in-None-2.is) c.in_ok-list-in-None.ensures.does
+pub update-requires : goal.update-requires
+update-requires g c = pending_fit c.args.pending c.in-Changes.diff c.args.wanted.now c.in-Changes.is c.requires.known c.requires.rows
 
-pub returns-in_ok-mine-in-Some-2-clause-does : goal.returns-in_ok-mine-in-Some-2-clause-does
-returns-in_ok-mine-in-Some-2-clause-does g c = if_ok c.change_to-in-Some-2.result
-    (λ after. listed_some c.args.managed.now c.args.wanted.now.keys c.in-Some-2.rows.keys c.in_ok-mine-in-Some-2.mine.keys (keys_of c.args.known) (keys_of c.in_ok-list-in-None.field-0) (keys_of after) _ _ _ _ _ _ (ap keys_of c.in-None.is) (ap keys_of c.in-Some-2.is) c.in_ok-mine-in-Some-2.ensures c.in_ok-list-in-None.ensures.does)
-    c.change_to-in-Some-2.ensures.does
+pub returns-in-Changes-clause-does : goal.returns-in-Changes-clause-does
+returns-in-Changes-clause-does g c = if_ok c.update.result
+    (λ table. hosts_changes c.args.managed.now c.args.pending c.in-Changes.diff c.args.wanted.now table _ _ _ _ c.in-Changes.is c.requires.in_order)
+    c.update.ensures.does
+
+pub returns-in-Unknown-clause-does : goal.returns-in-Unknown-clause-does
+returns-in-Unknown-clause-does g c = if_ok c.look_again.result
+    (λ table. hosts_unknown c.args.managed.now c.args.pending c.args.wanted.now table _ _ _ _ c.in-Unknown.is)
+    c.look_again.ensures.does

@@ -1,14 +1,26 @@
-use Rattle.std.proofs.Common.{◌∙◌}
-use Rattle.daemon.specs.Lives.{keys_of}
+use Rattle.std.proofs.Common.{List, Option, Some, subst, ◌∙◌, take}
+use Rattle.world.specs.declared.rows.HostRow.{HostRow}
+use Rattle.host_model.specs.HostTurn.{after_changes}
+use Rattle.device_calls.specs.Does.{Does}
+use Rattle.turn_model.specs.Turns.{changing}
+use Rattle.daemon.specs.Tables.{known_in}
 use Rattle.daemon.proofs.Parts.{changing_more, changing_end}
+use Rattle.daemon.proofs.HostSteps.{known_more, known_then}
 use Rattle.daemon.proofs.hosts.make_changes.Goals as goal
 
 pub loop-one-preserved : goal.loop-one-preserved
-loop-one-preserved g c = record {
-  so_far = λ result new text rest. c.loop-one.invariant.so_far result new text
-      (changing_more c.args.changes.now c.loop-one.one-index _ c.in_ok-done.done (keys_of c.loop-one.after) _ result _ _ new _ _ text c.loop-one-test.true c.in_ok-done.ensures.does c.in_ok-after.ensures rest);
-  waiting = c.change.ensures.waiting ∙ c.loop-one.invariant.waiting;
-}
+loop-one-preserved g c =
+    let at = c.loop-one in
+    record {
+      so_far = λ known result new text rest. at.invariant.so_far known result new text
+          (changing_more c.args.changes.now at.one-index _ c.in_ok-done.done (known_in at.table (after_changes (take at.one-index c.args.changes.now) known)) _ result _ _ new _ _ text c.loop-one-test.true c.in_ok-done.ensures.does
+          (known_more c.args.changes.now at.one-index _ c.in_ok-done.done at.table c.after-table.result known c.loop-one-test.true c.after-table.ensures) rest);
+      waiting = c.change.ensures.waiting ∙ at.invariant.waiting;
+    }
 
 pub returns-clause-does : goal.returns-clause-does
-returns-clause-does g c = c.loop-one.invariant.so_far _ _ _ (changing_end c.args.changes.now c.loop-one.one-index _ _ _ c.loop-one-test.false)
+returns-clause-does g c = λ known.
+    let at = c.loop-one in
+    subst (λ (result : Option (List HostRow)). Does (changing c.args.changes.now (Some known)) result (g.W.Outside.seen c.args.outside.now) (g.W.Outside.seen at.outside) c.args.text.now.items at.text.items)
+    (known_then c.args.changes.now at.one-index at.table known c.loop-one-test.false)
+    (at.invariant.so_far known _ _ _ (changing_end c.args.changes.now at.one-index _ _ _ c.loop-one-test.false))

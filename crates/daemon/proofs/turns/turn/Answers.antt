@@ -5,7 +5,10 @@ use Rattle.iface_core.specs.Inputs.{event_of, bytes_of}
 use Rattle.iface_core.specs.Outcomes.{asked_in}
 use Rattle.client_model.specs.IfaceTurns.{Turn}
 use Rattle.turn_model.specs.Turns.{input_of}
+use Rattle.client_model.specs.Clients.{rows_of}
 use Rattle.daemon.specs.Lives.{life_of, IsBelowEnd}
+use Rattle.daemon.specs.Tables.{known_in}
+use Rattle.daemon.proofs.HostSteps.{wanted_in_order}
 use Rattle.daemon.proofs.StopMoments.{stop_below}
 use Rattle.daemon.proofs.KeptFiles.{kept_but}
 use Rattle.daemon.proofs.TurnSteps.{turn_made}
@@ -17,7 +20,13 @@ act-requires-clause-stop g c =
 
 pub act-requires-clause-kept : goal.act-requires-clause-kept
 act-requires-clause-kept g c =
-    kept_but c.in_ok-stepped.stepped.touched _ c.args.life.core.ifaces c.in_ok-stepped.stepped.core.ifaces c.args.life.files.items refl c.in_ok-stepped.ensures.untouched c.requires.orderly.kept
+    kept_but c.in_ok-stepped.stepped.touched _ c.args.life.core.ifaces c.in_ok-stepped.stepped.core.ifaces c.args.life.files refl c.in_ok-stepped.ensures.untouched c.requires.orderly.kept
+
+pub act-requires-clause-known : goal.act-requires-clause-known
+act-requires-clause-known g c = (
+  known_in c.args.life.table (rows_of c.args.life.core),
+  c.since.ensures (rows_of c.args.life.core) (rows_of c.in_ok-stepped.stepped.core) (wanted_in_order c.args.life.core) c.in_ok-stepped.ensures.leads,
+)
 
 pub returns-clause-made : goal.returns-clause-made
 returns-clause-made g c =
@@ -29,4 +38,5 @@ returns-clause-made g c =
     c.raised-moment.result c.stop_moment.result c.until.result
     _ _ _ _ _ _ _ _
     turn_is c.in_ok-stepped.ensures.steps c.in_ok-stepped.ensures.jobs c.raised-moment.ensures.value c.stop_moment.ensures c.in_ok-life.ensures.moment
-    c.in_ok-say_turn.ensures c.in_ok-poll_child.ensures.does c.in_ok-life.ensures.does c.in_ok-say.ensures c.until.ensures
+    c.in_ok-say_turn.ensures c.in_ok-poll_child.ensures.does (c.in_ok-life.ensures.does (known_in c.args.life.table (rows_of c.args.life.core))
+    (c.since.ensures (rows_of c.args.life.core) (rows_of c.in_ok-stepped.stepped.core) (wanted_in_order c.args.life.core) c.in_ok-stepped.ensures.leads)) c.in_ok-say.ensures c.until.ensures

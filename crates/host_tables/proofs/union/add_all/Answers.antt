@@ -1,19 +1,25 @@
-use Rattle.std.proofs.Common.{List, true, ◌||◌, ◌∙◌, ap}
+use Rattle.std.proofs.Common.{List, ◌||◌, ◌∙◌, ap, arith}
 use Rattle.std.proofs.lemmas.List.{take_all}
 use Rattle.world.specs.declared.rows.HostRow.{HostRow}
 use Rattle.world.specs.RowOrder.{has_row}
-use Rattle.host_tables.proofs.Contending.{equal_turned}
-use Rattle.host_tables.proofs.RowByRow.{brought_more}
+use Rattle.host_tables.proofs.Counting.{more_steps, one_more}
+use Rattle.host_tables.proofs.RowByRow.{added_more}
 use Rattle.host_tables.proofs.union.add_all.Goals as goal
 
 pub loop-row-preserved : goal.loop-row-preserved
-loop-row-preserved c = record {
-  has = λ q. brought_more c.args.rows.now c.loop-row.row-index _ q true _ _ _ _ c.loop-row-test.true (c.loop-row.invariant.has q) (c.in_ok-_is_new.ensures.updates.0 q) (equal_turned _ q);
-  in_order = λ _. c.in_ok-_is_new.ensures.ordered;
-}
+loop-row-preserved c =
+    let i = c.loop-row.invariant in let put = c.put_in.ensures in
+    record {
+      has = λ q. added_more c.args.rows.now c.loop-row.row-index _ q _ _ _ c.loop-row-test.true (i.has q) (put.has q);
+      in_order = put.ordered;
+      len = omega (arith, i.len, one_more _ _ _ put.len);
+      capacity = omega (arith, i.capacity, put.capacity);
+      grows = omega (arith, i.grows, put.grows);
+      steps = λ n few. more_steps _ n c.loop-row.row-index _ _ (i.steps n few) (put.steps n (omega (arith, i.len)));
+    }
 
-pub returns : goal.returns
-returns c = record {
-  has = λ q. c.loop-row.invariant.has q ∙ ap (λ (rows : List HostRow). has_row c.args.set.now.keys q || has_row rows q) (take_all c.loop-row.row-index c.args.rows.now c.loop-row-test.false);
+pub returns-clause-adds : goal.returns-clause-adds
+returns-clause-adds c = record {
+  has = λ q. c.loop-row.invariant.has q ∙ ap (λ (rows : List HostRow). has_row c.args.all.now.items q || has_row rows q) (take_all c.loop-row.row-index c.args.rows.now c.loop-row-test.false);
   in_order = c.loop-row.invariant.in_order;
 }

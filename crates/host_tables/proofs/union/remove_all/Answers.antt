@@ -1,19 +1,25 @@
-use Rattle.std.proofs.Common.{List, true, not, ◌&&◌, ◌∙◌, ap}
+use Rattle.std.proofs.Common.{List, not, ◌&&◌, ◌∙◌, ap, arith}
 use Rattle.std.proofs.lemmas.List.{take_all}
 use Rattle.world.specs.declared.rows.HostRow.{HostRow}
 use Rattle.world.specs.RowOrder.{has_row}
-use Rattle.host_tables.proofs.Contending.{equal_turned}
-use Rattle.host_tables.proofs.RowByRow.{taken_more}
+use Rattle.host_tables.proofs.Counting.{more_steps}
+use Rattle.host_tables.proofs.RowByRow.{removed_more}
 use Rattle.host_tables.proofs.union.remove_all.Goals as goal
 
 pub loop-row-preserved : goal.loop-row-preserved
-loop-row-preserved c = record {
-  has = λ q. taken_more c.args.rows.now c.loop-row.row-index _ q true _ _ _ _ c.loop-row-test.true (c.loop-row.invariant.has q) (c.remove-was_there.ensures.updates.0 q) (equal_turned _ q);
-  in_order = λ _. c.remove-was_there.ensures.ordered;
-}
+loop-row-preserved c =
+    let i = c.loop-row.invariant in let took = c.take_out.ensures in
+    record {
+      has = λ q. removed_more c.args.rows.now c.loop-row.row-index _ q _ _ _ c.loop-row-test.true (i.has q) (took.has q);
+      in_order = took.ordered;
+      len = omega (arith, i.len, took.len);
+      capacity = omega (arith, i.capacity, took.capacity);
+      grows = omega (arith, i.grows, took.grows);
+      steps = λ n few. more_steps _ n c.loop-row.row-index _ _ (i.steps n few) (took.steps n (omega (arith, i.len)));
+    }
 
-pub returns : goal.returns
-returns c = record {
-  has = λ q. c.loop-row.invariant.has q ∙ ap (λ (rows : List HostRow). has_row c.args.set.now.keys q && not (has_row rows q)) (take_all c.loop-row.row-index c.args.rows.now c.loop-row-test.false);
+pub returns-clause-removes : goal.returns-clause-removes
+returns-clause-removes c = record {
+  has = λ q. c.loop-row.invariant.has q ∙ ap (λ (rows : List HostRow). has_row c.args.all.now.items q && not (has_row rows q)) (take_all c.loop-row.row-index c.args.rows.now c.loop-row-test.false);
   in_order = c.loop-row.invariant.in_order;
 }

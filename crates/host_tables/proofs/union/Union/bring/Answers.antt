@@ -1,23 +1,32 @@
-use Rattle.std.proofs.Common.{List, ◌&&◌, ◌||◌, ◌∙◌, ap}
+use Rattle.std.proofs.Common.{List, ◌&&◌, ◌||◌, ◌∙◌, ap, arith}
 use Rattle.std.specs.Prelude.{◌==◌}
 use Rattle.std.proofs.lemmas.List.{take_all}
 use Rattle.world.specs.declared.rows.HostRow.{HostRow}
 use Rattle.world.specs.RowOrder.{has_row}
 use Rattle.host_tables.specs.Bringings.{has_bringing}
+use Rattle.host_tables.proofs.Counting.{more_steps, one_more}
 use Rattle.host_tables.proofs.RowByRow.{brought_more}
-use Rattle.host_tables.proofs.Heads.{bringing_is}
+use Rattle.host_tables.proofs.Heads.{bringing_at}
 use Rattle.host_tables.proofs.union.Union.bring.Goals as goal
 
 pub loop-row-preserved : goal.loop-row-preserved
-loop-row-preserved c = record {
-  wanted = c.loop-row.invariant.wanted;
-  brought = λ q at. brought_more c.args.rows.now c.loop-row.row-index _ q (at == c.args.place) _ _ _ _ c.loop-row-test.true (c.loop-row.invariant.brought q at)
-      (c.in_ok-_is_new.ensures.updates.0 (record { row = q; place = at })) (bringing_is _ q c.args.place at);
-}
+loop-row-preserved c =
+    let i = c.loop-row.invariant in let put = c.put_in.ensures in
+    record {
+      wanted = i.wanted;
+      brought = λ q at. brought_more c.args.rows.now c.loop-row.row-index _ q (at == c.args.place) _ _ _ _ c.loop-row-test.true (i.brought q at)
+          (put.has (record { row = q; place = at })) (bringing_at q _ at c.args.place);
+      each_once = put.ordered;
+      len = omega (arith, i.len, one_more _ _ _ put.len);
+      capacity = omega (arith, i.capacity, put.capacity);
+      grows = omega (arith, i.grows, put.grows);
+      steps = λ n few. more_steps _ n c.loop-row.row-index _ _ (i.steps n few) (put.steps n (omega (arith, i.len)));
+    }
 
-pub returns : goal.returns
-returns c = record {
+pub returns-clause-brings : goal.returns-clause-brings
+returns-clause-brings c = record {
   wanted = c.loop-row.invariant.wanted;
   brought = λ q at. c.loop-row.invariant.brought q at
-      ∙ ap (λ (rows : List HostRow). has_bringing c.args.self.now.brought.keys q at || ((at == c.args.place) && has_row rows q)) (take_all c.loop-row.row-index c.args.rows.now c.loop-row-test.false);
+      ∙ ap (λ (rows : List HostRow). has_bringing c.args.self.now.brought.items q at || ((at == c.args.place) && has_row rows q)) (take_all c.loop-row.row-index c.args.rows.now c.loop-row-test.false);
+  each_once = c.loop-row.invariant.each_once;
 }

@@ -1,0 +1,7 @@
+use Rattle.std.proofs.Common.{map, take}
+use Rattle.timer_queue.specs.Names.{AreNamed}
+use Rattle.client_model.specs.IfaceSteps.{index_of}
+use Rattle.client_core.proofs.kept.names_of.Given as goal
+
+abbrev pub invariant-places : goal.invariant-places
+invariant-places l = AreNamed (map index_of (take l.place l.ifaces)) l.named

@@ -1,0 +1,11 @@
+use Rattle.std.proofs.Common.{sym, ◌∙◌}
+use Rattle.daemon.proofs.KeptFiles.{keeping_nothing, kept_still}
+use Rattle.daemon.proofs.kept.keep_files.Goals as goal
+
+pub returns-then-not-any_unknown-clause-does : goal.returns-then-not-any_unknown-clause-does
+returns-then-not-any_unknown-clause-does g c =
+    keeping_nothing c.args.core.now.ifaces c.args.touched c.args.files _ _ (sym c.is_nothing.ensures ∙ c.if-is_nothing.true) (sym c.any_unknown.ensures ∙ c.if-not-any_unknown.true) c.requires
+
+pub returns-then-not-any_unknown-clause-kept : goal.returns-then-not-any_unknown-clause-kept
+returns-then-not-any_unknown-clause-kept g c =
+    kept_still c.args.core.now.ifaces c.args.touched c.args.files (sym c.is_nothing.ensures ∙ c.if-is_nothing.true) c.requires
