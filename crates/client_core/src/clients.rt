@@ -45,7 +45,8 @@ pub struct Core {
     alloc: Global,
     own: Vec<Mac>,
     ifaces: Vec<Iface>,
-    kept: Kept,
+    /// In a place of its own, since its tables of timers are large where the client is handed on.
+    kept: Box<Kept>,
     looks: u64,
     changes: u64,
 }
@@ -55,7 +56,7 @@ impl Model for Core {
 
     ghost view = { λ core. record { own = core.own.items; ifaces = core.ifaces.items } };
 
-    ghost invariant = { λ core. IsRunning core.ifaces.items core.kept };
+    ghost invariant = { λ core. IsRunning core.ifaces.items core.kept.value };
 }
 
 /// The interfaces as they are opened, one after another, and the jobs of hooks.
@@ -119,7 +120,8 @@ pub fn core_open(
     let mut outs = Outs::new(alloc);
     let mut jobs = Vec::new(alloc);
     let ifaces = opened_ifaces(alloc, beginnings, begin, &mut outs, &mut jobs)?;
-    let kept = Kept::of(alloc, &ifaces)?;
+    let all = Kept::of(alloc, &ifaces)?;
+    let kept = Box::new(alloc, all)?;
     let core = Core {
         alloc,
         own,

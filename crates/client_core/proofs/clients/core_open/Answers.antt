@@ -16,7 +16,9 @@ pub of-requires : goal.of-requires
 of-requires c = subst AreIfaces (sym c.deref.ensures.value) c.in_ok-ifaces.ensures.fit
 
 pub invariant_of-core : goal.invariant_of-core
-invariant_of-core c = subst (λ (ifaces : List Iface). IsRunning ifaces c.in_ok-kept.kept) c.deref.ensures.value c.in_ok-kept.ensures
+invariant_of-core c =
+    subst (IsRunning c.in_ok-ifaces.ifaces.items) (sym c.in_ok-kept.ensures.ok)
+    (subst (λ (ifaces : List Iface). IsRunning ifaces c.in_ok-all.all) c.deref.ensures.value c.in_ok-all.ensures)
 
 pub returns-clause-steps : goal.returns-clause-steps
 returns-clause-steps c =

@@ -16,7 +16,9 @@ use Rattle.client_core.proofs.Joined.{joined_on, in_place, leads_in_place, place
 use Rattle.client_core.proofs.clients.step.Goals as goal
 
 pub turn_all-requires-clause-running : goal.turn_all-requires-clause-running
-turn_all-requires-clause-running c = subst (λ (ifaces : List Iface). IsRunning ifaces c.core.inside.kept) (sym c.deref_mut.ensures.value) c.core.invariant
+turn_all-requires-clause-running c =
+    subst (IsRunning c.deref_mut.result.now) (sym c.deref_mut-2.ensures.value)
+    (subst (λ (ifaces : List Iface). IsRunning ifaces c.core.inside.kept.value) (sym c.deref_mut.ensures.value) c.core.invariant)
 
 pub invariant_of-core : goal.invariant_of-core
 invariant_of-core c =
