@@ -36,7 +36,7 @@ pub fn hex_byte_of(bytes: &[u8]) -> Option<u8>
 fn pairs_of(alloc: Global, bytes: &[u8]) -> Result<Option<Vec<u8>>, NoMemory>
     ensures { IfOk result (λ o. option_map (λ v. v.items) o ≡ pairs_at bytes.now) }
 {
-    let mut read = Vec::new(alloc);
+    let mut read = Vec::with_capacity(alloc, bytes.len() / 2)?;
     let mut rest = bytes;
     'pairs: while !rest.is_empty() {
         if rest.len() == 1 {
