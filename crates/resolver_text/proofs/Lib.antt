@@ -1,5 +1,6 @@
-pub mod PlacedParts
 pub mod OrderedParts
+pub mod PlacedParts
 pub mod UnlikeTexts
+pub mod KeptTexts
 pub mod LineSteps
 pub mod PlainLines

@@ -1,11 +1,12 @@
 -- Unlike texts, one text more.
-use Rattle.std.proofs.Common.{◌≡◌, min, ◌+◌, ◌<◌, ◌≤◌, ℕ, List, [], ◌∷◌, ◌++◌, length, take, map, refl, ap, sym, ◌∙◌, Bool, true, false, cond, not, arith, get_or, length-append, length-take}
+use Rattle.std.proofs.Common.{◌≡◌, min, ◌<◌, ◌≤◌, ℕ, List, [], ◌∷◌, ◌++◌, length, take, map, refl, ap, sym, ◌∙◌, Bool, true, false, cond, not, arith, length-append, length-take, append_assoc}
 use Rattle.std.specs.Prelude.{bytes_eq, filter, ◌||◌, ◌≢◌, All, AllPairs}
 use Rattle.std.specs.List.{list_any}
 use Rattle.std.proofs.lemmas.Slice.Eq.{bytes_eq-Decides}
-use Rattle.std.proofs.lemmas.List.{append-nil, length-map, map-append, take_more, take-append-le, take_all}
+use Rattle.std.proofs.lemmas.List.{append-nil, length-map, map-append, take-append-le, take_all}
 use Rattle.std.proofs.lemmas.List.Elements.{All-cons, filter-append}
 use Rattle.std.proofs.lemmas.List.Kept.{AllPairs-cons, AllPairs-filter}
+use Rattle.resolver_text.specs.Keeping.{KeepsOn}
 use Rattle.resolver_text.specs.Texts.{unlike}
 use Rattle.resolver_text.specs.TextLaws.{KeepUnlike}
 
@@ -60,52 +61,78 @@ unlike_more (first ∷ texts) text =
     by_case false any false e =
         rw (e, any_filtered text first (unlike texts) e, any, filter-append (differs first) (unlike texts) (text ∷ []), like_sym first text false e) refl
 
-any_mapped : {A : Type 0} (f : A → List ℕ) (text : List ℕ) (xs : List A) → list_any (λ x. bytes_eq (f x) text) xs ≡ list_any (is_like text) (map f xs)
-any_mapped f text [] = refl
-any_mapped f text (x ∷ xs) = ap (λ b. bytes_eq (f x) text || b) (any_mapped f text xs)
-
-module _ {A B : Type 0} (f : A → List ℕ) (g : B → List ℕ) (kept : List A) (limit : ℕ) (texts : List B) (i : ℕ) (text : B)
-    (within : i < length texts) (at : text ≡ get_or texts i text) (so_far : map f kept ≡ take limit (unlike (map g (take i texts)))) where
-  one_more : map g (take (i + 1) texts) ≡ map g (take i texts) ++ g text ∷ []
-  one_more = rw (take_more texts i text within, map-append g (take i texts) (get_or texts i text ∷ []), ← at) refl
-
-  longer : (b : Bool) → limit ≤ length (unlike (map g (take i texts))) → take limit (with_one b (unlike (map g (take i texts))) (g text)) ≡ take limit (unlike (map g (take i texts)))
-  longer true full = refl
-  longer false full = take-append-le limit _ _ full
+module _ (limit : ℕ) (kept texts : List (List ℕ)) (so_far : kept ≡ take limit (unlike texts)) where
+  longer : (text : List ℕ) (b : Bool) → limit ≤ length (unlike texts) → take limit (with_one b (unlike texts) text) ≡ take limit (unlike texts)
+  longer text true full = refl
+  longer text false full = take-append-le limit _ _ full
 
   -- enough are kept
-  pub enough : limit ≤ length kept → map f kept ≡ take limit (unlike (map g (take (i + 1) texts)))
-  enough full =
-      let all : length kept ≡ min limit (length (unlike (map g (take i texts)))) = sym (length-map kept f) ∙ ap length so_far ∙ length-take limit _ in
-      let more : limit ≤ length (unlike (map g (take i texts))) = omega (arith, all, full) in
-      so_far ∙ sym (ap (λ t. take limit (unlike t)) one_more ∙ ap (take limit) (unlike_more (map g (take i texts)) (g text)) ∙ longer _ more)
+  enough : (text : List ℕ) → limit ≤ length kept → kept ≡ take limit (unlike (texts ++ text ∷ []))
+  enough text full =
+      let all : length kept ≡ min limit (length (unlike texts)) = ap length so_far ∙ length-take limit _ in
+      let more : limit ≤ length (unlike texts) = omega (arith, all, full) in
+      so_far ∙ sym (ap (take limit) (unlike_more texts text) ∙ longer text _ more)
 
-  room : length kept < limit → map f kept ≡ unlike (map g (take i texts))
+  room : length kept < limit → kept ≡ unlike texts
   room few =
-      let all : length kept ≡ min limit (length (unlike (map g (take i texts)))) = sym (length-map kept f) ∙ ap length so_far ∙ length-take limit _ in
+      let all : length kept ≡ min limit (length (unlike texts)) = ap length so_far ∙ length-take limit _ in
       so_far ∙ take_all limit _ (omega (arith, all, few))
 
   -- it is among those that are kept
-  pub again : length kept < limit → list_any (λ x. bytes_eq (f x) (g text)) kept ≡ true → map f kept ≡ take limit (unlike (map g (take (i + 1) texts)))
-  again few among =
-      let whole = room few in
-      let any : list_any (is_like (g text)) (unlike (map g (take i texts))) ≡ true = sym (ap (list_any (is_like (g text))) whole) ∙ sym (any_mapped f (g text) kept) ∙ among in
-      so_far ∙ sym (ap (λ t. take limit (unlike t)) one_more ∙ ap (take limit) (unlike_more (map g (take i texts)) (g text)) ∙ rw any refl)
+  again : (text : List ℕ) → length kept < limit → list_any (is_like text) kept ≡ true → kept ≡ take limit (unlike (texts ++ text ∷ []))
+  again text few among =
+      let any : list_any (is_like text) (unlike texts) ≡ true = sym (ap (list_any (is_like text)) (room few)) ∙ among in
+      so_far ∙ sym (ap (take limit) (unlike_more texts text) ∙ rw any refl)
 
   -- it is a new one
-  pub anew : length kept < limit → list_any (λ x. bytes_eq (f x) (g text)) kept ≡ false → map f kept ++ g text ∷ [] ≡ take limit (unlike (map g (take (i + 1) texts)))
-  anew few among =
+  anew : (text : List ℕ) → length kept < limit → list_any (is_like text) kept ≡ false → kept ++ text ∷ [] ≡ take limit (unlike (texts ++ text ∷ []))
+  anew text few among =
       let whole = room few in
-      let any : list_any (is_like (g text)) (unlike (map g (take i texts))) ≡ false = sym (ap (list_any (is_like (g text))) whole) ∙ sym (any_mapped f (g text) kept) ∙ among in
-      let long : length (map f kept) ≡ length kept = length-map kept f in
-      let fits : length (map f kept ++ g text ∷ []) ≤ limit = rw length-append (omega (arith, long, few)) in
-      sym (ap (λ t. take limit (unlike t)) one_more ∙ ap (take limit) (unlike_more (map g (take i texts)) (g text)) ∙ rw (any, ← whole) (take_all limit _ fits))
+      let any : list_any (is_like text) (unlike texts) ≡ false = sym (ap (list_any (is_like text)) whole) ∙ among in
+      let fits : length (kept ++ text ∷ []) ≤ limit = rw length-append (omega (arith, few)) in
+      sym (ap (take limit) (unlike_more texts text) ∙ rw (any, ← whole) (take_all limit _ fits))
 
--- what the test for a text among those that are kept says
-pub tested : {A : Type 0} (f : A → List ℕ) (kept seen : List A) (text spelled : List ℕ) (answer b : Bool) → seen ≡ kept → spelled ≡ text
-    → answer ≡ list_any (λ x. bytes_eq (f x) spelled) seen → answer ≡ b → list_any (λ x. bytes_eq (f x) text) kept ≡ b
-tested f kept seen text spelled answer b same is given e =
-    sym (ap (list_any (λ x. bytes_eq (f x) text)) same) ∙ sym (ap (λ t. list_any (λ x. bytes_eq (f x) t) seen) is) ∙ sym given ∙ e
+-- ---- what is kept, with more texts
+
+pub keeps_none : (limit : ℕ) (kept : List (List ℕ)) → KeepsOn limit [] kept kept
+keeps_none limit kept texts so_far = rw (append-nil texts) so_far
+
+pub keeps_both : (limit : ℕ) (some more old middle new : List (List ℕ)) → KeepsOn limit some old middle → KeepsOn limit more middle new → KeepsOn limit (some ++ more) old new
+keeps_both limit some more old middle new first then texts so_far =
+    then (texts ++ some) (first texts so_far) ∙ ap (λ t. take limit (unlike t)) (append_assoc texts some more)
+
+pub keeps_full : (limit : ℕ) (more kept : List (List ℕ)) → limit ≤ length kept → KeepsOn limit more kept kept
+keeps_full limit [] kept full = keeps_none limit kept
+keeps_full limit (text ∷ more) kept full =
+    keeps_both limit (text ∷ []) more kept kept kept (λ texts so_far. enough limit kept texts so_far text full) (keeps_full limit more kept full)
+
+pub keeps_old : (limit : ℕ) (text : List ℕ) (kept : List (List ℕ)) → length kept < limit → list_any (is_like text) kept ≡ true → KeepsOn limit (text ∷ []) kept kept
+keeps_old limit text kept few among texts so_far = again limit kept texts so_far text few among
+
+pub keeps_new : (limit : ℕ) (text : List ℕ) (kept : List (List ℕ)) → length kept < limit → list_any (is_like text) kept ≡ false → KeepsOn limit (text ∷ []) kept (kept ++ text ∷ [])
+keeps_new limit text kept few among texts so_far = anew limit kept texts so_far text few among
+
+pub any_mapped : {A : Type 0} (f : A → List ℕ) (text : List ℕ) (xs : List A) → list_any (λ x. bytes_eq (f x) text) xs ≡ list_any (is_like text) (map f xs)
+any_mapped f text [] = refl
+any_mapped f text (x ∷ xs) = ap (λ b. bytes_eq (f x) text || b) (any_mapped f text xs)
+
+module _ {A : Type 0} (view : A → List ℕ) (limit : ℕ) (kept seen : List A) (text : List ℕ) (few : length kept < limit) (same : seen ≡ kept) where
+  among_views : (answer b : Bool) → answer ≡ list_any (λ x. bytes_eq (view x) text) seen → answer ≡ b → list_any (is_like text) (map view kept) ≡ b
+  among_views answer b given e = sym (any_mapped view text kept) ∙ sym (ap (list_any (λ x. bytes_eq (view x) text)) same) ∙ sym given ∙ e
+
+  few_views : length (map view kept) < limit
+  few_views = rw (length-map kept view) few
+
+  -- a text that is among them
+  pub told_again : (answer : Bool) → answer ≡ list_any (λ x. bytes_eq (view x) text) seen → answer ≡ true
+      → KeepsOn limit (text ∷ []) (map view kept) (map view kept)
+  told_again answer given e = keeps_old limit text (map view kept) few_views (among_views answer true given e)
+
+  -- a new one
+  pub told_anew : (answer : Bool) → answer ≡ list_any (λ x. bytes_eq (view x) text) seen → answer ≡ false
+      → (new : List A) (one : A) → new ≡ kept ++ one ∷ [] → view one ≡ text → KeepsOn limit (text ∷ []) (map view kept) (map view new)
+  told_anew answer given e new one pushed is =
+      rw (pushed, map-append view kept (one ∷ []), is) (keeps_new limit text (map view kept) few_views (among_views answer false given e))
 
 -- ---- the law
 

@@ -1,6 +1,7 @@
 pub mod Parts
 pub mod Order
 pub mod Texts
+pub mod Keeping
 pub mod ResolverText
 pub mod OrderLaws
 pub mod TextLaws

@@ -7,7 +7,7 @@ ghost use Rattle.resolver_text.specs.ResolverText.{resolver_text, search_lines, 
 
 use crate::order::in_order;
 use crate::part::Part;
-use crate::texts::{all_names, all_servers, first_unlike};
+use crate::texts::{first_names, first_servers};
 use net_types::NoMemory;
 use std::alloc::{AllocError, Global};
 
@@ -42,11 +42,11 @@ fn add_server(text: &mut String, server: &str) -> Result<(), AllocError>
 }
 
 /// Appends a line for each server.
-fn add_servers(text: &mut String, servers: &[&str]) -> Result<(), AllocError>
-    ensures { OnOk result (string_bytes text.new ≡ string_bytes text.old ++ lines_text (map server_line (map (λ server. server.now) servers.now))) }
+fn add_servers(text: &mut String, servers: &[String]) -> Result<(), AllocError>
+    ensures { OnOk result (string_bytes text.new ≡ string_bytes text.old ++ lines_text (map server_line (map (λ server. string_bytes server) servers.now))) }
 {
     for server in servers {
-        add_server(text, server)?;
+        add_server(text, server.as_str())?;
     }
     Ok(())
 }
@@ -59,10 +59,8 @@ pub fn resolver(alloc: Global, parts: &[Part]) -> Result<String, NoMemory>
     ensures { IfOk result (λ text. string_bytes text ≡ resolver_text (parts_content parts.now)) }
 {
     let ordered = in_order(alloc, parts)?;
-    let names = all_names(alloc, &ordered)?;
-    let servers = all_servers(alloc, &ordered)?;
     let mut text = String::new(alloc);
-    add_search(&mut text, &first_unlike(alloc, &names, SEARCH_LIMIT)?)?;
-    add_servers(&mut text, &first_unlike(alloc, &servers, SERVER_LIMIT)?)?;
+    add_search(&mut text, &first_names(alloc, &ordered, SEARCH_LIMIT)?)?;
+    add_servers(&mut text, &first_servers(alloc, &ordered, SERVER_LIMIT)?)?;
     Ok(text)
 }

@@ -110,3 +110,21 @@ fn sixteen_names_and_eight_servers(rt: HostRuntime) -> Result<(), Fail> {
     );
     Ok(())
 }
+
+#[test]
+fn limits_over_several_parts(rt: HostRuntime) -> Result<(), Fail> {
+    let mut parts = Vec::new(rt.alloc());
+    parts.push(part(&rt, 20, Family::V4, &[four(2), four(4)], &["b"])?)?;
+    parts.push(part(&rt, 30, Family::V4, &[four(5), four(2)], &["c"])?)?;
+    parts.push(part(&rt, 10, Family::V4, &[four(1), four(2)], &["a"])?)?;
+    parts.push(part(&rt, 20, Family::V4, &[four(4), four(3)], &["a", "d"])?)?;
+    let more = [four(6), four(1), four(7), four(8), four(9)];
+    parts.push(part(&rt, 30, Family::V6, &more, &["c", "e"])?)?;
+    // the limit of servers is reached before this one, and that of names isn't
+    parts.push(part(&rt, 40, Family::V4, &[four(10)], &["f"])?)?;
+    assert_eq!(rt;
+        resolver(rt.alloc(), &parts)?.as_str(),
+        "search a b d c e f\nnameserver 10.0.0.1\nnameserver 10.0.0.2\nnameserver 10.0.0.4\nnameserver 10.0.0.3\nnameserver 10.0.0.5\nnameserver 10.0.0.6\nnameserver 10.0.0.7\nnameserver 10.0.0.8\n"
+    );
+    Ok(())
+}

@@ -1,7 +1,9 @@
-//! What the parts say, as texts.
-ghost use Rattle.std.specs.Prelude.{◌≡◌, ◌++◌, flat_map, map, take, bytes_eq, IfOk, OnOk};
+//! The first of what the parts say, as texts. Once there are as many as the limit says, no more of the parts is read.
+ghost use Rattle.std.specs.Prelude.{◌≡◌, ◌<◌, ◌∷◌, [], filter, flat_map, length, map, take, bytes_eq, IfOk, OnOk};
 ghost use Rattle.std.specs.List.{list_any};
 ghost use Rattle.std.specs.String.{string_bytes};
+ghost use Rattle.domain_names.specs.NameText.{is_name};
+ghost use Rattle.resolver_text.specs.Keeping.{KeepsOn};
 ghost use Rattle.resolver_text.specs.Parts.{part_content};
 ghost use Rattle.resolver_text.specs.Texts.{is_link_local, part_names, part_servers, server_text, unlike, zoned_text};
 
@@ -15,25 +17,51 @@ const LINK_LOCAL_BITS: u128 = 0x3fa;
 /// How many bits an address has behind these.
 const LINK_LOCAL_REST: u32 = 118;
 
-/// Appends the names of a part that are names.
-fn add_names(alloc: Global, part: &Part, names: &mut Vec<String>) -> Result<(), AllocError>
-    ensures { OnOk result (map (λ name. string_bytes name) names.new.items ≡ map (λ name. string_bytes name) names.old.items ++ part_names (part_content part.now)) }
+/// Whether a name is one of the names.
+fn is_among(names: &[&str], name: &str) -> bool
+    ensures { result ≡ list_any (λ other. bytes_eq other.now name.now) names.now }
 {
-    for name in &part.names {
-        if is_name(name.as_bytes()) {
-            names.push(String::from_str(alloc, name.as_str())?)?;
-        }
+    names.iter().any(|other| *other == name)
+}
+
+/// Appends a name that is a domain name and unlike those before it.
+fn add_name<'a>(name: &'a str, names: &mut Vec<&'a str>, limit: usize) -> Result<(), AllocError>
+    requires { length names.old.items < limit }
+    ensures { OnOk result (KeepsOn limit (filter is_name (name.now ∷ [])) (map (λ name. name.now) names.old.items) (map (λ name. name.now) names.new.items)) }
+{
+    if !is_among(names, name) && is_name(name.as_bytes()) {
+        names.push(name)?;
     }
     Ok(())
 }
 
-/// The names of all parts.
-pub(crate) fn all_names(alloc: Global, parts: &[&Part]) -> Result<Vec<String>, AllocError>
-    ensures { IfOk result (λ names. map (λ name. string_bytes name) names.items ≡ flat_map part_names (map (λ p. part_content p.now) parts.now)) }
+/// Appends the names of a part, until there are as many as the limit says.
+fn add_names<'a>(part: &'a Part, names: &mut Vec<&'a str>, limit: usize) -> Result<(), AllocError>
+    ensures { OnOk result (KeepsOn limit (part_names (part_content part.now)) (map (λ name. name.now) names.old.items) (map (λ name. name.now) names.new.items)) }
+{
+    for name in &part.names {
+        if names.len() >= limit {
+            return Ok(());
+        }
+        add_name(name.as_str(), names, limit)?;
+    }
+    Ok(())
+}
+
+/// The first unlike names of the parts, no more than `limit`.
+pub(crate) fn first_names<'a>(
+    alloc: Global,
+    parts: &[&'a Part],
+    limit: usize,
+) -> Result<Vec<&'a str>, AllocError>
+    ensures { IfOk result (λ names. map (λ name. name.now) names.items ≡ take limit (unlike (flat_map part_names (map (λ p. part_content p.now) parts.now)))) }
 {
     let mut names = Vec::new(alloc);
     for part in parts {
-        add_names(alloc, part, &mut names)?;
+        if names.len() >= limit {
+            return Ok(names);
+        }
+        add_names(part, &mut names, limit)?;
     }
     Ok(names)
 }
@@ -68,47 +96,56 @@ fn server_text(alloc: Global, name: Name, server: Server) -> Result<String, Allo
     }
 }
 
-/// Appends the texts of a part's servers.
-fn add_servers(alloc: Global, part: &Part, servers: &mut Vec<String>) -> Result<(), AllocError>
-    ensures { OnOk result (map (λ text. string_bytes text) servers.new.items ≡ map (λ text. string_bytes text) servers.old.items ++ part_servers (part_content part.now)) }
+/// Whether a text is one of the texts.
+fn is_printed(texts: &[String], text: &str) -> bool
+    ensures { result ≡ list_any (λ other. bytes_eq (string_bytes other) text.now) texts.now }
 {
-    for server in &part.servers {
-        servers.push(server_text(alloc, part.name, *server)?)?;
+    texts.iter().any(|other| other.as_str() == text)
+}
+
+/// Appends the text of a server that is unlike those before it.
+fn add_server(text: String, servers: &mut Vec<String>, limit: usize) -> Result<(), AllocError>
+    requires { length servers.old.items < limit }
+    ensures { OnOk result (KeepsOn limit (string_bytes text ∷ []) (map (λ text. string_bytes text) servers.old.items) (map (λ text. string_bytes text) servers.new.items)) }
+{
+    if !is_printed(servers, text.as_str()) {
+        servers.push(text)?;
     }
     Ok(())
 }
 
-/// The texts of all parts' servers.
-pub(crate) fn all_servers(alloc: Global, parts: &[&Part]) -> Result<Vec<String>, AllocError>
-    ensures { IfOk result (λ servers. map (λ text. string_bytes text) servers.items ≡ flat_map part_servers (map (λ p. part_content p.now) parts.now)) }
+/// Appends the texts of a part's servers, until there are as many as the limit says.
+fn add_servers(
+    alloc: Global,
+    part: &Part,
+    servers: &mut Vec<String>,
+    limit: usize,
+) -> Result<(), AllocError>
+    ensures { OnOk result (KeepsOn limit (part_servers (part_content part.now)) (map (λ text. string_bytes text) servers.old.items) (map (λ text. string_bytes text) servers.new.items)) }
+{
+    for server in &part.servers {
+        if servers.len() >= limit {
+            return Ok(());
+        }
+        add_server(server_text(alloc, part.name, *server)?, servers, limit)?;
+    }
+    Ok(())
+}
+
+/// The first unlike texts of the parts' servers, no more than `limit`.
+pub(crate) fn first_servers(
+    alloc: Global,
+    parts: &[&Part],
+    limit: usize,
+) -> Result<Vec<String>, AllocError>
+    ensures { IfOk result (λ servers. map (λ text. string_bytes text) servers.items ≡ take limit (unlike (flat_map part_servers (map (λ p. part_content p.now) parts.now)))) }
 {
     let mut servers = Vec::new(alloc);
     for part in parts {
-        add_servers(alloc, part, &mut servers)?;
+        if servers.len() >= limit {
+            return Ok(servers);
+        }
+        add_servers(alloc, part, &mut servers, limit)?;
     }
     Ok(servers)
-}
-
-/// Whether a text is one of the texts.
-fn is_among(texts: &[&str], text: &str) -> bool
-    ensures { result ≡ list_any (λ other. bytes_eq other.now text.now) texts.now }
-{
-    texts.iter().any(|other| *other == text)
-}
-
-/// The first unlike texts, no more than `limit`.
-pub(crate) fn first_unlike<'a>(
-    alloc: Global,
-    texts: &'a [String],
-    limit: usize,
-) -> Result<Vec<&'a str>, AllocError>
-    ensures { IfOk result (λ kept. map (λ text. text.now) kept.items ≡ take limit (unlike (map (λ text. string_bytes text) texts.now))) }
-{
-    let mut kept = Vec::new(alloc);
-    for text in texts {
-        if kept.len() < limit && !is_among(&kept, text.as_str()) {
-            kept.push(text.as_str())?;
-        }
-    }
-    Ok(kept)
 }

@@ -6,4 +6,4 @@ use Rattle.resolver_text.proofs.resolver_lines.add_servers.Given as goal
 
 abbrev pub invariant-loop-server : goal.invariant-loop-server
 invariant-loop-server l =
-    string_bytes l.text ≡ string_bytes l.fn.text ++ lines_text (map server_line (map (λ server. server.now) (take l.server-index l.servers)))
+    string_bytes l.text ≡ string_bytes l.fn.text ++ lines_text (map server_line (map (λ server. string_bytes server) (take l.server-index l.servers)))
