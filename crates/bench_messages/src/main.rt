@@ -1,8 +1,10 @@
 //! Reads a server's message and the values of its options many times, for the figure in bench/README.md.
-//! The first argument is how many times, and the word `borrowed` after it says that the values are read in place.
+//! The first argument is how many times, and the word `borrowed` after it says that the values are read in place,
+//! `indexed` that they are read so by an index of the message's options.
 #![tactic(auto)]
 
 use net_types::NoMemory;
+use option_index::{Found, OptionIndex};
 use std::alloc::Global;
 use std::{env, io};
 use v4_message::{Msg4, read4};
@@ -15,6 +17,8 @@ enum Way {
     Copied,
     /// Numbers and addresses are read as such, and the instances of the others one by one, where they lie.
     Borrowed,
+    /// As `Borrowed`, where one pass over the message told where they lie.
+    Indexed,
 }
 
 /// How many readings there are without an argument.
@@ -107,6 +111,44 @@ fn borrowed_len(options: &OptionView, code: u8) -> usize {
     }
 }
 
+/// How many bytes the value of a code has, which the index finds.
+fn found_len(index: &OptionIndex, options: &OptionView, code: u8) -> usize {
+    match index.value_at(code) {
+        Found::Absent => 0,
+        Found::Whole(value) => value.len(),
+        Found::Split => pieces_len(options, code),
+    }
+}
+
+/// How many bytes the value of a code has, which is read in place by the index.
+fn indexed_len(index: &OptionIndex, options: &OptionView, code: u8) -> usize {
+    match code {
+        code::SERVER_IDENTIFIER | code::SUBNET_MASK | code::BROADCAST_ADDRESS => {
+            match index.addr_at(code) {
+                Some(address) => address.octets().len(),
+                None => 0,
+            }
+        }
+        code::LEASE_TIME | code::RENEWAL_TIME | code::REBINDING_TIME => {
+            match index.u32_at(code) {
+                Some(number) => number.to_be_bytes().len(),
+                None => 0,
+            }
+        }
+        _ => found_len(index, options, code),
+    }
+}
+
+/// How many bytes the values have, which are read by an index.
+fn indexed_values_len(options: &OptionView) -> usize {
+    let index = OptionIndex::of(options);
+    let mut all = 0usize;
+    for code in CODES {
+        all = all.wrapping_add(indexed_len(&index, options, code));
+    }
+    all
+}
+
 /// How many bytes the values have.
 fn values_len(alloc: Global, way: Way, message: &Msg4) -> Result<usize, NoMemory> {
     let mut all = 0usize;
@@ -114,6 +156,7 @@ fn values_len(alloc: Global, way: Way, message: &Msg4) -> Result<usize, NoMemory
         let len = match way {
             Way::Copied => copied_len(alloc, &message.options, code)?,
             Way::Borrowed => borrowed_len(&message.options, code),
+            Way::Indexed => return Ok(indexed_values_len(&message.options)),
         };
         all = all.wrapping_add(len);
     }
@@ -142,6 +185,7 @@ fn asked(rt: &HostRuntime) -> io::Result<(u32, Way)> {
     };
     let way = match words.next() {
         Some(word) if word.as_str() == "borrowed" => Way::Borrowed,
+        Some(word) if word.as_str() == "indexed" => Way::Indexed,
         _ => Way::Copied,
     };
     Ok((readings, way))
