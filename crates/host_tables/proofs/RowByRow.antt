@@ -8,7 +8,7 @@ use Rattle.std.specs.BTreeMap.{is_at}
 use Rattle.world.specs.declared.rows.HostRow.{HostRow}
 use Rattle.world.specs.RowOrder.{row_cmp, has_row}
 use Rattle.host_tables.specs.Bringings.{contends, stands, stands_at, stands_for}
-use Rattle.host_tables.proofs.Contending.{equal_turned}
+use Rattle.host_tables.proofs.Contending.{equal_turned, row_is}
 
 or_none : (a : Bool) → (a || false) ≡ a
 or_none true = refl
@@ -100,6 +100,10 @@ or_here : (e w : Bool) → cond e true w ≡ (e || w)
 or_here true w = refl
 or_here false w = refl
 
+not_here : (e w : Bool) → cond e false w ≡ (not e && w)
+not_here true w = refl
+not_here false w = refl
+
 pub removed_more : (rows : List HostRow) (i : ℕ) (d q : HostRow) (was now new : Bool) → i < length rows
     → now ≡ (was && not (has_row (take i rows) q)) → new ≡ (not (is_eq (row_cmp q (get_or rows i d))) && now) → new ≡ (was && not (has_row (take (i + 1) rows) q))
 removed_more rows i d q was now new lt so_far step = taken_more rows i d q true (is_eq (row_cmp q (get_or rows i d))) was now new lt so_far step refl
@@ -108,7 +112,41 @@ pub added_more : (rows : List HostRow) (i : ℕ) (d q : HostRow) (was now new : 
     → now ≡ (was || has_row (take i rows) q) → new ≡ (is_eq (row_cmp q (get_or rows i d)) || now) → new ≡ (was || has_row (take (i + 1) rows) q)
 added_more rows i d q was now new lt so_far step = brought_more rows i d q true (is_eq (row_cmp q (get_or rows i d))) was now new lt so_far step refl
 
-pub inserted_more : (rows : List HostRow) (i : ℕ) (d q : HostRow) (was now new : Bool) → i < length rows
-    → now ≡ (was || has_row (take i rows) q) → new ≡ cond (is_eq (row_cmp (get_or rows i d) q)) true now → new ≡ (was || has_row (take (i + 1) rows) q)
-inserted_more rows i d q was now new lt so_far step =
-    added_more rows i d q was now new lt so_far (step ∙ or_here (is_eq (row_cmp (get_or rows i d) q)) now ∙ ap (λ (b : Bool). b || now) (equal_turned (get_or rows i d) q))
+pub dropped_more : (rows : List HostRow) (i : ℕ) (d q : HostRow) (was now new : Bool) → i < length rows
+    → now ≡ (was && not (has_row (take i rows) q)) → new ≡ cond (is_eq (row_cmp (get_or rows i d) q)) false now → new ≡ (was && not (has_row (take (i + 1) rows) q))
+dropped_more rows i d q was now new lt so_far step =
+    removed_more rows i d q was now new lt so_far
+    (step ∙ not_here (is_eq (row_cmp (get_or rows i d) q)) now ∙ ap (λ (b : Bool). not b && now) (equal_turned (get_or rows i d) q))
+
+-- ---- rows that others lack
+
+only_if : (h e : Bool) → (e ≡ true → h ≡ false) → e ≡ (not h && e)
+only_if true true f = f refl
+only_if true false f = refl
+only_if false e f = refl
+
+off_if : (h e : Bool) → (e ≡ true → h ≡ true) → false ≡ (not h && e)
+off_if true e f = refl
+off_if false true f = f refl
+off_if false false f = refl
+
+module _ (others rows : List HostRow) (i : ℕ) (d q : HostRow) (was now : Bool) (lt : i < length rows)
+    (so_far : now ≡ (was || (not (has_row others q) && has_row (take i rows) q))) where
+  abbrev row : HostRow
+  row = get_or rows i d
+
+  abbrev is_it : Bool
+  is_it = is_eq (row_cmp q row)
+
+  answers : is_it ≡ true → has_row others q ≡ has_row others row
+  answers e = ap (has_row others) (row_is q row e)
+
+  pub put_more : (new : Bool) → has_row others row ≡ false → new ≡ cond (is_eq (row_cmp row q)) true now
+      → new ≡ (was || (not (has_row others q) && has_row (take (i + 1) rows) q))
+  put_more new lacks step =
+      brought_more rows i d q (not (has_row others q)) is_it was now new lt so_far
+      (step ∙ or_here (is_eq (row_cmp row q)) now ∙ ap (λ (b : Bool). b || now) (equal_turned row q))
+      (only_if (has_row others q) is_it (λ e. answers e ∙ lacks))
+
+  pub left_out : has_row others row ≡ true → now ≡ (was || (not (has_row others q) && has_row (take (i + 1) rows) q))
+  left_out has = brought_more rows i d q (not (has_row others q)) false was now now lt so_far refl (off_if (has_row others q) is_it (λ e. answers e ∙ has))

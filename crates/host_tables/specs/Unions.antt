@@ -8,6 +8,7 @@ use Rattle.world.specs.RowOrder.{has_row, rows_beyond}
 use Rattle.host_model.specs.HostTable.{InRowOrder}
 use Rattle.host_model.specs.Precedence.{all_rows, wanted_of}
 use Rattle.host_tables.specs.Bringings.{InBringingOrder, has_bringing, stands, stands_for}
+use Rattle.host_tables.specs.declared.diffs.Diffs.{Diffs}
 use Rattle.host_tables.specs.declared.union.Diff.{Diff}
 use Rattle.host_tables.specs.declared.union.Union.{Union}
 
@@ -59,6 +60,11 @@ pub record KeepsRows (old new : Union) : Type 0 where
 pub record Differ (before after : List (List HostRow)) (diff : Diff) : Type 0 where
   pub gone : diff.gone.items ≡ rows_beyond (wanted_of after) (wanted_of before)
   pub come : diff.come.items ≡ rows_beyond (wanted_of before) (wanted_of after)
+
+-- the same of several changes, one after another
+pub record Sums (before after : List (List HostRow)) (diffs : Diffs) : Type 0 where
+  pub gone : diffs.gone.keys ≡ rows_beyond (wanted_of after) (wanted_of before)
+  pub come : diffs.come.keys ≡ rows_beyond (wanted_of before) (wanted_of after)
 
 pub record Exchanged (before after : List (List HostRow)) (union : Union) (diff : Diff) : Type 0 where
   pub unites : Unites after union

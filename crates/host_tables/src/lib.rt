@@ -2,6 +2,7 @@
 #![tactic(auto)]
 
 mod bringing;
+mod diffs;
 mod host_rows;
 mod standing;
 mod tables;
@@ -10,6 +11,7 @@ mod tests;
 mod union;
 
 pub use counted_search::Steps;
+pub use diffs::Diffs;
 pub use host_rows::HostRows;
 pub use tables::Tables;
 pub use union::Diff;

@@ -1,6 +1,6 @@
 ghost use Rattle.world.specs.Rows.{IsInterface, IsRow};
 
-use crate::{Diff, HostRows, Steps, Tables};
+use crate::{Diffs, HostRows, Steps, Tables};
 use net_types::{IfIndex, Ip4, Net, Net4};
 use std::alloc::{AllocError, Global};
 use std::test::Fail;
@@ -107,10 +107,27 @@ fn one_change_after_another_is_told_as_one(rt: HostRuntime) -> Result<(), Fail> 
     tables.push(HostRows::new(rt.alloc()))?;
     let first = tables.change(0, rows_of(rt.alloc(), BY_ONE)?, &mut steps)?;
     let second = tables.change(0, rows_of(rt.alloc(), BY_TWO)?, &mut steps)?;
-    let diff = Diff::none(rt.alloc())
-        .then(rt.alloc(), first)?
-        .then(rt.alloc(), second)?;
+    let mut diffs = Diffs::none(rt.alloc());
+    diffs.add(&first)?;
+    diffs.add(&second)?;
+    let diff = diffs.into_diff(rt.alloc())?;
     assert!(rt; diff.gone.is_empty());
     assert_eq!(rt; diff.come.as_slice(), [BY_TWO].as_slice());
+    Ok(())
+}
+
+#[test]
+fn of_a_row_that_comes_back_nothing_is_told(rt: HostRuntime) -> Result<(), Fail> {
+    let mut steps = Steps::new();
+    let mut tables = Tables::new(rt.alloc());
+    tables.push(rows_of(rt.alloc(), BY_ONE)?)?;
+    let first = tables.change(0, rows_of(rt.alloc(), BY_TWO)?, &mut steps)?;
+    let second = tables.change(0, rows_of(rt.alloc(), BY_ONE)?, &mut steps)?;
+    let mut diffs = Diffs::none(rt.alloc());
+    diffs.add(&first)?;
+    diffs.add(&second)?;
+    let diff = diffs.into_diff(rt.alloc())?;
+    assert!(rt; diff.gone.is_empty());
+    assert!(rt; diff.come.is_empty());
     Ok(())
 }

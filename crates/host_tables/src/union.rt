@@ -1,20 +1,16 @@
 //! The rows of all places in order: a change costs searches for its own rows, however many there are.
 
-ghost use Rattle.std.specs.Prelude.{◌≡◌, ◌||◌, ◌+◌, ◌*◌, ◌^◌, ◌<◌, ◌≤◌, ℕ, List, [], length, vec_len, IfOk, OnOk, OnErr};
+ghost use Rattle.std.specs.Prelude.{◌+◌, ◌*◌, ◌^◌, ◌<◌, ◌≤◌, ℕ, [], length, vec_len, IfOk, OnErr};
 ghost use Rattle.std.specs.Vec.{vec_capacity};
-ghost use Rattle.world.specs.declared.rows.HostRow.{HostRow};
-ghost use Rattle.world.specs.RowOrder.{has_row, rows_beyond};
 ghost use Rattle.host_model.specs.HostTable.{InRowOrder};
 ghost use Rattle.host_tables.specs.Bringings.{InBringingOrder};
 ghost use Rattle.host_tables.specs.Costs.{AreFew, HasRoom, IsEmpty, RoomFor, most_steps};
-ghost use Rattle.host_tables.specs.Unions.{AddsRows, Brings, Differ, Exchanges, KeepsRows, RemovesRows, TakesOut, Unites};
+ghost use Rattle.host_tables.specs.Unions.{AddsRows, Brings, Exchanges, KeepsRows, RemovesRows, TakesOut, Unites};
 
 use crate::bringing::Bringing;
 use crate::standing::heads_into;
 use counted_search::{Steps, beyond_into, put_in};
-use net_types::NoMemory;
 use std::alloc::{AllocError, Global};
-use std::collections::BTreeSet;
 use world::HostRow;
 
 /// The rows of all places, in order: each place with each of its rows, and the rows that are wanted.
@@ -66,67 +62,6 @@ fn add_all(all: &mut Vec<HostRow>, rows: &[HostRow], steps: &mut Steps)
 {
     for row in rows {
         put_in(all, 0, *row, steps);
-    }
-}
-
-/// Puts these rows into a set.
-fn add_each(set: &mut BTreeSet<HostRow>, rows: &[HostRow]) -> Result<(), AllocError>
-    ensures has { OnOk result ((q : HostRow) → has_row set.new.keys q ≡ (has_row set.old.keys q || has_row rows.now q)) }
-    ensures in_order { OnOk result (InRowOrder set.old.keys → InRowOrder set.new.keys) }
-{
-    for row in rows {
-        let _is_new = set.insert(*row)?;
-    }
-    Ok(())
-}
-
-/// The rows of two lists, in whatever order they are.
-fn set_of(
-    alloc: Global,
-    rows: &[HostRow],
-    more: &[HostRow],
-) -> Result<BTreeSet<HostRow>, AllocError>
-    ensures has { IfOk result (λ set. (q : HostRow) → has_row set.keys q ≡ (has_row rows.now q || has_row more.now q)) }
-    ensures in_order { IfOk result (λ set. InRowOrder set.keys) }
-{
-    let mut set = BTreeSet::new(alloc);
-    add_each(&mut set, rows)?;
-    add_each(&mut set, more)?;
-    Ok(set)
-}
-
-/// The rows of a set that another lacks, in row order.
-fn beyond(
-    alloc: Global,
-    rows: &BTreeSet<HostRow>,
-    others: &BTreeSet<HostRow>,
-) -> Result<Vec<HostRow>, AllocError>
-    ensures { IfOk result (λ found. found.items ≡ rows_beyond others.now.keys rows.now.keys) }
-{
-    rows.difference(others).copied().collect(alloc)
-}
-
-impl Diff {
-    /// Nothing changes.
-    pub fn none(alloc: Global) -> Diff
-        ensures { (places : List (List HostRow)) → Differ places places result }
-    {
-        Diff {
-            gone: Vec::new(alloc),
-            come: Vec::new(alloc),
-        }
-    }
-
-    /// This change, and the next one after it.
-    pub fn then(self, alloc: Global, next: Diff) -> Result<Diff, NoMemory>
-        ensures { IfOk result (λ both. (before between after : List (List HostRow)) → Differ before between self → Differ between after next → Differ before after both) }
-    {
-        let gone = set_of(alloc, &self.gone, &next.gone)?;
-        let come = set_of(alloc, &self.come, &next.come)?;
-        Ok(Diff {
-            gone: beyond(alloc, &gone, &come)?,
-            come: beyond(alloc, &come, &gone)?,
-        })
     }
 }
 
