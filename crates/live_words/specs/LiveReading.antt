@@ -1,13 +1,13 @@
 -- How the words of `live` are read, one by one. A law says that what is read is what the words say.
-use Rattle.std.specs.Prelude.{ℕ, ◌+◌, Bool, true, false, not, ◌&&◌, nat_le, List, [], ◌∷◌, length, Option, Some, None, bytes_eq, codes, ◌==◌, if◌then◌else◌}
-use Rattle.std.specs.List.{list_all}
+use Rattle.std.specs.Prelude.{ℕ, ◌+◌, Bool, false, not, ◌&&◌, nat_le, List, [], ◌∷◌, length, Option, Some, None, bytes_eq, codes, ◌==◌, if◌then◌else◌}
 use Rattle.net_types.specs.declared.interface.IfSpec.{IfSpec}
 use Rattle.net_types.specs.declared.interface.Name.{Name}
 use Rattle.net_types.specs.declared.address.Mac.{Mac}
 use Rattle.net_types.specs.AddressText.{mac_at}
 use Rattle.net_types.specs.Cutting.{◌>>=◌, pair_at, guarded}
-use Rattle.net_types.specs.NameText.{name_at, name_text}
+use Rattle.net_types.specs.NameText.{name_at}
 use Rattle.net_types.specs.Numbers.{number_at}
+use Rattle.iface_lists.specs.UnlikeIfaces.{all_unlike}
 use Rattle.live_words.specs.LiveWords.{hyphen, equals_sign}
 
 unfoldable pub port_at : List ℕ → Option ℕ
@@ -36,13 +36,6 @@ specs_at number (word ∷ words) = do
   named ← named_at word
   specs ← specs_at (number + 1) words
   Some (spec_of number named ∷ specs)
-
-abbrev pub is_unlike : IfSpec → IfSpec → Bool
-is_unlike a b = not (bytes_eq (name_text a.name) (name_text b.name)) && not (bytes_eq a.mac.bytes b.mac.bytes)
-
-abbrev pub all_unlike : List IfSpec → Bool
-all_unlike [] = true
-all_unlike (spec ∷ specs) = list_all (is_unlike spec) specs && all_unlike specs
 
 unfoldable pub ifaces_at : List (List ℕ) → Option (List IfSpec)
 ifaces_at words =

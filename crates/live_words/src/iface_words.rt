@@ -1,13 +1,13 @@
 //! The words that name interfaces, read.
 ghost use Rattle.std.specs.Prelude.{◌≡◌, ◌≤◌, length, map, option_map};
-ghost use Rattle.std.specs.List.{list_all};
 ghost use Rattle.std.specs.String.{string_bytes};
 ghost use Rattle.net_types.specs.Cutting.{field_at};
 ghost use Rattle.net_types.specs.NameText.{name_at};
 ghost use Rattle.live_words.specs.LiveWords.{equals_sign};
-ghost use Rattle.live_words.specs.LiveReading.{named_at, specs_at, is_unlike, all_unlike, ifaces_at};
+ghost use Rattle.live_words.specs.LiveReading.{named_at, specs_at, ifaces_at};
 
 use crate::listed::{Interfaces, MOST_INTERFACES};
+use iface_lists::all_unlike;
 use net_types::{IfIndex, IfSpec, Mac, Name, mac_of, name_of, split_at_byte};
 
 /// The name before the first `=`, and the text after it.
@@ -43,35 +43,6 @@ fn specs_of(words: &[String]) -> Option<Interfaces>
         number += 1;
     }
     Some(specs)
-}
-
-#[tactic(auto, unfolding(net_types::specs::NameText::name_text))]
-fn is_unlike(one: &IfSpec, other: &IfSpec) -> bool
-    ensures { result ≡ is_unlike one.now other.now }
-{
-    one.name.as_bytes() != other.name.as_bytes() && one.mac.bytes != other.mac.bytes
-}
-
-fn is_unlike_all(spec: &IfSpec, others: &[IfSpec]) -> bool
-    ensures { result ≡ list_all (is_unlike spec.now) others.now }
-{
-    others.iter().all(|other| is_unlike(spec, other))
-}
-
-/// Whether all names and all hardware addresses are unlike.
-fn all_unlike(specs: &[IfSpec]) -> bool
-    ensures { result ≡ all_unlike specs.now }
-{
-    match specs.split_first() {
-        None => true,
-        Some((spec, others)) => {
-            if is_unlike_all(spec, others) {
-                all_unlike(others)
-            } else {
-                false
-            }
-        }
-    }
 }
 
 /// The interfaces that the words spell: 1 to 64 of them, with unlike names and hardware addresses.

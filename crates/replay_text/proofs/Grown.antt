@@ -16,7 +16,7 @@ use Rattle.world.specs.declared.rows.HostRow.{HostRow}
 use Rattle.world.specs.RowOrder.{row_cmp, row_cmp_total, has_row, with_row, put_in_order, in_row_order}
 use Rattle.world.proofs.RowLists.{in_order_has, put_in_order_more}
 use Rattle.script_model.specs.Spellings.{AreSpelled}
-use Rattle.replay_text.proofs.TestLaws.{by_recursion}
+use Rattle.iface_lists.proofs.UnlikeLaws.{by_recursion}
 
 -- ---- fronts
 

@@ -33,6 +33,7 @@ use Rattle.script_model.specs.Scripts.{FitsGiven, FitsLife}
 use Rattle.script_model.specs.ScriptTexts.{LifeScript}
 use Rattle.script_model.specs.Spellings.{AreSpelled}
 use Rattle.script_model.specs.TurnSpellings.{SpellsGiven}
+use Rattle.iface_lists.proofs.UnlikeLaws.{by_recursion}
 use Rattle.replay_text.specs.declared.words.Word.{Word}
 use Rattle.replay_text.specs.declared.words.Word.TheVariants.{Head, Conf, Interface, Row, File, Fail, Hook, Start, Turn, Crash}
 use Rattle.replay_text.specs.Clocks.{clock_at, clock_after, clock_through, is_over, is_in_time}
@@ -55,7 +56,7 @@ use Rattle.replay_text.proofs.PollLaws.{poll_reads}
 use Rattle.replay_text.proofs.RowLaws.{row_finds}
 use Rattle.replay_text.proofs.SpellingLaws.{Finds}
 use Rattle.replay_text.proofs.ConfLineLaws.{conf_lines_of}
-use Rattle.replay_text.proofs.TestLaws.{by_recursion, interfaces_sound, interfaces_whole, listed_sound}
+use Rattle.replay_text.proofs.TestLaws.{interfaces_sound, interfaces_whole, listed_sound}
 use Rattle.replay_text.proofs.WordLaws.{word_is}
 
 -- ---- what a line that is taken is

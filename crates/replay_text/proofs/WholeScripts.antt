@@ -30,6 +30,7 @@ use Rattle.script_model.specs.ScriptTexts.{ScriptLines, LifeScript}
 use Rattle.script_model.specs.Spellings.{AreSpelled}
 use Rattle.script_model.specs.TurnSpellings.{SpellsGiven}
 use Rattle.script_model.proofs.SpelledRows.{spelled_printable}
+use Rattle.iface_lists.proofs.UnlikeLaws.{by_recursion}
 use Rattle.replay_text.specs.declared.words.Word.{Word}
 use Rattle.replay_text.specs.declared.words.Word.TheVariants.{Head, Conf, Interface, Row, File, Fail, Hook, Start, Turn, Crash}
 use Rattle.replay_text.specs.Clocks.{clock_at, clock_after, clock_through, is_over, is_in_time}
@@ -53,7 +54,7 @@ use Rattle.replay_text.proofs.RowLaws.{row_finds}
 use Rattle.replay_text.proofs.SpellingLaws.{Finds}
 use Rattle.replay_text.proofs.ConfLineLaws.{conf_lines_of}
 use Rattle.replay_text.proofs.TakenLines.{lines_ended, through_more}
-use Rattle.replay_text.proofs.TestLaws.{by_recursion, interfaces_whole, listed_whole}
+use Rattle.replay_text.proofs.TestLaws.{interfaces_whole, listed_whole}
 use Rattle.replay_text.proofs.WordLaws.{blank_word, conf_word}
 
 -- ---- one line

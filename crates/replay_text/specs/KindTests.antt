@@ -1,11 +1,11 @@
 -- What is asked of all lines of a kind together.
-use Rattle.std.specs.Prelude.{ℕ, ◌+◌, ◌≡◌, Bool, true, not, ◌&&◌, ◌==◌, nat_le, List, [], ◌∷◌, length, map, bytes_eq, String}
+use Rattle.std.specs.Prelude.{ℕ, ◌+◌, ◌≡◌, Bool, true, ◌&&◌, ◌==◌, nat_le, List, [], ◌∷◌, length, map, String}
 use Rattle.std.specs.Global.{Global}
-use Rattle.std.specs.List.{list_all, list_any}
+use Rattle.std.specs.List.{list_any}
 use Rattle.std.specs.Set.{is_member}
 use Rattle.std.specs.String.{string_bytes}
 use Rattle.net_types.specs.declared.interface.IfSpec.{IfSpec}
-use Rattle.net_types.specs.NameText.{name_text}
+use Rattle.iface_lists.specs.UnlikeIfaces.{all_unlike}
 use Rattle.world.specs.declared.wakes.Event.{Event}
 use Rattle.world.specs.declared.wakes.Event.TheVariants.{Frame, Carrier, Duplicate, Release, Rebind}
 use Rattle.world.specs.FileLists.{StoreFile, file_name}
@@ -14,13 +14,6 @@ use Rattle.world.specs.FileNames.{is_name}
 abbrev pub counts_from : ℕ → List IfSpec → Bool
 counts_from index [] = true
 counts_from index (spec ∷ specs) = spec.index.number == index && counts_from (index + 1) specs
-
-abbrev pub is_unlike : IfSpec → IfSpec → Bool
-is_unlike a b = not (bytes_eq (name_text a.name) (name_text b.name)) && not (bytes_eq a.mac.bytes b.mac.bytes)
-
-abbrev pub all_unlike : List IfSpec → Bool
-all_unlike [] = true
-all_unlike (spec ∷ specs) = list_all (is_unlike spec) specs && all_unlike specs
 
 -- few, numbered from 1, and unlike
 unfoldable pub interfaces_fit : List IfSpec → Bool

@@ -1,12 +1,12 @@
 //! Lines of a kind that must be unlike: interfaces, rows and files, in the order in which they came.
 ghost use Rattle.std.specs.Prelude.{◌≡◌, [], ◌∷◌, ◌++◌, ◌+◌, ◌<◌, ◌≤◌, IfOk, IsTrue, Some, None, length, map, if◌then◌else◌, ◌==◌};
-ghost use Rattle.std.specs.List.{list_all};
-ghost use Rattle.replay_text.specs.KindTests.{counts_from, is_unlike, all_unlike, interfaces_fit};
+ghost use Rattle.replay_text.specs.KindTests.{counts_from, interfaces_fit};
 ghost use Rattle.replay_text.specs.ScriptContent.{file_of};
 ghost use Rattle.replay_text.specs.NextWords.{none_of};
 ghost use Rattle.replay_text.specs.NextLines.{fits_next, is_new_row, is_new_file};
 
 use crate::script::FileLine;
+use iface_lists::all_unlike;
 use net_types::{IfSpec, NoMemory};
 use std::alloc::Global;
 use std::collections::BTreeSet;
@@ -26,35 +26,6 @@ fn counts_from(index: u32, specs: &[IfSpec]) -> bool
         Some((spec, others)) => {
             if spec.index.number == index {
                 counts_from(index + 1, others)
-            } else {
-                false
-            }
-        }
-    }
-}
-
-#[tactic(auto, unfolding(net_types::specs::NameText::name_text))]
-fn is_unlike(one: &IfSpec, other: &IfSpec) -> bool
-    ensures { result ≡ is_unlike one.now other.now }
-{
-    one.name.as_bytes() != other.name.as_bytes() && one.mac.bytes != other.mac.bytes
-}
-
-fn is_unlike_all(spec: &IfSpec, others: &[IfSpec]) -> bool
-    ensures { result ≡ list_all (is_unlike spec.now) others.now }
-{
-    others.iter().all(|other| is_unlike(spec, other))
-}
-
-/// Whether all names and all hardware addresses are unlike.
-fn all_unlike(specs: &[IfSpec]) -> bool
-    ensures { result ≡ all_unlike specs.now }
-{
-    match specs.split_first() {
-        None => true,
-        Some((spec, others)) => {
-            if is_unlike_all(spec, others) {
-                all_unlike(others)
             } else {
                 false
             }

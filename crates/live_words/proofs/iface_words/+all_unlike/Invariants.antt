@@ -1,5 +1,0 @@
-use Rattle.std.proofs.Common.{length}
-use Rattle.live_words.proofs.iface_words.+all_unlike.Given as goal
-
-abbrev pub decreases-all_unlike : goal.decreases-all_unlike
-decreases-all_unlike l = length l.specs.now
