@@ -42,6 +42,10 @@ FailsNothing (Ok x) = Unit {0}
 FailsNothing (Err (Failed call)) = ⊥
 FailsNothing (Err NoMemory) = Unit {0}
 
+-- nothing was removed, and nothing settled
+abbrev pub ClearsNothing : Clearing → Type 0
+ClearsNothing clearing = (clearing.removed.items ≡ []) × (clearing.settled ≡ None)
+
 -- Removals are settled, where there was one.
 abbrev pub SettlesIfAny : {T : Type 0} → List T → Option Bool → Type 0
 SettlesIfAny [] settled = settled ≡ None

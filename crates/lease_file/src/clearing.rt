@@ -6,7 +6,7 @@ ghost use Rattle.world.specs.StoreCalls.{store_number, RemovedFile, SettledFiles
 ghost use Rattle.world.specs.FileLists.{asides};
 ghost use Rattle.lease_file.specs.Quiet.{IsQuiet};
 ghost use Rattle.lease_file.specs.ToldStore.{told_files, told_calls, with_calls};
-ghost use Rattle.lease_file.specs.AsideCalls.{HasListingCause, HasClearingCause, IsListingForetold, TellsRefusal, SettlesIfAny, FailsNothing, any_left, removal_calls, cleared_calls, listing_calls};
+ghost use Rattle.lease_file.specs.AsideCalls.{HasListingCause, HasClearingCause, IsListingForetold, TellsRefusal, SettlesIfAny, FailsNothing, ClearsNothing, any_left, removal_calls, cleared_calls, listing_calls};
 ghost use Rattle.lease_file.specs.StoreAnswers.{Answered};
 ghost use Rattle.lease_file.specs.AsideFiles.{without_one, without, TakesFile, TakesFiles};
 
@@ -114,7 +114,7 @@ pub fn clear_asides<S: Store>(alloc: Global, store: &mut S) -> Result<Clearing, 
     ensures foretold { IsListingForetold (S.failing store.old) (store_number (S.told store.old)) result }
     ensures refused { TellsRefusal (S.told store.old) (S.told store.new) result }
     ensures settled { IfOk result (λ clearing. SettlesIfAny clearing.removed.items clearing.settled) }
-    ensures quiet { IsQuiet (S.failing store.old) (S.told store.old) → IfOk result (λ clearing. (clearing.removed.items ≡ []) × (clearing.settled ≡ None)) × IsQuiet (S.failing store.new) (S.told store.new) × FailsNothing result }
+    ensures quiet { IsQuiet (S.failing store.old) (S.told store.old) → IfOk result ClearsNothing × IsQuiet (S.failing store.new) (S.told store.new) × FailsNothing result }
     ensures names { IfOk result (λ clearing. IfSome (S.told store.old) (λ told. map (λ cleared. string_bytes cleared.name) clearing.removed.items ≡ asides told.files)) }
     ensures calls { IfOk result (λ clearing. told_calls (S.told store.new) ≡ with_calls (cleared_calls clearing) (told_calls (S.told store.old))) }
     ensures taken { IfOk result (λ clearing. TakesFiles (S.failing store.old) clearing.removed.items (told_files (S.told store.old)) (told_files (S.told store.new))) }

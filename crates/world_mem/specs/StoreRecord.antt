@@ -1,5 +1,5 @@
 -- What a store in memory holds, and what its record of calls tells.
-use Rattle.std.specs.Prelude.{ℕ, Bool, true, false, not, ◌≡◌, List, [], ◌∷◌, length, map, fold, All, Some, None, String}
+use Rattle.std.specs.Prelude.{ℕ, Bool, true, false, not, ◌≡◌, List, [], ◌∷◌, length, map, fold, All, Some, None, is_some, String}
 use Rattle.std.specs.Global.{Global, Vec}
 use Rattle.std.specs.String.{string_bytes}
 use Rattle.world.specs.FileNames.{IsFileName, aside_of}
@@ -27,6 +27,10 @@ put_files sorted (file ∷ files) = put_files (put_file file sorted) files
 
 abbrev pub in_name_order : List StoreFile → List StoreFile
 in_name_order files = put_files [] files
+
+-- The aside of this name, where there is one, takes the place of the file.
+abbrev pub Renames : (name : List ℕ) → (old new : List StoreFile) → (there : Bool) → Type 0
+Renames name old new there = let aside = file_at (aside_of name) old in (there ≡ is_some aside) × (new ≡ rename_file name aside old)
 
 -- a call that changes the files where it was done
 abbrev pub changed : Bool → StoreCall → (List StoreFile → List StoreFile) → StoreTold → StoreTold

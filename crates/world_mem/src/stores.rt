@@ -1,16 +1,16 @@
-ghost use Rattle.std.specs.Prelude.{◌≡◌, ◌+◌, ◌<◌, length, vec_len, [], ◌∷◌, ◌++◌, List, String, map, filter, All, IfOk, IfErr, OnOk, OnErr, is_some};
+ghost use Rattle.std.specs.Prelude.{◌≡◌, ◌+◌, ◌<◌, length, vec_len, [], ◌∷◌, ◌++◌, List, String, map, filter, All, IfOk, IfErr, OnOk, OnErr};
 ghost use Rattle.std.specs.Global.{Global as Heap};
 ghost use Rattle.std.specs.String.{string_bytes};
 ghost use Rattle.std.specs.BTreeMap.{keys};
 ghost use Rattle.std.specs.Vec.{vec_capacity};
 ghost use Rattle.world_mem.specs.Fuse.{first_stopped};
 ghost use Rattle.world.specs.FileNames.{IsFileName, aside_of};
-ghost use Rattle.world.specs.FileLists.{is_aside, file_at, put_file, rename_file};
+ghost use Rattle.world.specs.FileLists.{is_aside, file_at, put_file};
 ghost use Rattle.world.specs.StoreCalls.{Appended};
 ghost use Rattle.world.specs.CrashImages.{IsImage};
 ghost use Rattle.world.specs.SoundStores.{reads_of};
 ghost use Rattle.world_mem.specs.CrashRecord.{after_crash};
-ghost use Rattle.world_mem.specs.StoreRecord.{store_start, entry_file, file_of, in_name_order};
+ghost use Rattle.world_mem.specs.StoreRecord.{Renames, store_start, entry_file, file_of, in_name_order};
 
 use crate::crashes::Pick;
 use crate::fails::Fails;
@@ -252,7 +252,7 @@ fn append_file(files: &Files, name: &str, into: &mut Vec<u8>) -> Result<bool, De
 
 /// Puts the aside of a file in its place and says whether there was one.
 pub(crate) fn rename(alloc: Global, files: &mut Files, name: &str) -> Result<bool, DeviceAnswer>
-    ensures ok { IfOk result (λ there. (there ≡ is_some (file_at (aside_of name.now) (map entry_file files.old.entries))) × (map entry_file files.new.entries ≡ rename_file name.now (file_at (aside_of name.now) (map entry_file files.old.entries)) (map entry_file files.old.entries))) }
+    ensures ok { IfOk result (Renames name.now (map entry_file files.old.entries) (map entry_file files.new.entries)) }
     ensures unchanged { OnErr result (files.new.entries ≡ files.old.entries) }
     ensures err { IfErr result (λ e. e ≡ DeviceAnswer.NoMemory) }
 {
