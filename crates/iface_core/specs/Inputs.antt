@@ -3,6 +3,8 @@ use Rattle.std.specs.Prelude.{ℕ, List, [], length}
 use Rattle.world.specs.declared.wakes.Event.{Event}
 use Rattle.world.specs.declared.wakes.Event.TheVariants.{Frame, Carrier, Duplicate, Release, Rebind, Stop, Quiet}
 use Rattle.net_types.specs.declared.address.Mac.{Mac}
+use Rattle.v4_frames.specs.Heard.{heard4_in}
+use Rattle.v6_frames.specs.Heard.{heard6_in}
 use Rattle.client_model.specs.declared.interfaces.Iface.{Iface}
 use Rattle.client_model.specs.IfaceSteps.{IfaceStep}
 use Rattle.client_model.specs.IfaceTurns as run
@@ -31,6 +33,11 @@ bytes_of given.Quiet = []
 
 abbrev pub turn_of : Turn → run.Turn
 turn_of turn = record { at = turn.at; salt = turn.salt; unsent = turn.unsent; event = event_of turn.input; bytes = bytes_of turn.input }
+
+-- what an interface makes of the server's message of a frame
+abbrev pub hears_server : (at salt : ℕ) → List ℕ → Iface → IfaceStep
+hears_server at salt bytes iface =
+    let mac = iface.managed.spec.mac in run.hears_message at salt (heard4_in mac bytes) (heard6_in mac bytes) iface
 
 -- what an interface makes of the input of a turn
 abbrev pub input_of : List Mac → Turn → Iface → IfaceStep

@@ -3,11 +3,10 @@ ghost use Rattle.machine.specs.Moment.{is_due};
 ghost use Rattle.settings.specs.Fitting.{FitsManaged};
 ghost use Rattle.world.specs.Rows.{IsInterface};
 ghost use Rattle.client_model.specs.IfaceSteps.{index_of};
-ghost use Rattle.v4_frames.specs.Heard.{heard4_in};
 ghost use Rattle.v6_frames.specs.Heard.{heard6_in};
 ghost use Rattle.client_model.specs.Interfaces as run;
-ghost use Rattle.client_model.specs.IfaceTurns.{arp_heard, hears, hears_message, hears_message6, hears_packet, iface_turned};
-ghost use Rattle.iface_core.specs.Inputs.{input_of, turn_of};
+ghost use Rattle.client_model.specs.IfaceTurns.{arp_heard, hears, hears_message6, hears_packet, iface_turned};
+ghost use Rattle.iface_core.specs.Inputs.{hears_server, input_of, turn_of};
 ghost use Rattle.iface_core.specs.Outcomes.{Goes, asked_in};
 
 use crate::dhcp4::{hear_message, hear_packet, tick_dhcp4};
@@ -165,7 +164,7 @@ fn hear_server(
 ) -> Result<(), NoMemory>
     requires at { turn.now.at < 10 ^ 15 }
     requires fits { FitsManaged iface.old.managed }
-    ensures { OnOk result (Goes (hears_message turn.now.at turn.now.salt (heard4_in iface.old.managed.spec.mac bytes.now) (heard6_in iface.old.managed.spec.mac bytes.now) iface.old) iface.new (asked_in outs.old) (asked_in outs.new)) }
+    ensures { OnOk result (Goes (hears_server turn.now.at turn.now.salt bytes.now iface.old) iface.new (asked_in outs.old) (asked_in outs.new)) }
 {
     match heard4_of(iface.managed.spec.mac, bytes) {
         None => hear_dhcp6(iface, bytes, turn, outs),
