@@ -92,18 +92,18 @@ fn pieces_len(options: &OptionView, code: u8) -> usize {
     len
 }
 
-/// How many bytes the value of a code has, which is read in place.
-fn borrowed_len(options: &OptionView, code: u8) -> usize {
+/// The number or address that a code's value is, or how many bytes the value has, which is read in place.
+fn borrowed_sum(options: &OptionView, code: u8) -> usize {
     match code {
         code::SERVER_IDENTIFIER | code::SUBNET_MASK | code::BROADCAST_ADDRESS => {
             match addr_at(options, code) {
-                Some(address) => address.octets().len(),
+                Some(address) => address.number as usize,
                 None => 0,
             }
         }
         code::LEASE_TIME | code::RENEWAL_TIME | code::REBINDING_TIME => {
             match u32_at(options, code) {
-                Some(number) => number.to_be_bytes().len(),
+                Some(number) => number as usize,
                 None => 0,
             }
         }
@@ -120,18 +120,18 @@ fn found_len(index: &OptionIndex, options: &OptionView, code: u8) -> usize {
     }
 }
 
-/// How many bytes the value of a code has, which is read in place by the index.
-fn indexed_len(index: &OptionIndex, options: &OptionView, code: u8) -> usize {
+/// The number or address that a code's value is, or how many bytes the value has, which is read in place by the index.
+fn indexed_sum(index: &OptionIndex, options: &OptionView, code: u8) -> usize {
     match code {
         code::SERVER_IDENTIFIER | code::SUBNET_MASK | code::BROADCAST_ADDRESS => {
             match index.addr_at(code) {
-                Some(address) => address.octets().len(),
+                Some(address) => address.number as usize,
                 None => 0,
             }
         }
         code::LEASE_TIME | code::RENEWAL_TIME | code::REBINDING_TIME => {
             match index.u32_at(code) {
-                Some(number) => number.to_be_bytes().len(),
+                Some(number) => number as usize,
                 None => 0,
             }
         }
@@ -139,41 +139,41 @@ fn indexed_len(index: &OptionIndex, options: &OptionView, code: u8) -> usize {
     }
 }
 
-/// How many bytes the values have, which are read by an index.
-fn indexed_values_len(options: &OptionView) -> usize {
+/// The sum over the values, which are read by an index.
+fn indexed_values_sum(options: &OptionView) -> usize {
     let index = OptionIndex::of(options);
     let mut all = 0usize;
     for code in CODES {
-        all = all.wrapping_add(indexed_len(&index, options, code));
+        all = all.wrapping_add(indexed_sum(&index, options, code));
     }
     all
 }
 
-/// How many bytes the values have.
-fn values_len(alloc: Global, way: Way, message: &Msg4) -> Result<usize, NoMemory> {
+/// The sum over the values: of their bytes where they are copied, else of the numbers and addresses and of the bytes of the others.
+fn values_sum(alloc: Global, way: Way, message: &Msg4) -> Result<usize, NoMemory> {
     let mut all = 0usize;
     for code in CODES {
-        let len = match way {
+        let found = match way {
             Way::Copied => copied_len(alloc, &message.options, code)?,
-            Way::Borrowed => borrowed_len(&message.options, code),
-            Way::Indexed => return Ok(indexed_values_len(&message.options)),
+            Way::Borrowed => borrowed_sum(&message.options, code),
+            Way::Indexed => return Ok(indexed_values_sum(&message.options)),
         };
-        all = all.wrapping_add(len);
+        all = all.wrapping_add(found);
     }
     Ok(all)
 }
 
-/// How many bytes the values have in all readings.
+/// The sum over the values of all readings.
 fn read_all(alloc: Global, way: Way, readings: u32) -> Result<usize, NoMemory> {
     let mut payload = ack(1);
-    let mut len = 0usize;
+    let mut sum = 0usize;
     for reading in 0..readings {
         payload[7] = (reading % 256) as u8;
         if let Ok(message) = read4(&payload) {
-            len = len.wrapping_add(values_len(alloc, way, &message)?);
+            sum = sum.wrapping_add(values_sum(alloc, way, &message)?);
         }
     }
-    Ok(len)
+    Ok(sum)
 }
 
 /// The number of readings and the way that the arguments tell.
@@ -194,7 +194,7 @@ fn asked(rt: &HostRuntime) -> io::Result<(u32, Way)> {
 fn main(rt: HostRuntime) -> io::Result<()> {
     let (readings, way) = asked(&rt)?;
     match read_all(rt.alloc(), way, readings) {
-        Ok(len) => println!(rt; "{readings} readings, {len} bytes of values"),
+        Ok(sum) => println!(rt; "{readings} readings, sum {sum}"),
         Err(_) => println!(rt; "no memory"),
     }
 }

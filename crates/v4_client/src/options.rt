@@ -1,8 +1,8 @@
 //! What a client reads of a message's options.
 
-ghost use Rattle.std.specs.Prelude.{◌≡◌, ◌≤◌, ◌++◌, true, IfNone, IfOk, IfSome, OnErr, OnOk};
+ghost use Rattle.std.specs.Prelude.{◌≡◌, ◌≤◌, ◌++◌, true, option_map, IfNone, IfOk, IfSome, OnErr, OnOk};
 ghost use Rattle.v4_options.specs.Numbers.{number_at};
-ghost use Rattle.v4_options.specs.OptionValue.{bytes_at};
+ghost use Rattle.v4_options.specs.OptionValue.{bytes_at, value_of};
 ghost use Rattle.v4_options.specs.OptionViews.{view_instances};
 ghost use Rattle.lease_text.specs.Leases.{values_content};
 ghost use Rattle.v4_client.specs.Granting.{class_len, kept_of, kept_values, mask_taken, net_len, terms_granted, times_of, times_taken, told_times, unless_refused, usual_times};
@@ -13,8 +13,9 @@ use crate::states::Exchange4;
 use arrayvec::ArrayVec;
 use lease_text::{INFINITE_LEASE, KEPT_CODES, Terms4, VALUE_LIMIT, Value, is_well_formed};
 use net_types::{Ip4, Net4, NoMemory};
+use option_index::{Found, OptionIndex};
 use std::alloc::Global;
-use v4_options::{OptionView, addr_at, code, pieces_of, u32_at, value};
+use v4_options::{OptionView, code, pieces_of, value};
 
 /// The renewal and rebinding times of a lease (T1 and T2), in seconds from its start.
 #[derive(Clone, Copy, Debug, PartialEq, Eq)]
@@ -147,34 +148,34 @@ fn is_among(codes: &[u8], code: u8) -> bool
 }
 
 /// The number that a code's value is, unless the code is refused.
-fn number_taken(view: &OptionView, refused: &[u8], code: u8) -> Option<u32>
-    ensures { result ≡ unless_refused refused.now code (number_at code (view_instances view.now)) }
+fn number_taken(index: &OptionIndex, refused: &[u8], code: u8) -> Option<u32>
+    ensures { result ≡ unless_refused refused.now code (number_at code index.now) }
 {
     if is_among(refused, code) {
         return None;
     }
-    u32_at(view, code)
+    index.u32_at(code)
 }
 
 /// The mask of the network, unless it is refused.
-fn mask_taken(view: &OptionView, refused: &[u8]) -> Option<Ip4>
-    ensures { result ≡ mask_taken refused.now (view_instances view.now) }
+fn mask_taken(index: &OptionIndex, refused: &[u8]) -> Option<Ip4>
+    ensures { result ≡ mask_taken refused.now index.now }
 {
     if is_among(refused, code::SUBNET_MASK) {
         return None;
     }
-    addr_at(view, code::SUBNET_MASK)
+    index.addr_at(code::SUBNET_MASK)
 }
 
 /// T1 and T2 of a lease of so many seconds.
-fn times_taken(view: &OptionView, refused: &[u8], lease: u32) -> Times4
-    ensures value { result ≡ times_taken refused.now (view_instances view.now) lease }
+fn times_taken(index: &OptionIndex, refused: &[u8], lease: u32) -> Times4
+    ensures value { result ≡ times_taken refused.now index.now lease }
     ensures ordered { result.t1 ≤ result.t2 }
     ensures within { result.t2 ≤ lease }
     ensures endless { lease ≡ INFINITE_LEASE → result.t1 ≡ INFINITE_LEASE }
 {
-    let t1 = number_taken(view, refused, code::RENEWAL_TIME);
-    let t2 = number_taken(view, refused, code::REBINDING_TIME);
+    let t1 = number_taken(index, refused, code::RENEWAL_TIME);
+    let t2 = number_taken(index, refused, code::REBINDING_TIME);
     times_of(lease, t1, t2)
 }
 
@@ -188,12 +189,12 @@ pub(crate) fn terms_granted(
 ) -> Terms4
     ensures value { result ≡ terms_granted refused.now (arrival_of arrival.now) exchange server lease }
 {
-    let options = &arrival.message.options;
-    let times = times_taken(options, refused, lease);
+    let index = OptionIndex::of(&arrival.message.options);
+    let times = times_taken(&index, refused, lease);
     Terms4 {
         net: Net4 {
             ip: exchange.address,
-            len: net_len(exchange.address, mask_taken(options, refused)),
+            len: net_len(exchange.address, mask_taken(&index, refused)),
         },
         server,
         server_mac: arrival.source,
@@ -204,20 +205,39 @@ pub(crate) fn terms_granted(
     }
 }
 
+/// The value of a code in memory of its own. Only a value of several instances is walked for, in the view.
+fn value_found(
+    alloc: Global,
+    index: &OptionIndex,
+    view: &OptionView,
+    code: u8,
+) -> Result<Option<Vec<u8>>, NoMemory>
+    requires { index.now ≡ view_instances view.now }
+    ensures { IfOk result (λ value. option_map (λ v. v.items) value ≡ value_of code index.now) }
+{
+    match index.value_at(code) {
+        Found::Absent => Ok(None),
+        Found::Whole(bytes) => Ok(Some(Vec::from_slice(alloc, bytes)?)),
+        Found::Split => value(alloc, view, code),
+    }
+}
+
 /// Keeps the value of a code, where it is there, of the form of its code, not too long, and not refused.
 fn push_kept(
     alloc: Global,
     kept: &mut Vec<Value>,
     code: u8,
+    index: &OptionIndex,
     view: &OptionView,
     refused: &[u8],
 ) -> Result<(), NoMemory>
-    ensures { OnOk result (values_content kept.new.items ≡ values_content kept.old.items ++ kept_of refused.now (view_instances view.now) code) }
+    requires { index.now ≡ view_instances view.now }
+    ensures { OnOk result (values_content kept.new.items ≡ values_content kept.old.items ++ kept_of refused.now index.now code) }
 {
     if is_among(refused, code) {
         return Ok(());
     }
-    let Some(bytes) = value(alloc, view, code)? else {
+    let Some(bytes) = value_found(alloc, index, view, code)? else {
         return Ok(());
     };
     if bytes.len() > VALUE_LIMIT {
@@ -241,9 +261,10 @@ pub(crate) fn kept_values(
 ) -> Result<Vec<Value>, NoMemory>
     ensures { IfOk result (λ values. values_content values.items ≡ kept_values refused.now (view_instances view.now)) }
 {
+    let index = OptionIndex::of(view);
     let mut values = Vec::new(alloc);
     for code in KEPT_CODES {
-        push_kept(alloc, &mut values, code, view, refused)?;
+        push_kept(alloc, &mut values, code, &index, view, refused)?;
     }
     Ok(values)
 }
