@@ -18,7 +18,8 @@ use Rattle.timer_queue.specs.Names.{AreNamed}
 use Rattle.timer_queue.specs.Places.{has}
 use Rattle.timer_queue.proofs.Waiting.{Waits, waits_first, waits_last, waits_put, waits_skip}
 use Rattle.resolver_text.specs.Parts.{PartContent, parts_content}
-use Rattle.host_tables.specs.Unions.{Differ}
+use Rattle.host_tables.specs.declared.union.Diff.{Diff}
+use Rattle.host_tables.specs.Unions.{Differ, Sums}
 use Rattle.client_model.specs.declared.interfaces.Iface.{Iface}
 use Rattle.client_model.specs.declared.steps.News.{News}
 use Rattle.client_model.specs.Clients.{Sending, sends_of}
@@ -70,7 +71,7 @@ module _ (own : List Mac) (turn : Turn) (xs : List Iface) where
     pub due : Waits place turn.at (map dues_of ys) kept.dues
     pub named : AreNamed (map index_of xs) kept.named
     pub compares : Compares walk.touched.resolver (all_told xs) (all_told ys)
-    pub leads : Differ (map iface_rows xs) (map iface_rows ys) walk.rows
+    pub leads : Sums (map iface_rows xs) (map iface_rows ys) walk.rows
     pub offer : asked.sends ≡ first.sends ++ flat_map (λ iface. sends_of (iface_turned own turn iface)) (take place xs)
     pub tell : asked.news ≡ first.news ++ flat_map (λ iface. news_of (iface_turned own turn iface)) (take place xs)
     pub untouched : AllByRecursion (Keeps (turned own turn) walk.touched.ifaces.items) (take place xs)
@@ -151,7 +152,7 @@ module _ (own : List Mac) (turn : Turn) (xs : List Iface) where
   -- ---- the walk begins
 
   pub begun : (kept taken : Kept) (places : Places) (walk : Walk) (first : Asked) (made : List Job) → IsRunning xs kept → Takes turn places kept taken
-      → walk.touched.ifaces.items ≡ [] → walk.touched.resolver ≡ Same → ((rows : List (List HostRow)) → Differ rows rows walk.rows) → first.told ≡ []
+      → walk.touched.ifaces.items ≡ [] → walk.touched.resolver ≡ Same → ((rows : List (List HostRow)) → Sums rows rows walk.rows) → first.told ≡ []
       → Walked 0 xs taken walk first first made (made ++ jobs_along [] xs (map step xs))
   begun kept taken places walk first made running takes none same stays untold = record {
     within = omega arith;
@@ -171,7 +172,7 @@ module _ (own : List Mac) (turn : Turn) (xs : List Iface) where
 
   -- ---- one that has its turn
 
-  module _ (place : ℕ) (ys : List Iface) (kept : Kept) (walk : Walk) (first asked : Asked) (made all : List Job)
+  module _ {place : ℕ} {ys : List Iface} {kept : Kept} {walk : Walk} {first asked : Asked} {made all : List Job}
       (in_place : place < length ys) (walked : Walked place ys kept walk first asked made all) where
     lt : place < length xs
     lt = subst (λ (n : ℕ). place < n) (as_long go xs ys place walked.go_on) in_place
@@ -191,7 +192,7 @@ module _ (own : List Mac) (turn : Turn) (xs : List Iface) where
     pub fits_before : (d : Iface) → AreIfaces xs → FitsIface (get_or ys place d)
     fits_before d fit = subst FitsIface (sym (next_of go xs ys place d gone)) (each_of FitsIface xs place d lt fit)
 
-    module _ (amid : Asked) (changes : Changes) (d new : Iface) (goes : Goes (step (get_or ys place d)) new asked amid)
+    module _ {amid : Asked} (changes : Changes) (d : Iface) {new : Iface} (goes : Goes (step (get_or ys place d)) new asked amid)
         (leaves : LeavesBut changes (get_or ys place d) new) where
       abbrev old : Iface
       old = get_or ys place d
@@ -213,14 +214,14 @@ module _ (own : List Mac) (turn : Turn) (xs : List Iface) where
             told = told_same ys (parts_content kept.parts.items) place new d walked.tells shown.told;
           }
 
-      pub one_more : (after : Asked) (more : List Job) (renewed : Renewed) (now : Kept) (longer : Walk) → Renews place new renewed kept now
+      pub one_more : {after : Asked} {more : List Job} {renewed : Renewed} {now : Kept} (longer : Walk) → Renews place new renewed kept now
           → longer.touched.ifaces.items ≡ walk.touched.ifaces.items ++ noted (may_keep changes) new.managed.spec.index
           → longer.touched.resolver ≡ either walk.touched.resolver renewed.resolver
           → LeadsOn renewed.rows walk.rows longer.rows
           → more ≡ made ++ flat_map (jobs_among (set ys place new)) amid.told
           → after ≡ record amid { told = [] }
           → Walked (place + 1) (set ys place new) now longer first after more all
-      one_more after more renewed now longer renews notes compares leads makes untold =
+      one_more {after} {more} {renewed} {now} longer renews notes compares leads makes untold =
           let tells_now : parts_content now.parts.items ≡ all_told (set ys place new) =
           renews.told ∙ told_more ys (parts_content kept.parts.items) place new walked.tells in
           let brings_now : now.tables ≡ map iface_rows (set ys place new) = brings_more ys kept.tables now.tables place new walked.brings renews.rows in
@@ -263,7 +264,7 @@ module _ (own : List Mac) (turn : Turn) (xs : List Iface) where
   same_indices [] = refl
   same_indices (z ∷ zs) = λ i. (turned_same own turn z i).spec.index.number ∷ same_indices zs i
 
-  module _ (place : ℕ) (ys : List Iface) (kept : Kept) (walk : Walk) (first asked : Asked) (made all : List Job) (past : length ys ≤ place)
+  module _ {place : ℕ} {ys : List Iface} {kept : Kept} {walk : Walk} {first asked : Asked} {made all : List Job} (past : length ys ≤ place)
       (walked : Walked place ys kept walk first asked made all) where
     over : length xs ≤ place
     over = subst (λ (n : ℕ). n ≤ place) (as_long go xs ys place walked.go_on) past
@@ -300,8 +301,10 @@ module _ (own : List Mac) (turn : Turn) (xs : List Iface) where
     pub done_jobs : made ≡ all
     done_jobs = jobs_done step xs place made all over walked.jobs
 
-    pub done_leads : Leads walk.rows (wanted_rows xs) (wanted_rows ys)
-    done_leads = record {
-      gone = walked.leads.gone ∙ (λ i. rows_beyond (wanted_same ys i) (wanted_same xs i));
-      come = walked.leads.come ∙ (λ i. rows_beyond (wanted_same xs i) (wanted_same ys i));
-    }
+    pub done_leads : (diff : Diff) → ((before after : List (List HostRow)) → Sums before after walk.rows → Differ before after diff) → Leads diff (wanted_rows xs) (wanted_rows ys)
+    done_leads diff all =
+        let differ : Differ (map iface_rows xs) (map iface_rows ys) diff = all (map iface_rows xs) (map iface_rows ys) walked.leads in
+        record {
+          gone = differ.gone ∙ (λ i. rows_beyond (wanted_same ys i) (wanted_same xs i));
+          come = differ.come ∙ (λ i. rows_beyond (wanted_same xs i) (wanted_same ys i));
+        }

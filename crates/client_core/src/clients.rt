@@ -166,21 +166,21 @@ pub fn step(core: Core, turn: Turn<'_>) -> Result<Stepped, NoMemory>
     } = core;
     let mut outs = Outs::new(alloc);
     let mut jobs = Vec::new(alloc);
-    let walk = turn_all(&mut ifaces, &mut kept, &turn, &own, &mut outs, &mut jobs)?;
+    let turned = turn_all(&mut ifaces, &mut kept, &turn, &own, &mut outs, &mut jobs)?;
     let core = Core {
         alloc,
         own,
         ifaces,
         kept,
-        looks: walk.looks,
-        changes: walk.changes,
+        looks: turned.looks,
+        changes: turned.changes,
     };
     Ok(Stepped {
         core,
         outs,
         jobs,
-        touched: walk.touched,
-        rows: walk.rows,
+        touched: turned.touched,
+        rows: turned.rows,
     })
 }
 

@@ -5,7 +5,7 @@ ghost use Rattle.settings.specs.Fitting.{FitsManaged};
 ghost use Rattle.client_model.specs.IfaceTurns.{iface_turned};
 ghost use Rattle.client_model.specs.Jobs.{jobs_along};
 ghost use Rattle.client_model.specs.WantedRows.{wanted_rows};
-ghost use Rattle.host_tables.specs.Unions.{Differ};
+ghost use Rattle.host_tables.specs.Unions.{Sums};
 ghost use Rattle.iface_core.specs.Inputs.{turn_of};
 ghost use Rattle.iface_core.specs.Outcomes.{Goes, asked_in};
 ghost use Rattle.client_core.specs.declared.effects.Resolver.TheVariants.{Same};
@@ -18,11 +18,10 @@ use crate::effects::{Changes, Resolver, Touched, note};
 use crate::hook_jobs::make_jobs;
 use crate::kept::{Kept, Renewed};
 use client_model::Iface;
-use host_tables::Diff;
+use host_tables::{Diff, Diffs};
 use iface_core::{Outs, Turn, iface_turn};
 use net_types::{IfIndex, Mac, NoMemory};
 use std::alloc::Global;
-use std::mem;
 use world::HookJob;
 
 /// A turn of an interface. Where nothing is new its rows are as before, and what it tells the resolver; where it says nothing either,
@@ -54,7 +53,7 @@ fn turn_iface(
 
 /// What came of a turn of all interfaces.
 #[derive(Drop)]
-pub struct Walk {
+pub struct AllTurned {
     /// What it touched of what goes into files.
     pub touched: Touched,
     /// How the rows changed that the host is to hold.
@@ -65,43 +64,44 @@ pub struct Walk {
     pub changes: u64,
 }
 
+/// The same of the interfaces that had their turn so far.
+#[derive(Drop)]
+struct Walk {
+    touched: Touched,
+    rows: Diffs,
+    looks: u64,
+    changes: u64,
+}
+
 impl Walk {
     /// No interface had its turn.
     fn new(alloc: Global) -> Walk
         ensures touched { result.touched.ifaces.items ≡ [] }
         ensures resolver { result.touched.resolver ≡ Same }
-        ensures rows { (places : List (List HostRow)) → Differ places places result.rows }
+        ensures rows { (places : List (List HostRow)) → Sums places places result.rows }
     {
         Walk {
             touched: Touched {
                 ifaces: Vec::new(alloc),
                 resolver: Resolver::Same,
             },
-            rows: Diff::none(alloc),
+            rows: Diffs::none(alloc),
             looks: 0,
             changes: 0,
         }
     }
 
     /// How the rows changed, with one change more.
-    fn lead_on(&mut self, alloc: Global, change: Diff) -> Result<(), NoMemory>
+    fn lead_on(&mut self, change: &Diff) -> Result<(), NoMemory>
         ensures touched { self.new.touched ≡ self.old.touched }
-        ensures rows { OnOk result (LeadsOn (Some change) self.old.rows self.new.rows) }
+        ensures rows { OnOk result (LeadsOn (Some change.now) self.old.rows self.new.rows) }
     {
         self.changes = self.changes.saturating_add(1);
-        let so_far = mem::replace(&mut self.rows, Diff::none(alloc));
-        self.rows = so_far.then(alloc, change)?;
-        Ok(())
+        self.rows.add(change)
     }
 
     /// The interface of this index had its turn.
-    fn add(
-        &mut self,
-        alloc: Global,
-        index: IfIndex,
-        changes: Changes,
-        renewed: Renewed,
-    ) -> Result<(), NoMemory>
+    fn add(&mut self, index: IfIndex, changes: Changes, renewed: Renewed) -> Result<(), NoMemory>
         ensures touched { OnOk result (self.new.touched.ifaces.items ≡ self.old.touched.ifaces.items ++ noted (may_keep changes) index) }
         ensures resolver { OnOk result (self.new.touched.resolver ≡ either self.old.touched.resolver renewed.resolver) }
         ensures rows { OnOk result (LeadsOn renewed.rows self.old.rows self.new.rows) }
@@ -111,7 +111,7 @@ impl Walk {
         self.touched.resolver = self.touched.resolver.or(renewed.resolver);
         match renewed.rows {
             None => Ok(()),
-            Some(change) => self.lead_on(alloc, change),
+            Some(change) => self.lead_on(&change),
         }
     }
 }
@@ -125,15 +125,15 @@ pub fn turn_all(
     own: &[Mac],
     outs: &mut Outs,
     jobs: &mut Vec<HookJob>,
-) -> Result<Walk, NoMemory>
+) -> Result<AllTurned, NoMemory>
     requires at { turn.now.at < 10 ^ 15 }
     requires running { IsRunning ifaces.old kept.old }
     requires told { (asked_in outs.old).told ≡ [] }
     ensures goes { OnOk result (GoAll (iface_turned own.now (turn_of turn.now)) ifaces.old ifaces.new (asked_in outs.old) (asked_in outs.new)) }
     ensures running { OnOk result (IsRunning ifaces.new kept.new) }
-    ensures untouched { IfOk result (λ walk. KeepsUntouched walk.touched ifaces.old ifaces.new) }
+    ensures untouched { IfOk result (λ turned. KeepsUntouched turned.touched ifaces.old ifaces.new) }
     ensures jobs { OnOk result (map job_of jobs.new.items ≡ map job_of jobs.old.items ++ jobs_along [] ifaces.old (map (iface_turned own.now (turn_of turn.now)) ifaces.old)) }
-    ensures leads { IfOk result (λ walk. Leads walk.rows (wanted_rows ifaces.old) (wanted_rows ifaces.new)) }
+    ensures leads { IfOk result (λ turned. Leads turned.rows (wanted_rows ifaces.old) (wanted_rows ifaces.new)) }
 {
     let alloc = *jobs.allocator();
     let busy = kept.take(turn);
@@ -142,9 +142,14 @@ pub fn turn_all(
     'places: while place < ifaces.len() {
         let changes = turn_iface(&mut ifaces[place], turn, own, outs)?;
         let renewed = kept.renew(alloc, place, &ifaces[place], changes)?;
-        walk.add(alloc, ifaces[place].managed.spec.index, changes, renewed)?;
+        walk.add(ifaces[place].managed.spec.index, changes, renewed)?;
         make_jobs(jobs, ifaces, outs)?;
         place = busy.next_from(place + 1, ifaces.len());
     }
-    Ok(walk)
+    Ok(AllTurned {
+        touched: walk.touched,
+        rows: walk.rows.into_diff(alloc)?,
+        looks: walk.looks,
+        changes: walk.changes,
+    })
 }

@@ -24,8 +24,8 @@ pub invariant_of-core : goal.invariant_of-core
 invariant_of-core c =
     subst (λ (ifaces : List Iface). IsRunning ifaces c.turn_all.new.kept)
     (sym (placed c.deref.result.now (turn_of c.args.turn) c.core.inside.ifaces c.deref_mut.result.now c.turn_all.new.ifaces (asked_in c.new-outs.result) (asked_in c.turn_all.new.outs)
-    c.in_ok-walk.ensures.goes c.deref_mut.ensures.value))
-    c.in_ok-walk.ensures.running
+    c.in_ok-turned.ensures.goes c.deref_mut.ensures.value))
+    c.in_ok-turned.ensures.running
 
 pub returns-clause-steps : goal.returns-clause-steps
 returns-clause-steps c =
@@ -35,7 +35,7 @@ returns-clause-steps c =
     turned_steps c.args.core c.core.inside.own.items turn all.items (with_items all new).items (asked_in c.new-outs.result) (asked_in c.turn_all.new.outs)
     c.core.view_is c.new-outs.ensures
     (subst (λ (own : List Mac). GoAll (iface_turned own turn) all.items (with_items all new).items (asked_in c.new-outs.result) (asked_in c.turn_all.new.outs)) c.deref.ensures.value
-    (in_place c.deref.result.now turn all c.deref_mut.result.now new (asked_in c.new-outs.result) (asked_in c.turn_all.new.outs) c.in_ok-walk.ensures.goes c.deref_mut.ensures.value))
+    (in_place c.deref.result.now turn all c.deref_mut.result.now new (asked_in c.new-outs.result) (asked_in c.turn_all.new.outs) c.in_ok-turned.ensures.goes c.deref_mut.ensures.value))
 
 pub returns-clause-on_interfaces : goal.returns-clause-on_interfaces
 returns-clause-on_interfaces c =
@@ -43,23 +43,23 @@ returns-clause-on_interfaces c =
     let all : Vec Iface = c.core.inside.ifaces in
     let new : List Iface = c.turn_all.new.ifaces in
     joined_on (iface_turned c.deref.result.now turn) all.items (with_items all new).items (asked_in c.new-outs.result) (asked_in c.turn_all.new.outs) c.new-outs.ensures
-    (in_place c.deref.result.now turn all c.deref_mut.result.now new (asked_in c.new-outs.result) (asked_in c.turn_all.new.outs) c.in_ok-walk.ensures.goes c.deref_mut.ensures.value)
-    (subst AreIfaces (sym (placed c.deref.result.now turn all c.deref_mut.result.now new (asked_in c.new-outs.result) (asked_in c.turn_all.new.outs) c.in_ok-walk.ensures.goes c.deref_mut.ensures.value))
-    c.in_ok-walk.ensures.running.fit)
+    (in_place c.deref.result.now turn all c.deref_mut.result.now new (asked_in c.new-outs.result) (asked_in c.turn_all.new.outs) c.in_ok-turned.ensures.goes c.deref_mut.ensures.value)
+    (subst AreIfaces (sym (placed c.deref.result.now turn all c.deref_mut.result.now new (asked_in c.new-outs.result) (asked_in c.turn_all.new.outs) c.in_ok-turned.ensures.goes c.deref_mut.ensures.value))
+    c.in_ok-turned.ensures.running.fit)
 
 pub returns-clause-untouched : goal.returns-clause-untouched
 returns-clause-untouched c =
     let turn : Turn = turn_of c.args.turn in
-    untouched_in_place c.args.core c.deref.result.now turn c.in_ok-walk.walk.touched c.core.inside.ifaces c.deref_mut.result.now c.turn_all.new.ifaces
+    untouched_in_place c.args.core c.deref.result.now turn c.in_ok-turned.turned.touched c.core.inside.ifaces c.deref_mut.result.now c.turn_all.new.ifaces
     (asked_in c.new-outs.result) (asked_in c.turn_all.new.outs) (ap (λ (client : Client). client.ifaces) c.core.view_is)
-    c.in_ok-walk.ensures.goes c.deref_mut.ensures.value c.in_ok-walk.ensures.untouched
+    c.in_ok-turned.ensures.goes c.deref_mut.ensures.value c.in_ok-turned.ensures.untouched
 
 pub returns-clause-leads : goal.returns-clause-leads
 returns-clause-leads c =
     let turn : Turn = turn_of c.args.turn in
-    leads_in_place c.args.core c.deref.result.now turn c.in_ok-walk.walk.rows c.core.inside.ifaces c.deref_mut.result.now c.turn_all.new.ifaces
+    leads_in_place c.args.core c.deref.result.now turn c.in_ok-turned.turned.rows c.core.inside.ifaces c.deref_mut.result.now c.turn_all.new.ifaces
     (asked_in c.new-outs.result) (asked_in c.turn_all.new.outs) (ap (λ (client : Client). client.ifaces) c.core.view_is)
-    c.in_ok-walk.ensures.goes c.deref_mut.ensures.value c.in_ok-walk.ensures.leads
+    c.in_ok-turned.ensures.goes c.deref_mut.ensures.value c.in_ok-turned.ensures.leads
 
 pub returns-clause-jobs : goal.returns-clause-jobs
 returns-clause-jobs c =
@@ -70,4 +70,4 @@ returns-clause-jobs c =
     turned_jobs c.args.core c.core.inside.own.items turn all.items made before c.core.view_is (ap (map job_of) c.new-jobs.ensures.items)
     (subst (λ (own : List Mac). made ≡ before ++ jobs_along [] all.items (map (iface_turned own turn) all.items)) c.deref.ensures.value
     (subst (λ (ifaces : List Iface). made ≡ before ++ jobs_along [] ifaces (map (iface_turned c.deref.result.now turn) ifaces)) c.deref_mut.ensures.value
-    c.in_ok-walk.ensures.jobs))
+    c.in_ok-turned.ensures.jobs))
