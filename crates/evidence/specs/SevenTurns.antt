@@ -1,5 +1,5 @@
 -- An example: an interface without static address chooses 169.254.1.1 by itself, and another host uses the address later.
-use Rattle.std.specs.Prelude.{ℕ, true, false, List, [], ◌∷◌, None}
+use Rattle.std.specs.Prelude.{ℕ, true, List, [], ◌∷◌}
 use Rattle.net_types.specs.declared.address.Ip4.{Ip4}
 use Rattle.net_types.specs.declared.address.Mac.{Mac}
 use Rattle.net_types.specs.declared.address.Net.{Net}
@@ -8,8 +8,6 @@ use Rattle.frame_link.specs.Packets.{probe_text, announcement_text}
 use Rattle.world.specs.declared.wakes.Event.{Event}
 use Rattle.world.specs.declared.wakes.Event.TheVariants.{Frame, Quiet}
 use Rattle.settings.specs.declared.interfaces.Managed.{Managed}
-use Rattle.settings.specs.Dhcp4Settings.{Hardware}
-use Rattle.settings.specs.HookSettings.{Nothing}
 use Rattle.world.specs.LinkCalls.{Given}
 use Rattle.world.specs.StoreCalls.{store_holding}
 use Rattle.world.specs.StoreFails.{never_fails}
@@ -20,9 +18,7 @@ use Rattle.turn_model.specs.HostInLife.{running_opened}
 use Rattle.evidence.specs.HeldAddresses.{mets_of}
 use Rattle.client_model.specs.WantedRows.{local_net}
 use Rattle.evidence_words.specs.Entries.{Entry}
-
-abbrev pub client_mac : Mac
-client_mac = record { bytes = 2 ∷ 0 ∷ 0 ∷ 0 ∷ 0 ∷ 1 ∷ [] }
+use Rattle.lease_evidence.specs.PlainIface.{client_mac, plain_eth0}
 
 abbrev pub other_mac : Mac
 other_mac = record { bytes = 2 ∷ 0 ∷ 0 ∷ 0 ∷ 0 ∷ 9 ∷ [] }
@@ -33,36 +29,9 @@ chosen = record { number = 0xa9fe_0101 }
 abbrev pub chosen_net : Net
 chosen_net = V4 (local_net chosen)
 
--- eth0
+-- eth0, with `nodhcp`
 abbrev pub interface : Managed
-interface = record {
-  spec = record {
-    index = record { number = 1 };
-    name = record { bytes = 101 ∷ 116 ∷ 104 ∷ 48 ∷ 0 ∷ 0 ∷ 0 ∷ 0 ∷ 0 ∷ 0 ∷ 0 ∷ 0 ∷ 0 ∷ 0 ∷ 0 ∷ []; len = 4 };
-    mac = client_mac;
-  };
-  conf = record {
-    ipv4only = false;
-    ipv6only = false;
-    nodhcp = true;
-    nodhcp6 = false;
-    noipv4ll = false;
-    nodelay = false;
-    noarp = false;
-    broadcast = false;
-    release = false;
-    timeout = 30;
-    reboot = 5;
-    metric = None;
-    address = None;
-    address6 = None;
-    router = None;
-    dhcp4 = record { host = []; vendor = []; identifier = Hardware; asked = []; refused = []; required = []; blacklist = [] };
-    dhcp6 = record { rapid = false; ias = []; shares = [] };
-    resolver = record { servers = []; search = []; domain = [] };
-    hooks = record { script = Nothing; env = [] };
-  };
-}
+interface = record plain_eth0 { conf = record plain_eth0.conf { nodhcp = true } }
 
 abbrev given : ℕ → Event → List ℕ → Given
 given at event bytes = record { wake = record { at = at; salt = 0; event = event }; bytes = bytes }

@@ -34,7 +34,8 @@ use Rattle.evidence_words.specs.Entries.{Offer}
 use Rattle.evidence_words.specs.Inputs.{Site}
 use Rattle.evidence_words.specs.IfaceLives.{site_of, iface_after, IsLived}
 use Rattle.client_model.specs.Fitting.{FitsBeginning}
-use Rattle.lease_evidence.specs.SevenTurns.{client_mac, server_mac, server, granted, duid, interface, reply_text, options_text, reply_frame, requests, discovers, beginning, opening, met, probes, announces, seven_turns, lease}
+use Rattle.lease_evidence.specs.PlainIface.{client_mac}
+use Rattle.lease_evidence.specs.SevenTurns.{server_mac, server, granted, duid, interface, reply_text, options_text, reply_frame, requests, discovers, beginning, opening, met, probes, announces, seven_turns, lease}
 
 -- ---- the server's messages
 

@@ -3,4 +3,5 @@ pub mod Exchanges
 pub mod LeaseBasis
 pub mod Laws
 pub mod HeldLeases
+pub mod PlainIface
 pub mod SevenTurns

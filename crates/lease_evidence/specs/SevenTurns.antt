@@ -9,8 +9,6 @@ use Rattle.duid_text.specs.DuidTexts.{link_layer_duid}
 use Rattle.world.specs.declared.wakes.Event.{Event}
 use Rattle.world.specs.declared.wakes.Event.TheVariants.{Frame, Quiet}
 use Rattle.settings.specs.declared.interfaces.Managed.{Managed}
-use Rattle.settings.specs.Dhcp4Settings.{Hardware}
-use Rattle.settings.specs.HookSettings.{Nothing}
 use Rattle.v4_client.specs.Saying.{discover, request}
 use Rattle.client_model.specs.Messages.{Said, Dhcp4, Arp}
 use Rattle.arp_acd.specs.declared.detection.ArpSay.TheVariants.{Probe, Announce}
@@ -19,9 +17,7 @@ use Rattle.client_model.specs.Clients.{frame_of}
 use Rattle.client_model.specs.KeptLeases.{Beginning}
 use Rattle.evidence_words.specs.Entries.{Offer}
 use Rattle.evidence_words.specs.IfaceLives.{Opening, Met}
-
-abbrev pub client_mac : Mac
-client_mac = record { bytes = 2 ∷ 0 ∷ 0 ∷ 0 ∷ 0 ∷ 1 ∷ [] }
+use Rattle.lease_evidence.specs.PlainIface.{client_mac, plain_eth0}
 
 abbrev pub server_mac : Mac
 server_mac = record { bytes = 2 ∷ 0 ∷ 0 ∷ 0 ∷ 0 ∷ 9 ∷ [] }
@@ -32,36 +28,9 @@ server = record { number = 0xc0a8_0101 }
 abbrev pub granted : Ip4
 granted = record { number = 0xc0a8_0107 }
 
--- eth0, with `nodelay`
+-- eth0, with `nodelay` and neither link-local address nor a limit in time
 abbrev pub interface : Managed
-interface = record {
-  spec = record {
-    index = record { number = 1 };
-    name = record { bytes = 101 ∷ 116 ∷ 104 ∷ 48 ∷ 0 ∷ 0 ∷ 0 ∷ 0 ∷ 0 ∷ 0 ∷ 0 ∷ 0 ∷ 0 ∷ 0 ∷ 0 ∷ []; len = 4 };
-    mac = client_mac;
-  };
-  conf = record {
-    ipv4only = false;
-    ipv6only = false;
-    nodhcp = false;
-    nodhcp6 = false;
-    noipv4ll = true;
-    nodelay = true;
-    noarp = false;
-    broadcast = false;
-    release = false;
-    timeout = 0;
-    reboot = 0;
-    metric = None;
-    address = None;
-    address6 = None;
-    router = None;
-    dhcp4 = record { host = []; vendor = []; identifier = Hardware; asked = []; refused = []; required = []; blacklist = [] };
-    dhcp6 = record { rapid = false; ias = []; shares = [] };
-    resolver = record { servers = []; search = []; domain = [] };
-    hooks = record { script = Nothing; env = [] };
-  };
-}
+interface = record plain_eth0 { conf = record plain_eth0.conf { noipv4ll = true; nodelay = true; timeout = 0; reboot = 0 } }
 
 -- the DUID of the host, made of the interface's hardware address
 abbrev pub duid : List ℕ

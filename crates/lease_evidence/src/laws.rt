@@ -8,7 +8,8 @@ ghost use Rattle.evidence_words.specs.IfaceLives.{IsLived, Opening, iface_after,
 ghost use Rattle.lease_evidence.specs.HeldLeases.{BeginsWithoutLease, HeldLeasesHaveBasis};
 ghost use Rattle.lease_evidence.specs.LeaseBasis.{LeaseBasis};
 ghost use Rattle.lease_evidence.specs.Laws.{EndsWithLease, ForeignGivesNothing, NeedsAck};
-ghost use Rattle.lease_evidence.specs.SevenTurns.{beginning, client_mac, lease, opening, seven_turns};
+ghost use Rattle.lease_evidence.specs.PlainIface.{client_mac};
+ghost use Rattle.lease_evidence.specs.SevenTurns.{beginning, lease, opening, seven_turns};
 
 /// Law: each lease that an interface holds after its opening and some turns, with any outcomes of its frames, has its basis
 /// in what they showed: an ACK in its own exchange, unexpired, probed and not given up since (RFC 2131, section 4.4).

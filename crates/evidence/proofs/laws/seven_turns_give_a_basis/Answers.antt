@@ -9,7 +9,8 @@ use Rattle.client_model.specs.ResolverParts.{resolver_wanted}
 use Rattle.turn_model.specs.Turns.{turn_asks}
 use Rattle.turn_model.specs.Opening.{opening_asks}
 use Rattle.turn_model.specs.HostInLife.{running_opened}
-use Rattle.evidence.specs.SevenTurns.{client_mac, chosen, interface, devices, seven_given}
+use Rattle.lease_evidence.specs.PlainIface.{client_mac}
+use Rattle.evidence.specs.SevenTurns.{chosen, interface, devices, seven_given}
 use Rattle.evidence.proofs.HostRests.{are_made, is_opening}
 use Rattle.local_evidence.proofs.Announced.{one_address}
 use Rattle.evidence.proofs.laws.seven_turns_give_a_basis.Goals as goal
