@@ -6,7 +6,7 @@ use Rattle.host_tables.specs.declared.union.Diff.{Diff}
 use Rattle.host_model.specs.declared.changes.HostChange.{HostChange}
 use Rattle.host_model.specs.declared.changes.HostChange.TheVariants.{Remove, Add}
 use Rattle.host_model.specs.HostTable.{InRowOrder}
-use Rattle.host_model.specs.HostTurn.{changes}
+use Rattle.host_model.specs.HostTurn.{changes, after_changes}
 use Rattle.client_core.specs.Leading.{Leads}
 use Rattle.device_calls.specs.Does.{Does}
 use Rattle.device_calls.specs.Worlds.{Seen}
@@ -34,6 +34,11 @@ WasKnown pending.Unknown wanted known = known ≡ None
 -- removals in the reverse of the row order, then additions in row order
 abbrev pub changes_by : Diff → List HostChange
 changes_by diff = map Remove (reverse diff.gone.items) ++ map Add diff.come.items
+
+-- the changes were made, whichever rows were known before them
+abbrev pub MakesChanges : List HostChange → Table → (old new : Seen) → (text_old text_new : List ℕ) → Type 0
+MakesChanges made table old new text_old text_new =
+    (known : List HostRow) → Does (changing made (Some known)) (known_in table (after_changes made known)) old new text_old text_new
 
 -- the changes from known rows to wanted ones were made, whichever these are that differ so
 abbrev pub Updates : Diff → Table → (old new : Seen) → (text_old text_new : List ℕ) → Type 0

@@ -155,7 +155,8 @@ fn load_leases<W: Outside>(
     text: &mut Vec<u8>,
 ) -> Result<Found, NoMemory>
     requires { AreManaged managed.now }
-    ensures loads { IfOk result (λ found. LoadsLeases managed.now duid.now.bytes.items files.items (map beginning_of found.beginnings.items) found.files.items (W.seen outside.old) (W.seen outside.new) text.old.items text.new.items) }
+    ensures loads { IfOk result (λ found. LoadsLeases managed.now duid.now.bytes.items files.items (map beginning_of found.beginnings.items) found.files.items
+        (W.seen outside.old) (W.seen outside.new) text.old.items text.new.items) }
     ensures fit { IfOk result (λ found. AreBeginnings (map beginning_of found.beginnings.items)) }
     ensures waiting { (W.seen outside.new).waiting ≡ (W.seen outside.old).waiting }
 {

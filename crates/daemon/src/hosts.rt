@@ -5,13 +5,12 @@ ghost use Rattle.world.specs.RowOrder.{in_row_order};
 ghost use Rattle.world.specs.Rows.{IsRow};
 ghost use Rattle.settings.specs.ManagedRows.{is_managed};
 ghost use Rattle.host_model.specs.HostTable.{InRowOrder};
-ghost use Rattle.host_model.specs.HostTurn.{after_changes};
 ghost use Rattle.device_calls.specs.Calls.{ListRows, Change};
 ghost use Rattle.device_calls.specs.Programs.{Then, Done};
 ghost use Rattle.device_calls.specs.Does.{Does};
-ghost use Rattle.turn_model.specs.Turns.{changing, hosting};
+ghost use Rattle.turn_model.specs.Turns.{hosting};
 ghost use Rattle.daemon.specs.Answered.{rows_in, rows_listed, FitsChange};
-ghost use Rattle.daemon.specs.Tables.{known_in, WasKnown, Updates, Hosts};
+ghost use Rattle.daemon.specs.Tables.{known_in, MakesChanges, WasKnown, Updates, Hosts};
 
 use crate::changes::{changes_by, diff_between};
 use crate::outside::Outside;
@@ -112,7 +111,7 @@ fn make_changes<W: Outside>(
     text: &mut Vec<u8>,
 ) -> Result<Table, NoMemory>
     requires { AllByRecursion FitsChange changes.now }
-    ensures does { IfOk result (λ table. (known : List HostRow) → Does (changing changes.now (Some known)) (known_in table (after_changes changes.now known)) (W.seen outside.old) (W.seen outside.new) text.old.items text.new.items) }
+    ensures does { IfOk result (λ table. MakesChanges changes.now table (W.seen outside.old) (W.seen outside.new) text.old.items text.new.items) }
     ensures waiting { (W.seen outside.new).waiting ≡ (W.seen outside.old).waiting }
 {
     let mut table = Table::AsWanted;
