@@ -42,6 +42,9 @@ pub not_live_make : (words : List (List ℕ)) → AskLive words → AskMake word
 unfolding first_word
 not_live_make words live make = apart words (codes "live") (codes "make") refl refl (ap first_word live.1.says) (ap first_word make.1.says)
 
+-- No words ask for two works.
+pub ruleset asked_apart = (not_both, not_replay_live, not_check_live, not_replay_make, not_check_make, not_live_make)
+
 -- words that ask for no work
 pub none_asked : (words : List (List ℕ)) (result : Option Work) → result ≡ None → (AskReplay words → ⊥) → (AskCheck words → ⊥) → ((rounds : ℕ) → AsksMake words rounds → ⊥) → ((specs : List IfSpec) → AsksLive words specs → ⊥) → AsksFor words result
 none_asked words result none replay check make live =

@@ -16,43 +16,34 @@ use Rattle.dhcpcd.proofs.OneReading.{fault_refuses, conf_fault_refuses}
 
 -- ---- writing stopped before its end
 
+-- by one of two answers
+pub stops_writing : (A : Status → Type 0) (answer : Status) → A status.WriteFault → A status.NoMemory → StopsWriting answer → A answer
+stops_writing A status.Done fault memory stops = absurd stops
+stops_writing A status.Usage fault memory stops = absurd stops
+stops_writing A (status.Script f) fault memory stops = absurd stops
+stops_writing A (status.Conf f) fault memory stops = absurd stops
+stops_writing A status.ReadFault fault memory stops = absurd stops
+stops_writing A status.WriteFault fault memory stops = fault
+stops_writing A status.LinkFault fault memory stops = absurd stops
+stops_writing A status.TurnsOver fault memory stops = absurd stops
+stops_writing A status.TooLong fault memory stops = absurd stops
+stops_writing A status.NoMemory fault memory stops = memory
+
 pub stopped_answer : (answer : Status) (input old new : Option (List ℕ)) (bytes : List ℕ) (script : ScriptLines) (conf : Configuration) → IsInput input bytes → length bytes ≤ limit → IsScript bytes script conf
     → WritesFront old new [] (transcript script conf) → StopsWriting answer → IsAnswer answer input old new
-stopped_answer answer input old new bytes script conf read within is front stops = answers answer stops
+stopped_answer answer input old new bytes script conf read within is front stops =
+    stops_writing (λ (s : Status). IsAnswer s input old new) answer stopped (inr stopped) stops
   where
     stopped : IsStopped input old new
     stopped = record { bytes = bytes; script = script; conf = conf; read = read; in_limit = within; is_script = is; written = front }
 
-    answers : (answer : Status) → StopsWriting answer → IsAnswer answer input old new
-    answers status.Done stops = absurd stops
-    answers status.Usage stops = absurd stops
-    answers (status.Script fault) stops = absurd stops
-    answers (status.Conf fault) stops = absurd stops
-    answers status.ReadFault stops = absurd stops
-    answers status.WriteFault stops = stopped
-    answers status.LinkFault stops = absurd stops
-    answers status.TurnsOver stops = absurd stops
-    answers status.TooLong stops = absurd stops
-    answers status.NoMemory stops = inr stopped
-
 pub stopped_check : (answer : Status) (input old new : Option (List ℕ)) (bytes : List ℕ) (conf : Configuration) → IsInput input bytes → length bytes ≤ limit → IsConfOf bytes (Ok conf)
     → WritesSome old new (check_text conf) → StopsWriting answer → IsCheckAnswer answer input old new
-stopped_check answer input old new bytes conf read within is some stops = answers answer stops
+stopped_check answer input old new bytes conf read within is some stops =
+    stops_writing (λ (s : Status). IsCheckAnswer s input old new) answer stopped (inr stopped) stops
   where
     stopped : IsCheckStopped input old new
     stopped = record { bytes = bytes; conf = conf; read = read; in_limit = within; configured = is; written = some }
-
-    answers : (answer : Status) → StopsWriting answer → IsCheckAnswer answer input old new
-    answers status.Done stops = absurd stops
-    answers status.Usage stops = absurd stops
-    answers (status.Script fault) stops = absurd stops
-    answers (status.Conf fault) stops = absurd stops
-    answers status.ReadFault stops = absurd stops
-    answers status.WriteFault stops = stopped
-    answers status.LinkFault stops = absurd stops
-    answers status.TurnsOver stops = absurd stops
-    answers status.TooLong stops = absurd stops
-    answers status.NoMemory stops = inr stopped
 
 -- ---- nothing was written
 

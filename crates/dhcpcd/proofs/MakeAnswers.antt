@@ -24,6 +24,7 @@ use Rattle.dhcpcd.specs.Refusals.{IsConfRefused}
 use Rattle.dhcpcd.specs.Replays.{configuration_text, managed_in, transcript}
 use Rattle.dhcpcd.specs.Settling.{IsSettledAs}
 use Rattle.dhcpcd.specs.Statuses.{HasStatusCause, StopsWriting, Completes}
+use Rattle.dhcpcd.proofs.Endings.{stops_writing}
 use Rattle.dhcpcd.proofs.Refusals.{in_force}
 
 -- ---- the script is settled
@@ -99,22 +100,11 @@ pub unwritten_answer : (answer : Status) (rounds : ℕ) (out : Option (List ℕ)
 unwritten_answer answer rounds out is = subst (λ (s : Status). IsMadeAnswer s rounds out out) (sym is) (inl refl)
 
 pub stopped_make : (answer : Status) (rounds : ℕ) (old new : Option (List ℕ)) (text : List ℕ) → IsMadeTranscript rounds text → WritesSome old new (summary rounds text) → StopsWriting answer → IsMadeAnswer answer rounds old new
-stopped_make answer rounds old new text made written stops = answers answer stops
+stopped_make answer rounds old new text made written stops =
+    stops_writing (λ (s : Status). IsMadeAnswer s rounds old new) answer stopped (inr stopped) stops
   where
     stopped : IsMade (WritesSome old new) rounds
     stopped = record { text = text; made = made; written = written }
-
-    answers : (answer : Status) → StopsWriting answer → IsMadeAnswer answer rounds old new
-    answers status.Done stops = absurd stops
-    answers status.Usage stops = absurd stops
-    answers (status.Script fault) stops = absurd stops
-    answers (status.Conf fault) stops = absurd stops
-    answers status.ReadFault stops = absurd stops
-    answers status.WriteFault stops = stopped
-    answers status.LinkFault stops = absurd stops
-    answers status.TurnsOver stops = absurd stops
-    answers status.TooLong stops = absurd stops
-    answers status.NoMemory stops = inr stopped
 
 -- ---- beside the input and the link, which aren't asked
 
@@ -160,3 +150,6 @@ takes_nothing (Some bytes) = (omega arith, refl)
 
 pub reads_nothing : (told : InputTold) → ReadsWithin told told
 reads_nothing told = record { taken = 0; few = omega arith; takes = takes_nothing told.left; counted = λ in_range. omega arith; reads = omega arith }
+
+-- what `make` comes to beside the input and the link
+pub ruleset make_beside = (cause_beside, no_link_cause, reads_nothing)

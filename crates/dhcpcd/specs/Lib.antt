@@ -11,6 +11,7 @@ pub mod Settling
 pub mod Statuses
 pub mod Checks
 pub mod Words
+pub mod GoodAsks
 pub mod MakeReading
 pub mod Making
 pub mod Living

@@ -4,6 +4,7 @@ ghost use Rattle.script_model.specs.Scripts.{FitInterfaces};
 ghost use Rattle.conf_text.specs.Configurations.{IsConfOf};
 ghost use Rattle.conf_text.specs.Contents.{configuration};
 ghost use Rattle.dhcpcd.specs.Checks.{TellsConfiguration};
+ghost use Rattle.dhcpcd.specs.GoodAsks.{WaitsHeld, WaitsNeverFail};
 ghost use Rattle.dhcpcd.specs.Input.{ReadsWithin, input_told};
 ghost use Rattle.dhcpcd.specs.Living.{IsServed, IsLifeAnswer, IsLived, IsLiveAnswer, CompletesLife, HasLinkCause, around, asked};
 ghost use Rattle.dhcpcd.specs.Statuses.{HasStatusCause};
@@ -39,8 +40,12 @@ fn live_on<O: Sink, W: Outside>(
     requires child { (W.seen live.old).waiting.child ≡ false }
     requires fit { FitInterfaces ask.specs.now }
     requires configured { IsConfOf ask.text.now (Ok (configuration ask.conf.now)) }
-    ensures ok { IfOk result (λ _. IsServed (asked ask.entry.text.now (configuration ask.entry.conf.now) ask.entry.specs.now turns) (around (O.written out.old) (O.written out.new) (W.seen live.old) (W.seen live.new))) }
-    ensures err { IfErr result (λ status. IsLifeAnswer status (asked ask.entry.text.now (configuration ask.entry.conf.now) ask.entry.specs.now turns) (around (O.written out.old) (O.written out.new) (W.seen live.old) (W.seen live.new))) }
+    ensures ok { IfOk result (λ _. IsServed
+        (asked ask.entry.text.now (configuration ask.entry.conf.now) ask.entry.specs.now turns)
+        (around (O.written out.old) (O.written out.new) (W.seen live.old) (W.seen live.new))) }
+    ensures err { IfErr result (λ status. IsLifeAnswer status
+        (asked ask.entry.text.now (configuration ask.entry.conf.now) ask.entry.specs.now turns)
+        (around (O.written out.old) (O.written out.new) (W.seen live.old) (W.seen live.new))) }
     ensures not_done { result ≢ Err Status.Done }
     ensures later { IfOk result (λ _. (O.faults out.old ≤ O.faults out.new) × ((W.seen live.old).waiting.faults ≤ (W.seen live.new).waiting.faults)) }
     ensures cause { IfErr result (λ status. HasStatusCause status 0 0 (O.faults out.old) (O.faults out.new)) }
@@ -78,7 +83,9 @@ fn live_input<I: Source, O: Sink, W: Outside>(
 ) -> Result<(), Status>
     requires child { (W.seen live.old).waiting.child ≡ false }
     requires fit { FitInterfaces specs.now }
-    ensures ok { IfOk result (λ _. IsLived Status.Done specs.now turns (I.left input.old) (around (O.written out.old) (O.written out.new) (W.seen live.old) (W.seen live.new)) × (I.faults input.old ≤ I.faults input.new)) }
+    ensures ok { IfOk result (λ _. IsLived Status.Done specs.now turns (I.left input.old)
+        (around (O.written out.old) (O.written out.new) (W.seen live.old) (W.seen live.new))
+        × (I.faults input.old ≤ I.faults input.new)) }
     ensures err { IfErr result (λ status. IsLiveAnswer status specs.now turns (I.left input.old) (around (O.written out.old) (O.written out.new) (W.seen live.old) (W.seen live.new))) }
     ensures later { IfOk result (λ _. (O.faults out.old ≤ O.faults out.new) × ((W.seen live.old).waiting.faults ≤ (W.seen live.new).waiting.faults)) }
     ensures not_done { result ≢ Err Status.Done }
@@ -115,8 +122,16 @@ pub fn live<I: Source, O: Sink, W: Outside>(
     ensures answer { IsLiveAnswer result specs.now turns (I.left input.old) (around (O.written out.old) (O.written out.new) (W.seen live.old) (W.seen live.new)) }
     ensures cause { HasStatusCause result (I.faults input.old) (I.faults input.new) (O.faults out.old) (O.faults out.new) }
     ensures link { HasLinkCause result (W.seen live.old).waiting.faults (W.seen live.new).waiting.faults }
-    ensures complete { TellsConfiguration (I.left input.old) → I.faults input.new ≡ I.faults input.old → O.faults out.new ≡ O.faults out.old → (W.seen live.new).waiting.faults ≡ (W.seen live.old).waiting.faults → CompletesLife result }
-    ensures lives { TellsConfiguration (I.left input.old) → I.never_fails input.old ≡ true → O.never_fails out.old ≡ true → (W.seen live.old).waiting.failing ≡ Some [] → CompletesLife result }
+    ensures complete { TellsConfiguration (I.left input.old)
+        → I.faults input.new ≡ I.faults input.old
+        → O.faults out.new ≡ O.faults out.old
+        → WaitsHeld (W.seen live.old) (W.seen live.new)
+        → CompletesLife result }
+    ensures lives { TellsConfiguration (I.left input.old)
+        → I.never_fails input.old ≡ true
+        → O.never_fails out.old ≡ true
+        → WaitsNeverFail (W.seen live.old)
+        → CompletesLife result }
     ensures reads { ReadsWithin (input_told (I.left input.old) (I.taken input.old) (I.reads input.old)) (input_told (I.left input.new) (I.taken input.new) (I.reads input.new)) }
 {
     match live_input(alloc, specs, input, out, live, turns) {

@@ -1,9 +1,10 @@
-ghost use Rattle.std.specs.Prelude.{ℕ, ◌≡◌, [], Some, true, false, map};
+ghost use Rattle.std.specs.Prelude.{ℕ, ◌≡◌, true, false, map};
 ghost use Rattle.std.specs.String.{string_bytes};
-ghost use Rattle.dhcpcd.specs.Checks.{IsCheckAnswer, TellsConfiguration};
+ghost use Rattle.dhcpcd.specs.Checks.{IsCheckAnswer};
+ghost use Rattle.dhcpcd.specs.GoodAsks.{AskGoodReplay, AskGoodCheck, AskGoodLive, StreamsHeld, StreamsNeverFail, WaitsHeld, WaitsNeverFail};
 ghost use Rattle.dhcpcd.specs.Input.{ReadsWithin, input_told};
 ghost use Rattle.dhcpcd.specs.Living.{IsAnsweredLive, CompletesLife, HasLinkCause, around};
-ghost use Rattle.dhcpcd.specs.Statuses.{HasStatusCause, IsAnswer, TellsScript, Completes};
+ghost use Rattle.dhcpcd.specs.Statuses.{HasStatusCause, IsAnswer, Completes};
 ghost use Rattle.dhcpcd.specs.Making.{IsMadeAnswer};
 ghost use Rattle.dhcpcd.specs.Words.{AskCheck, AskReplay, AskLive, AskMake, AsksMake, AskWork};
 
@@ -23,7 +24,7 @@ use world::{Sink, Source};
 /// memory, for so many rounds, and writes how many lines of each kind its transcript has; it reads nothing. Other words are
 /// `Usage`, and touch nothing. Where the input can't be read, is too long or is refused, nothing is written and no device is asked; after
 /// another end a front of the output stands written. No hook's child may run yet.
-#[tactic(auto, using(crate::proofs::AskedApart::not_both, crate::proofs::AskedApart::not_replay_live, crate::proofs::AskedApart::not_check_live, crate::proofs::AskedApart::not_replay_make, crate::proofs::AskedApart::not_check_make, crate::proofs::AskedApart::not_live_make, crate::proofs::MakeAnswers::cause_beside, crate::proofs::MakeAnswers::no_link_cause, crate::proofs::MakeAnswers::reads_nothing))]
+#[tactic(auto, using(crate::proofs::AskedApart::asked_apart, crate::proofs::MakeAnswers::make_beside))]
 pub fn run<I: Source, O: Sink, W: Outside>(
     alloc: Global,
     words: &[String],
@@ -35,7 +36,9 @@ pub fn run<I: Source, O: Sink, W: Outside>(
     requires child { (W.seen devices.old).waiting.child ≡ false }
     ensures answer { AskReplay (map string_bytes words.now) → IsAnswer result (I.left input.old) (O.written out.old) (O.written out.new) }
     ensures check { AskCheck (map string_bytes words.now) → IsCheckAnswer result (I.left input.old) (O.written out.old) (O.written out.new) }
-    ensures live { AskLive (map string_bytes words.now) → IsAnsweredLive (map string_bytes words.now) result turns (I.left input.old) (around (O.written out.old) (O.written out.new) (W.seen devices.old) (W.seen devices.new)) }
+    ensures live { AskLive (map string_bytes words.now)
+        → IsAnsweredLive (map string_bytes words.now) result turns (I.left input.old)
+        (around (O.written out.old) (O.written out.new) (W.seen devices.old) (W.seen devices.new)) }
     ensures made { (rounds : ℕ) → AsksMake (map string_bytes words.now) rounds → IsMadeAnswer result rounds (O.written out.old) (O.written out.new) }
     ensures usage { (AskWork (map string_bytes words.now) → ⊥) → result ≡ Status.Usage }
     ensures unread { (AskWork (map string_bytes words.now) → ⊥) → (I.reads input.new ≡ I.reads input.old) × (I.left input.new ≡ I.left input.old) }
@@ -44,15 +47,28 @@ pub fn run<I: Source, O: Sink, W: Outside>(
     ensures unasked { (AskLive (map string_bytes words.now) → ⊥) → W.seen devices.new ≡ W.seen devices.old }
     ensures cause { HasStatusCause result (I.faults input.old) (I.faults input.new) (O.faults out.old) (O.faults out.new) }
     ensures link { HasLinkCause result (W.seen devices.old).waiting.faults (W.seen devices.new).waiting.faults }
-    ensures complete { AskReplay (map string_bytes words.now) → TellsScript (I.left input.old) → I.faults input.new ≡ I.faults input.old → O.faults out.new ≡ O.faults out.old → Completes result }
-    ensures replays { AskReplay (map string_bytes words.now) → TellsScript (I.left input.old) → I.never_fails input.old ≡ true → O.never_fails out.old ≡ true → Completes result }
-    ensures check_complete { AskCheck (map string_bytes words.now) → TellsConfiguration (I.left input.old) → I.faults input.new ≡ I.faults input.old → O.faults out.new ≡ O.faults out.old → Completes result }
-    ensures checks { AskCheck (map string_bytes words.now) → TellsConfiguration (I.left input.old) → I.never_fails input.old ≡ true → O.never_fails out.old ≡ true → Completes result }
-    ensures live_complete { AskLive (map string_bytes words.now) → TellsConfiguration (I.left input.old) → I.faults input.new ≡ I.faults input.old → O.faults out.new ≡ O.faults out.old → (W.seen devices.new).waiting.faults ≡ (W.seen devices.old).waiting.faults → CompletesLife result }
-    ensures lives { AskLive (map string_bytes words.now) → TellsConfiguration (I.left input.old) → I.never_fails input.old ≡ true → O.never_fails out.old ≡ true → (W.seen devices.old).waiting.failing ≡ Some [] → CompletesLife result }
+    ensures complete { AskGoodReplay (map string_bytes words.now) (I.left input.old)
+        → StreamsHeld (I.faults input.old) (I.faults input.new) (O.faults out.old) (O.faults out.new)
+        → Completes result }
+    ensures replays { AskGoodReplay (map string_bytes words.now) (I.left input.old) → StreamsNeverFail (I.never_fails input.old) (O.never_fails out.old) → Completes result }
+    ensures check_complete { AskGoodCheck (map string_bytes words.now) (I.left input.old)
+        → StreamsHeld (I.faults input.old) (I.faults input.new) (O.faults out.old) (O.faults out.new)
+        → Completes result }
+    ensures checks { AskGoodCheck (map string_bytes words.now) (I.left input.old) → StreamsNeverFail (I.never_fails input.old) (O.never_fails out.old) → Completes result }
+    ensures live_complete { AskGoodLive (map string_bytes words.now) (I.left input.old)
+        → StreamsHeld (I.faults input.old) (I.faults input.new) (O.faults out.old) (O.faults out.new)
+        → WaitsHeld (W.seen devices.old) (W.seen devices.new)
+        → CompletesLife result }
+    ensures lives { AskGoodLive (map string_bytes words.now) (I.left input.old)
+        → StreamsNeverFail (I.never_fails input.old) (O.never_fails out.old)
+        → WaitsNeverFail (W.seen devices.old)
+        → CompletesLife result }
     ensures make_complete { AskMake (map string_bytes words.now) → O.faults out.new ≡ O.faults out.old → Completes result }
     ensures makes { AskMake (map string_bytes words.now) → O.never_fails out.old ≡ true → Completes result }
-    ensures reads { AskWork (map string_bytes words.now) → ReadsWithin (input_told (I.left input.old) (I.taken input.old) (I.reads input.old)) (input_told (I.left input.new) (I.taken input.new) (I.reads input.new)) }
+    ensures reads { AskWork (map string_bytes words.now)
+        → ReadsWithin
+        (input_told (I.left input.old) (I.taken input.old) (I.reads input.old))
+        (input_told (I.left input.new) (I.taken input.new) (I.reads input.new)) }
 {
     match work_of(words) {
         Some(Work::Replay) => replay(alloc, input, out),

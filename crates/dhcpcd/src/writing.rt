@@ -71,7 +71,8 @@ pub fn begin_life<O: Sink>(alloc: Global, number: u64, out: &mut O) -> Result<()
 /// Writes the lines before the one life of `live`, in one call.
 #[tactic(auto, using(crate::proofs::WholeLife::head_written, crate::proofs::WholeLife::front_of_head, daemon::proofs::CutOffs::front_none))]
 pub fn write_live_head<O: Sink>(alloc: Global, start: &Start<'_>, out: &mut O) -> Result<(), Status>
-    ensures ok { IfOk result (λ _. (O.faults out.old ≤ O.faults out.new) × WritesLines (O.written out.old) (O.written out.new) (live_head start.now.text.now (map notice_content start.now.notices.now) start.now.specs.now)) }
+    ensures ok { IfOk result (λ _. (O.faults out.old ≤ O.faults out.new) × WritesLines (O.written out.old) (O.written out.new)
+        (live_head start.now.text.now (map notice_content start.now.notices.now) start.now.specs.now)) }
     ensures front { IfErr result (λ _. WritesFront (O.written out.old) (O.written out.new) [] (live_head start.now.text.now (map notice_content start.now.notices.now) start.now.specs.now)) }
     ensures cause { IfErr result (λ status. HasStatusCause status 0 0 (O.faults out.old) (O.faults out.new) × StopsWriting status) }
     ensures steady { O.never_fails out.old ≡ true → O.faults out.new ≡ O.faults out.old }
