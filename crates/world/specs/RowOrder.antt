@@ -60,11 +60,15 @@ abbrev pub row_gate : HostRow → ℕ
 row_gate (Addr iface net) = 0
 row_gate (Route iface dest way metric) = way_gate way
 
+-- the numbers by which two rows of one kind on one interface are compared, the first that differ decide
+abbrev pub row_cmp_on_interface : HostRow → HostRow → Ordering
+row_cmp_on_interface = then_cmp (on (λ row. net_number (row_net row)) nat_cmp)
+    (then_cmp (on (λ row. net_len (row_net row)) nat_cmp) (then_cmp (on row_metric nat_cmp) (on row_gate nat_cmp)))
+
 -- the numbers by which two rows are compared, the first that differ decide
 abbrev pub row_cmp : HostRow → HostRow → Ordering
 row_cmp = then_cmp (on row_rank nat_cmp) (then_cmp (on (λ row. family (row_net row)) nat_cmp)
-    (then_cmp (on row_iface nat_cmp) (then_cmp (on (λ row. net_number (row_net row)) nat_cmp)
-    (then_cmp (on (λ row. net_len (row_net row)) nat_cmp) (then_cmp (on row_metric nat_cmp) (on row_gate nat_cmp))))))
+    (then_cmp (on row_iface nat_cmp) row_cmp_on_interface))
 
 -- whether the rows have this one
 abbrev pub has_row : List HostRow → HostRow → Bool

@@ -3,7 +3,7 @@ ghost use Rattle.std.specs.Cmp.{partial_order_from_total, partial_equiv_from_equ
 ghost use Rattle.std.specs.Cmp.Rules.{comparing};
 ghost use Rattle.std.specs.Ordering.{as_partial_cmp, eq_by_cmp};
 ghost use Rattle.std.proofs.Common.{rules};
-ghost use Rattle.world.specs.RowOrder.{family, net_number, net_len, way_rank, way_gate, row_rank, row_iface, row_net, row_metric, row_gate, row_cmp, row_cmp_total, row_eq_equivalence};
+ghost use Rattle.world.specs.RowOrder.{family, net_number, net_len, way_rank, way_gate, row_rank, row_iface, row_net, row_metric, row_gate, row_cmp, row_cmp_on_interface, row_cmp_total, row_eq_equivalence};
 
 use net_types::{IfIndex, Ip4, Ip6, Net};
 use std::cmp::Ordering;
@@ -134,6 +134,18 @@ impl HostRow {
             HostRow::Route { via, .. } => via.gate(),
         }
     }
+
+    /// The order of rows of one kind that are on one interface.
+    fn cmp_on_interface(&self, other: &HostRow) -> Ordering
+        ensures { result ≡ row_cmp_on_interface self.now other.now }
+    {
+        let (a, b) = (self.net(), other.net());
+        number_of(a)
+            .cmp(&number_of(b))
+            .then(len_of(a).cmp(&len_of(b)))
+            .then(self.metric().cmp(&other.metric()))
+            .then(self.gate().cmp(&other.gate()))
+    }
 }
 
 impl Ord for HostRow {
@@ -147,14 +159,15 @@ impl Ord for HostRow {
 
     fn cmp(&self, other: &HostRow) -> Ordering {
         let (a, b) = (self.net(), other.net());
-        self.rank()
+        let by_kind = self
+            .rank()
             .cmp(&other.rank())
             .then(family_of(a).cmp(&family_of(b)))
-            .then(self.iface().number.cmp(&other.iface().number))
-            .then(number_of(a).cmp(&number_of(b)))
-            .then(len_of(a).cmp(&len_of(b)))
-            .then(self.metric().cmp(&other.metric()))
-            .then(self.gate().cmp(&other.gate()))
+            .then(self.iface().number.cmp(&other.iface().number));
+        match by_kind {
+            Ordering::Equal => self.cmp_on_interface(other),
+            unlike => unlike,
+        }
     }
 }
 
