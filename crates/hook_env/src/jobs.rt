@@ -12,7 +12,7 @@ use crate::telling6::{add_delegated, add_lease6};
 use crate::variables::{JOB_VARIABLES, JobVariable, job_word};
 use net_types::NoMemory;
 use std::alloc::Global;
-use world::{HookJob, HookVar, reason_text};
+use world::{HookJob, HookVar, add_variables, reason_text};
 
 fn carrier_word(up: bool) -> &'static str
     ensures { result.now ≡ carrier_word up }
@@ -91,25 +91,6 @@ fn add_made(into: &mut Vec<HookVar>, situation: &Situation) -> Result<(), NoMemo
     add_if(into, now, Stage::Now, &situation.held_now)
 }
 
-fn copied(alloc: Global, variable: &HookVar) -> Result<HookVar, NoMemory>
-    ensures { IfOk result (λ copy. variable_of copy ≡ variable_of variable.now) }
-{
-    let name = String::from_str(alloc, &variable.name)?;
-    let value = String::from_str(alloc, &variable.value)?;
-    Ok(HookVar { name, value })
-}
-
-/// Appends variables as they are.
-fn add_env(into: &mut Vec<HookVar>, env: &[HookVar]) -> Result<(), NoMemory>
-    ensures { OnOk result (map variable_of into.new.items ≡ map variable_of into.old.items ++ map variable_of env.now) }
-{
-    let alloc = *into.allocator();
-    for variable in env {
-        into.push(copied(alloc, variable)?)?;
-    }
-    Ok(())
-}
-
 /// The job of a situation, without a number. Its variables are `interface`, `reason`, `ifcarrier` and `ifmetric`; then, where the
 /// reason tells of them, those with `old_` of the lease before, and those with `new_` of the lease since; then those
 /// that are configured (dhcpcd-run-hooks(8)).
@@ -119,7 +100,7 @@ pub fn job(alloc: Global, situation: &Situation) -> Result<HookJob, NoMemory>
     let script = String::from_str(alloc, situation.script)?;
     let mut vars = Vec::new(alloc);
     add_made(&mut vars, situation)?;
-    add_env(&mut vars, situation.env)?;
+    add_variables(&mut vars, situation.env)?;
     Ok(HookJob {
         number: 0,
         reason: situation.reason,

@@ -23,10 +23,14 @@ target_of (Route iface dest via metric) = Route (record { number = 0 }) dest OnL
 abbrev pub contends : HostRow → HostRow → Bool
 contends a b = is_eq (row_cmp (target_of a) (target_of b))
 
--- by target, interface, row order and place
+-- those with one target by interface, row order and place
+abbrev pub bringing_cmp_for_target : Bringing → Bringing → Ordering
+bringing_cmp_for_target = then_cmp (on (λ b. row_iface b.row) nat_cmp)
+    (then_cmp (on (λ b. b.row) row_cmp) (on (λ b. b.place) nat_cmp))
+
+-- by target, and then so
 abbrev pub bringing_cmp : Bringing → Bringing → Ordering
-bringing_cmp = then_cmp (on (λ b. target_of b.row) row_cmp) (then_cmp (on (λ b. row_iface b.row) nat_cmp)
-    (then_cmp (on (λ b. b.row) row_cmp) (on (λ b. b.place) nat_cmp)))
+bringing_cmp = then_cmp (on (λ b. target_of b.row) row_cmp) bringing_cmp_for_target
 
 -- in that order, each once
 abbrev pub InBringingOrder : List Bringing → Type 0

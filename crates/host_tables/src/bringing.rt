@@ -3,7 +3,7 @@ ghost use Rattle.std.specs.Cmp.{partial_order_from_total, partial_equiv_from_equ
 ghost use Rattle.std.specs.Cmp.Rules.{comparing};
 ghost use Rattle.std.specs.Ordering.{as_partial_cmp, eq_by_cmp};
 ghost use Rattle.std.proofs.Common.{rules};
-ghost use Rattle.host_tables.specs.Bringings.{target_of, bringing_cmp, bringing_cmp_total, bringing_eq_equivalence};
+ghost use Rattle.host_tables.specs.Bringings.{target_of, bringing_cmp, bringing_cmp_for_target, bringing_cmp_total, bringing_eq_equivalence};
 
 use net_types::IfIndex;
 use std::cmp::Ordering;
@@ -31,6 +31,20 @@ pub fn target(row: HostRow) -> HostRow
     }
 }
 
+impl Bringing {
+    /// The order of rows with one target.
+    fn cmp_for_target(&self, other: &Bringing) -> Ordering
+        ensures { result ≡ bringing_cmp_for_target self.now other.now }
+    {
+        let (a, b) = (self.row, other.row);
+        a.iface()
+            .number
+            .cmp(&b.iface().number)
+            .then(a.cmp(&b))
+            .then(self.place.cmp(&other.place))
+    }
+}
+
 impl Ord for Bringing {
     ghost cmp = { bringing_cmp };
 
@@ -41,12 +55,10 @@ impl Ord for Bringing {
     ghost matches_eq = { Prim.search (comparing, rules) };
 
     fn cmp(&self, other: &Bringing) -> Ordering {
-        let (a, b) = (self.row, other.row);
-        target(a)
-            .cmp(&target(b))
-            .then(a.iface().number.cmp(&b.iface().number))
-            .then(a.cmp(&b))
-            .then(self.place.cmp(&other.place))
+        match target(self.row).cmp(&target(other.row)) {
+            Ordering::Equal => self.cmp_for_target(other),
+            unlike => unlike,
+        }
     }
 }
 

@@ -1,11 +1,11 @@
 //! What is configured for hooks.
-ghost use Rattle.std.specs.Prelude.{◌≡◌, ◌++◌, IfOk, OnOk, map};
+ghost use Rattle.std.specs.Prelude.{◌≡◌, IfOk, map};
 ghost use Rattle.world.specs.HookCalls.{variable_of};
 ghost use Rattle.settings.specs.HookSettings.{script_in};
 
 use std::alloc::{AllocError, Global};
 use std::marker::Model;
-use world::HookVar;
+use world::{HookVar, add_variables};
 
 /// `script`: what is run.
 #[derive(Drop)]
@@ -47,31 +47,12 @@ impl Model for HookConf {
     ghost view = { λ conf. hook_settings conf.script conf.env.items };
 }
 
-fn copied(alloc: Global, variable: &HookVar) -> Result<HookVar, AllocError>
-    ensures { IfOk result (λ copy. variable_of copy ≡ variable_of variable.now) }
-{
-    let name = String::from_str(alloc, &variable.name)?;
-    let value = String::from_str(alloc, &variable.value)?;
-    Ok(HookVar { name, value })
-}
-
-/// Appends a copy of each of these variables.
-fn add_env(into: &mut Vec<HookVar>, env: &[HookVar]) -> Result<(), AllocError>
-    ensures { OnOk result (map variable_of into.new.items ≡ map variable_of into.old.items ++ map variable_of env.now) }
-{
-    let alloc = *into.allocator();
-    for variable in env {
-        into.push(copied(alloc, variable)?)?;
-    }
-    Ok(())
-}
-
 /// A copy of these variables.
 fn env_copied(alloc: Global, env: &[HookVar]) -> Result<Vec<HookVar>, AllocError>
     ensures { IfOk result (λ copy. map variable_of copy.items ≡ map variable_of env.now) }
 {
     let mut copy = Vec::new(alloc);
-    add_env(&mut copy, env)?;
+    add_variables(&mut copy, env)?;
     Ok(copy)
 }
 

@@ -1,15 +1,36 @@
-ghost use Rattle.std.specs.Prelude.{◌≡◌, ◌≤◌, ℕ, Bool, true, false, Option, List};
+ghost use Rattle.std.specs.Prelude.{◌≡◌, ◌≤◌, ◌++◌, ℕ, Bool, true, false, Option, List, map, IfOk, OnOk};
 ghost use Rattle.world.specs.Causes.{HasCause, HasDeviceCause, Foretold};
+ghost use Rattle.world.specs.HookCalls.{variable_of};
 
 use crate::faults::DeviceAnswer;
 use crate::reasons::Reason;
 use net_types::{Failed, IfIndex};
+use std::alloc::{AllocError, Global};
 
 /// A variable of a hook's environment.
 #[derive(Debug, Drop)]
 pub struct HookVar {
     pub name: String,
     pub value: String,
+}
+
+fn copied(alloc: Global, variable: &HookVar) -> Result<HookVar, AllocError>
+    ensures { IfOk result (λ copy. variable_of copy ≡ variable_of variable.now) }
+{
+    let name = String::from_str(alloc, &variable.name)?;
+    let value = String::from_str(alloc, &variable.value)?;
+    Ok(HookVar { name, value })
+}
+
+/// Appends a copy of each of these variables.
+pub fn add_variables(into: &mut Vec<HookVar>, variables: &[HookVar]) -> Result<(), AllocError>
+    ensures { OnOk result (map variable_of into.new.items ≡ map variable_of into.old.items ++ map variable_of variables.now) }
+{
+    let alloc = *into.allocator();
+    for variable in variables {
+        into.push(copied(alloc, variable)?)?;
+    }
+    Ok(())
 }
 
 /// One run of a hook script.

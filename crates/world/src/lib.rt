@@ -18,7 +18,7 @@ mod wakes;
 
 pub use crash_laws::what_a_crash_leaves;
 pub use faults::DeviceAnswer;
-pub use hooking::{HookJob, HookVar, Hooks, Poll};
+pub use hooking::{HookJob, HookVar, Hooks, Poll, add_variables};
 pub use hosts::Host;
 pub use links::Link;
 pub use net_types::{Failed, NoMemory};
