@@ -3,7 +3,9 @@ use Rattle.std.proofs.Common.{◌≡◌, ◌≢◌, ℕ, ◌+◌, ◌<◌, ◌�
 use Rattle.std.proofs.lemmas.List.{append_assoc, append-nil, drop-drop, get_or-replicate, length-drop, length-set, get_or-drop, get_or-set_same, get_or-set_other}
 use Rattle.std.proofs.lemmas.Bool.{eqb-true, eqb-false}
 use Rattle.std.specs.Prelude.{if◌then◌else◌}
-use Rattle.v4_options.specs.declared.area.Front.TheVariants as theirs
+use Rattle.v4_options.specs.declared.area.Front.{Front}
+use Rattle.v4_options.specs.declared.area.Front.TheVariants.{Pad, End, Cut, Whole}
+use Rattle.v4_options.specs.AreaSteps.{LiesIn}
 use Rattle.v4_options.specs.declared.view.Areas.{Areas}
 use Rattle.v4_options.specs.OptionArea.{Instance, front_of, instances_in}
 use Rattle.v4_options.specs.OptionValue.{pieces}
@@ -11,13 +13,11 @@ use Rattle.v4_options.proofs.Fronts.{instances_by}
 use Rattle.v4_options.specs.declared.view.OptionView.{OptionView}
 use Rattle.v4_options.specs.Overload.{reads_file, reads_sname}
 use Rattle.v4_options.specs.OptionViews.{view_instances}
-use Rattle.option_index.specs.declared.area.Front.{Front}
-use Rattle.option_index.specs.declared.area.Front.TheVariants.{Pad, End, Cut, Whole}
 use Rattle.option_index.specs.declared.place.Field.{Field}
 use Rattle.option_index.specs.declared.place.Field.TheVariants.{Options, File, Sname}
 use Rattle.option_index.specs.declared.place.Place.{Place}
 use Rattle.option_index.specs.declared.place.Place.TheVariants.{Nowhere, At, Unkept}
-use Rattle.option_index.specs.Places.{field_bytes, front_there, noted, place_at, value_from, Knows, LiesIn, Notes, PassBy, StandsAt, Told}
+use Rattle.option_index.specs.Places.{field_bytes, noted, place_at, value_from, Knows, Notes, PassBy, StandsAt, Told}
 
 -- ---- the instances from a place on
 
@@ -39,20 +39,20 @@ pair_is : (a b : ℕ) (v w : List ℕ) (rest others : List Instance) → a ≡ b
 pair_is a b v w rest others d e f = rw (d, e, f) refl
 
 -- what stands at the front of the rest says what stands at the place
-pass_by : (at : ℕ) (area : List ℕ) (front : Front) → at ≤ length area → front_of (drop at area) ≡ front_there front → LiesIn (drop at area) front → PassBy area at front
-pass_by at area Pad within e room = (omega (arith, room, length-drop at area), instances_by (drop at area) theirs.Pad e ∙ ap instances_in (drop-drop 1 at area))
-pass_by at area End within e room = instances_by (drop at area) theirs.End e
-pass_by at area Cut within e room = instances_by (drop at area) theirs.Cut e
+pass_by : (at : ℕ) (area : List ℕ) (front : Front) → at ≤ length area → front_of (drop at area) ≡ front → LiesIn (drop at area) front → PassBy area at front
+pass_by at area Pad within e room = (omega (arith, room, length-drop at area), instances_by (drop at area) Pad e ∙ ap instances_in (drop-drop 1 at area))
+pass_by at area End within e room = instances_by (drop at area) End e
+pass_by at area Cut within e room = instances_by (drop at area) Cut e
 pass_by at area (Whole n) within e room = (
   omega (arith, room.0, length-drop at area),
   sym (get_or-drop at area 1 0) ∙ room.1,
-  instances_by (drop at area) (theirs.Whole n) e
+  instances_by (drop at area) (Whole n) e
       ∙ pair_is _ _ _ _ _ _ (code_is at area) (value_is at n area room.1) (ap instances_in (rest_is at n area)),
 )
 
-pub pass_from : (at : ℕ) (area rest : List ℕ) (front : Front) → rest ≡ drop at area → at ≤ length area → front_of rest ≡ front_there front → LiesIn rest front → PassBy area at front
+pub pass_from : (at : ℕ) (area rest : List ℕ) (front : Front) → rest ≡ drop at area → at ≤ length area → front_of rest ≡ front → LiesIn rest front → PassBy area at front
 pass_from at area rest front e within exact room =
-    pass_by at area front within (subst (λ (r : List ℕ). front_of r ≡ front_there front) e exact) (subst (λ (r : List ℕ). LiesIn r front) e room)
+    pass_by at area front within (subst (λ (r : List ℕ). front_of r ≡ front) e exact) (subst (λ (r : List ℕ). LiesIn r front) e room)
 
 -- ---- one more instance
 

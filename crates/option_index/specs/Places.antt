@@ -1,23 +1,14 @@
 -- What the places of an index say of a message's instances.
 use Rattle.std.specs.Prelude.{ℕ, ◌≡◌, ◌+◌, ◌<◌, ◌≤◌, List, [], ◌∷◌, ◌++◌, length, take, drop, slice_index, slice_index_or, nat_lt, if◌then◌else◌}
-use Rattle.v4_options.specs.declared.area.Front.TheVariants as theirs
-use Rattle.v4_options.specs.declared.area.Front as their
+use Rattle.v4_options.specs.declared.area.Front.{Front}
+use Rattle.v4_options.specs.declared.area.Front.TheVariants.{Pad, End, Cut, Whole}
 use Rattle.v4_options.specs.declared.view.Areas.{Areas}
 use Rattle.v4_options.specs.OptionArea.{Instance, instances_in}
 use Rattle.v4_options.specs.OptionValue.{pieces}
-use Rattle.option_index.specs.declared.area.Front.{Front}
-use Rattle.option_index.specs.declared.area.Front.TheVariants.{Pad, End, Cut, Whole}
 use Rattle.option_index.specs.declared.place.Field.{Field}
 use Rattle.option_index.specs.declared.place.Field.TheVariants.{Options, File, Sname}
 use Rattle.option_index.specs.declared.place.Place.{Place}
 use Rattle.option_index.specs.declared.place.Place.TheVariants.{Nowhere, At, Unkept}
-
--- what stands at the front, in the words of v4_options
-abbrev pub front_there : Front → their.Front
-front_there Pad = theirs.Pad
-front_there End = theirs.End
-front_there Cut = theirs.Cut
-front_there (Whole n) = theirs.Whole n
 
 abbrev pub field_bytes : Areas → Field → List ℕ
 field_bytes areas Options = areas.options.now
@@ -32,13 +23,6 @@ abbrev pub noted : Place → Place → Place
 noted Nowhere place = place
 noted (At field at) place = Unkept
 noted Unkept place = Unkept
-
--- What stands at the front lies within the area. A value has as many bytes as its length byte says.
-abbrev pub LiesIn : List ℕ → Front → Type 0
-LiesIn area Pad = 1 ≤ length area
-LiesIn area End = Unit {0}
-LiesIn area Cut = Unit {0}
-LiesIn area (Whole n) = (n + 2 ≤ length area) × (slice_index area 1 ≡ n)
 
 -- the value whose length byte stands at a place
 abbrev pub value_from : List ℕ → ℕ → List ℕ

@@ -6,12 +6,12 @@ use Rattle.v4_options.specs.declared.overload.Overload.TheVariants.{Neither}
 use Rattle.v4_options.specs.OptionArea.{instances_in, malformed_in}
 use Rattle.v4_options.specs.Overload.{overload_by, overload_in}
 
--- what stands at the front lies within the area
-abbrev pub HasRoom : List ℕ → Front → Type 0
-HasRoom area Pad = 1 ≤ length area
-HasRoom area End = Unit {0}
-HasRoom area Cut = 1 ≤ length area
-HasRoom area (Whole n) = n + 2 ≤ length area
+-- What stands at the front lies within the area. A value has as many bytes as its length byte says.
+abbrev pub LiesIn : List ℕ → Front → Type 0
+LiesIn area Pad = 1 ≤ length area
+LiesIn area End = Unit {0}
+LiesIn area Cut = 1 ≤ length area
+LiesIn area (Whole n) = (n + 2 ≤ length area) × (slice_index area 1 ≡ n)
 
 abbrev pub InstancesBy : List ℕ → Front → Type 0
 InstancesBy area Pad = instances_in area ≡ instances_in (drop 1 area)

@@ -4,14 +4,14 @@ ghost use Rattle.std.specs.Prelude.{◌≡◌, ◌+◌, ◌^◌, ◌<◌, ℕ, [
 ghost use Rattle.v4_options.specs.OptionArea.{front_of, instances_in, malformed_in};
 ghost use Rattle.v4_options.specs.OptionValue.{pieces_in};
 ghost use Rattle.v4_options.specs.Overload.{overload_by, overload_in};
-ghost use Rattle.v4_options.specs.AreaSteps.{HasRoom, InstancesBy, MalformedBy, OverloadBy};
+ghost use Rattle.v4_options.specs.AreaSteps.{InstancesBy, LiesIn, MalformedBy, OverloadBy};
 
 use crate::code;
 use crate::overload::{BOTH, FILE, Overload, SNAME};
 use crate::view::Malformed;
 
 /// What stands at the front of an area (RFC 2132, section 2).
-#[derive(Clone, Copy)]
+#[derive(Clone, Copy, Debug)]
 pub enum Front {
     /// A byte of padding.
     Pad,
@@ -23,10 +23,11 @@ pub enum Front {
     Whole(usize),
 }
 
+/// What stands at the front of an area (RFC 2132, section 2), for a reader that keeps its own place in it.
 #[tactic(auto, unfolding(crate::specs::OptionArea::front_of))]
-fn front_at(area: &[u8]) -> Front
+pub fn front_at(area: &[u8]) -> Front
     ensures exact { front_of area.now ≡ result }
-    ensures room { HasRoom area.now result }
+    ensures room { LiesIn area.now result }
 {
     if area.is_empty() {
         return Front::End;
@@ -52,7 +53,7 @@ pub(crate) fn read_front(area: &[u8]) -> Front
     ensures instances { InstancesBy area.now result }
     ensures malformed { (at : ℕ) → MalformedBy at area.now result }
     ensures overload { OverloadBy area.now result }
-    ensures room { HasRoom area.now result }
+    ensures room { LiesIn area.now result }
 {
     front_at(area)
 }

@@ -12,6 +12,7 @@ mod overload;
 mod routes;
 mod view;
 
+pub use area::{Front, front_at};
 pub use constants::codes_are_those_assigned;
 pub use domain_names::{is_search, is_text, search_of, text_of};
 pub use instances::{Pieces, addr_at, byte_at, pieces_of, present, u32_at, value};
