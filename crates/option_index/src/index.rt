@@ -2,7 +2,6 @@
 
 ghost use Rattle.std.specs.Prelude.{◌≡◌, []};
 ghost use Rattle.v4_options.specs.OptionValue.{byte_of, is_present, only_byte, pieces};
-ghost use Rattle.v4_options.specs.Overload.{reads_file, reads_sname};
 ghost use Rattle.v4_options.specs.OptionViews.{view_instances};
 ghost use Rattle.v4_options.specs.Numbers.{address_at, number_at};
 ghost use Rattle.option_index.specs.Places.{field_bytes, value_from, Knows, StandsAt};
@@ -12,7 +11,7 @@ use crate::area::{note_field, note_where};
 use crate::place::{CODES, Field, Place, field_bytes};
 use net_types::Ip4;
 use std::marker::Model;
-use v4_options::{Areas, OptionView, Overload, addr_of, pieces_of, u32_of};
+use v4_options::{Areas, OptionView, addr_of, pieces_of, u32_of};
 
 /// The options of a message, with where each stands.
 #[derive(Drop)]
@@ -70,18 +69,6 @@ fn walked<'a>(view: &OptionView<'a>, code: u8) -> Found<'a>
     Found::Whole(first)
 }
 
-fn reads_file(overload: Overload) -> bool
-    ensures { result ≡ reads_file overload }
-{
-    matches!(overload, Overload::File | Overload::Both)
-}
-
-fn reads_sname(overload: Overload) -> bool
-    ensures { result ≡ reads_sname overload }
-{
-    matches!(overload, Overload::Sname | Overload::Both)
-}
-
 /// Where the options of the view stand, in the order options, file, sname.
 fn places_of(view: &OptionView) -> [Place; CODES]
     ensures { Knows view.now.areas (view_instances view.now) [] result }
@@ -89,13 +76,13 @@ fn places_of(view: &OptionView) -> [Place; CODES]
     let mut places = [Place::Nowhere; CODES];
     note_field(&mut places, &view.areas, Field::Options);
     note_where(
-        reads_file(view.overload),
+        view.overload.reads_file(),
         &mut places,
         &view.areas,
         Field::File,
     );
     note_where(
-        reads_sname(view.overload),
+        view.overload.reads_sname(),
         &mut places,
         &view.areas,
         Field::Sname,

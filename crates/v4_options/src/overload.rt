@@ -18,13 +18,15 @@ pub enum Overload {
 }
 
 impl Overload {
-    pub(crate) fn reads_file(self) -> bool
+    /// Whether options stand in the field `file`.
+    pub fn reads_file(self) -> bool
         ensures { result ≡ reads_file self }
     {
         matches!(self, Overload::File | Overload::Both)
     }
 
-    pub(crate) fn reads_sname(self) -> bool
+    /// Whether options stand in the field `sname`.
+    pub fn reads_sname(self) -> bool
         ensures { result ≡ reads_sname self }
     {
         matches!(self, Overload::Sname | Overload::Both)
