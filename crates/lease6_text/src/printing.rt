@@ -3,15 +3,13 @@
 ghost use Rattle.std.specs.Prelude.{◌≡◌, ◌++◌, Some, IfOk};
 ghost use Rattle.std.specs.String.{string_bytes};
 ghost use Rattle.net_types.specs.TextLines.{ended, lines_text};
-ghost use Rattle.lease_text.specs.LeaseLines.{option_line};
-ghost use Rattle.lease_text.specs.Leases.{value_content};
 ghost use Rattle.lease6_text.specs.Bounds.{FitsLease6, HasText6};
 ghost use Rattle.lease6_text.specs.Leases.{ia_content, lease6_content};
 ghost use Rattle.lease6_text.specs.LeaseLines.{head_lines, ia_lines, ia_line, item_line, lease6_text, moment_text};
 
 use crate::lease::{IaLease, Item6, Lease6};
 use crate::typed::lease6_is_typed;
-use lease_text::Value;
+use lease_text::OptionLine;
 use net_types::{Hex, NoMemory};
 use std::alloc::Global;
 use std::fmt;
@@ -112,20 +110,6 @@ impl Display for IaLines<'_> {
             })?;
         }
         Ok(())
-    }
-}
-
-/// The line of a value.
-#[derive(Clone, Copy)]
-struct OptionLine<'a>(&'a Value);
-
-#[tactic(auto, using(std::proofs::Common::append_assoc))]
-impl Display for OptionLine<'_> {
-    ghost output = { λ line. Some (ended (option_line (value_content line.0.now))) };
-
-    fn fmt<W: fmt::Write>(&self, f: &mut fmt::Formatter<W>) -> fmt::Result {
-        let value = self.0;
-        writeln!(f, "option {} {}", value.code, Hex(&value.bytes))
     }
 }
 

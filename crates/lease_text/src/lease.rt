@@ -97,7 +97,8 @@ impl Lease4 {
     }
 }
 
-fn copied_values(alloc: Global, values: &[Value]) -> Result<Vec<Value>, AllocError>
+/// A copy of the values of a lease.
+pub fn copied_values(alloc: Global, values: &[Value]) -> Result<Vec<Value>, AllocError>
     ensures { IfOk result (λ all. values_content all.items ≡ values_content values.now) }
 {
     let mut all = Vec::with_capacity(alloc, values.len())?;

@@ -16,9 +16,9 @@ pub use form::{KEPT_CODES, ValueForm, form_of, is_kept, is_well_formed};
 pub use laws::leases_are_read_back;
 pub use lease::{
     INFINITE_LEASE, LONGEST_PREFIX, Lease4, MOMENT_LIMIT, Terms4, VALUE_LIMIT, Value,
-    is_host_address,
+    copied_values, is_host_address,
 };
-pub use printing::print4;
+pub use printing::{OptionLine, print4};
 pub use reading::read_lease4;
 pub use typed::lease_is_typed;
 

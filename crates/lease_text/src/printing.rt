@@ -47,9 +47,9 @@ impl Display for Times<'_> {
     }
 }
 
-/// The line of a value.
+/// The line of a value, which a lease of either family has.
 #[derive(Clone, Copy)]
-struct OptionLine<'a>(&'a Value);
+pub struct OptionLine<'a>(pub &'a Value);
 
 #[tactic(auto, using(std::proofs::Common::append_assoc))]
 impl Display for OptionLine<'_> {

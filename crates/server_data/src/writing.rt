@@ -1,6 +1,6 @@
 //! A server's message, written.
 
-ghost use Rattle.std.specs.Prelude.{◌≡◌, ◌≤◌, ◌<◌, ◌++◌, ◌∷◌, [], length, IfOk, OnOk};
+ghost use Rattle.std.specs.Prelude.{◌≡◌, ◌≤◌, ◌++◌, length, IfOk, OnOk};
 ghost use Rattle.v4_message.specs.Messages.{message_in};
 ghost use Rattle.v4_message.specs.Requests.{options_text};
 ghost use Rattle.server_data.specs.Replies.{kind_number, given_by, granted, reply_options, reply_fields, reply_text};
@@ -10,7 +10,7 @@ use crate::field::{BOOT_REPLY, ETHERNET, MAC_LEN, MAGIC_COOKIE, NETMASK};
 use crate::reply::{Reply, ReplyKind};
 use net_types::{Ip4, NoMemory};
 use std::alloc::{AllocError, Global};
-use v4_message::kind;
+use v4_message::{kind, put_option};
 use v4_options::code;
 
 /// The most bytes of a message: its fixed fields, four options and the end.
@@ -52,15 +52,6 @@ fn put_fields(message: &mut Vec<u8>, reply: &Reply) -> Result<(), AllocError>
     // the rest of chaddr, sname and file
     message.extend_from_slice(&[0; 202])?;
     message.extend_from_slice(&MAGIC_COOKIE)
-}
-
-fn put_option(message: &mut Vec<u8>, code: u8, value: &[u8]) -> Result<(), AllocError>
-    requires { length value.now < 256 }
-    ensures { OnOk result (message.new.items ≡ message.old.items ++ options_text ((code, value.now) ∷ [])) }
-{
-    message.push(code)?;
-    message.push(value.len() as u8)?;
-    message.extend_from_slice(value)
 }
 
 /// The time and the mask of a lease.

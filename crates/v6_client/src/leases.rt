@@ -3,14 +3,13 @@
 
 ghost use Rattle.std.specs.Prelude.{◌≡◌, ◌≤◌, length, map, true, option_map, IfOk, OnErr, OnOk};
 ghost use Rattle.v6_message.specs.Requests.{asked_content};
-ghost use Rattle.lease_text.specs.Leases.{values_content};
 ghost use Rattle.lease6_text.specs.Leases.{ias_content, lease6_content};
 ghost use Rattle.v6_client.specs.Items as own;
 
 use crate::items::lapse_in;
 use crate::settings::IaAsk;
 use crate::states::{Dates6, Scope6};
-use lease_text::Value;
+use lease_text::copied_values;
 use lease6_text::{IaLease, Lease6};
 use net_types::NoMemory;
 use std::alloc::{AllocError, Global};
@@ -94,19 +93,6 @@ fn ias_copied(alloc: Global, ias: &[IaLease]) -> Result<Vec<IaLease>, AllocError
     Ok(all)
 }
 
-fn values_copied(alloc: Global, values: &[Value]) -> Result<Vec<Value>, AllocError>
-    ensures { IfOk result (λ all. values_content all.items ≡ values_content values.now) }
-{
-    let mut all = Vec::with_capacity(alloc, values.len())?;
-    for value in values {
-        all.push(Value {
-            code: value.code,
-            bytes: value.bytes.to_vec(alloc)?,
-        })?;
-    }
-    Ok(all)
-}
-
 fn lease_copied(alloc: Global, lease: &Lease6) -> Result<Lease6, NoMemory>
     ensures { IfOk result (λ copy. lease6_content copy ≡ lease6_content lease.now) }
 {
@@ -116,7 +102,7 @@ fn lease_copied(alloc: Global, lease: &Lease6) -> Result<Lease6, NoMemory>
         t1: lease.t1,
         t2: lease.t2,
         ias: ias_copied(alloc, &lease.ias)?,
-        values: values_copied(alloc, &lease.values)?,
+        values: copied_values(alloc, &lease.values)?,
     })
 }
 
