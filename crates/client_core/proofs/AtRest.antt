@@ -7,8 +7,8 @@ use Rattle.std.proofs.lemmas.List.{get_or-take, length-map}
 use Rattle.net_types.specs.declared.address.Mac.{Mac}
 use Rattle.machine.specs.Moment.{is_due}
 use Rattle.timer_queue.specs.declared.dues.MachineDues.{MachineDues}
-use Rattle.timer_queue.specs.declared.key.TimedMachine.{TimedMachine}
-use Rattle.timer_queue.specs.declared.key.TimedMachine.TheVariants as key
+use Rattle.machine.specs.declared.timed.TimedMachine.{TimedMachine}
+use Rattle.machine.specs.declared.timed.TimedMachine.TheVariants as machine
 use Rattle.timer_queue.specs.declared.places.Places.{Places}
 use Rattle.timer_queue.specs.Dues.{due_of, is_taken, never}
 use Rattle.timer_queue.specs.Moments.{has_come}
@@ -21,7 +21,6 @@ use Rattle.world.specs.declared.wakes.Event.{Event}
 use Rattle.world.specs.declared.wakes.Event.TheVariants.{Frame, Carrier, Duplicate, Release, Rebind, Stop, Quiet, End}
 use Rattle.script_model.specs.IfaceSets.{is_in}
 use Rattle.client_model.specs.declared.interfaces.Iface.{Iface}
-use Rattle.client_model.specs.declared.steps.TimedMachine.TheVariants as machine
 use Rattle.client_model.specs.Clients.{earlier}
 use Rattle.client_model.specs.Fitting.{FitsIface}
 use Rattle.client_model.specs.IfaceSteps.{IfaceStep, index_of, silent, then_step}
@@ -144,8 +143,8 @@ module _ (turn : Turn) (ifaces : List Iface) (kept after : Kept) (places : Place
     not_due_now =
         let dues : MachineDues = dues_of iface in
         later_both (earlier dues.dhcp4 dues.link_local) dues.dhcp6 turn.at
-        (later_both dues.dhcp4 dues.link_local turn.at (come_due dues.dhcp4 turn.at ∙ none_come key.Dhcp4) (come_due dues.link_local turn.at ∙ none_come key.LinkLocal))
-        (come_due dues.dhcp6 turn.at ∙ none_come key.Dhcp6)
+        (later_both dues.dhcp4 dues.link_local turn.at (come_due dues.dhcp4 turn.at ∙ none_come machine.Dhcp4) (come_due dues.link_local turn.at ∙ none_come machine.LinkLocal))
+        (come_due dues.dhcp6 turn.at ∙ none_come machine.Dhcp6)
 
     -- nothing comes to it from outside
     named_here : has (named_as kept.named (index_of iface)) place ≡ true

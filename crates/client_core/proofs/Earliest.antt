@@ -12,8 +12,8 @@ use Rattle.client_model.specs.Interfaces.{iface_due}
 use Rattle.timer_queue.specs.declared.dues.MachineDues.{MachineDues}
 use Rattle.timer_queue.specs.declared.named.Named.{Named}
 use Rattle.timer_queue.specs.declared.key.Key.{Key}
-use Rattle.timer_queue.specs.declared.key.TimedMachine.{TimedMachine}
-use Rattle.timer_queue.specs.declared.key.TimedMachine.TheVariants.{Dhcp4, LinkLocal, Dhcp6}
+use Rattle.machine.specs.declared.timed.TimedMachine.{TimedMachine}
+use Rattle.machine.specs.declared.timed.TimedMachine.TheVariants.{Dhcp4, LinkLocal, Dhcp6}
 use Rattle.timer_queue.specs.Dues.{AreMoments, PutsMoments, due_of, never}
 use Rattle.timer_queue.specs.Keys.{key_cmp}
 use Rattle.timer_queue.specs.Moments.{Moments, IsEarliest}

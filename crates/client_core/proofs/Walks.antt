@@ -9,7 +9,7 @@ use Rattle.world.specs.declared.rows.HostRow.{HostRow}
 use Rattle.world.specs.RowOrder.{rows_beyond}
 use Rattle.settings.specs.Fitting.{FitsManaged}
 use Rattle.timer_queue.specs.declared.dues.MachineDues.{MachineDues}
-use Rattle.timer_queue.specs.declared.key.TimedMachine.{TimedMachine}
+use Rattle.machine.specs.declared.timed.TimedMachine.{TimedMachine}
 use Rattle.timer_queue.specs.declared.named.Named.{Named}
 use Rattle.timer_queue.specs.declared.places.Places.{Places}
 use Rattle.timer_queue.specs.Dues.{due_of, never}

@@ -1,6 +1,6 @@
 -- When the machines of an interface are due.
 use Rattle.client_model.specs.declared.interfaces.Iface.{Iface}
-use Rattle.client_model.specs.declared.steps.TimedMachine.TheVariants.{Dhcp4, LinkLocal, Dhcp6}
+use Rattle.machine.specs.declared.timed.TimedMachine.TheVariants.{Dhcp4, LinkLocal, Dhcp6}
 use Rattle.client_model.specs.Interfaces.{machine_due}
 use Rattle.timer_queue.specs.declared.dues.MachineDues.{MachineDues}
 

@@ -5,8 +5,9 @@ ghost use Rattle.client_model.specs.Clients.{client_due};
 ghost use Rattle.client_core.specs.Due.{dues_of};
 ghost use Rattle.timer_queue.specs.Dues.{AreMoments};
 
-use client_model::{Iface, TimedMachine};
+use client_model::Iface;
 use iface_core::{earlier_of, iface_due, machine_due};
+use machine::TimedMachine;
 use net_types::NoMemory;
 use std::alloc::Global;
 use timer_queue::{Dues, MachineDues, PLACES};

@@ -16,4 +16,4 @@ pub use laws::{
     rows_and_leases_stay_in_quiet_turns, the_hosts_duid_fits, wanted_rows_can_be_wanted,
     what_is_asked_fits,
 };
-pub use steps::{News, TimedMachine};
+pub use steps::News;

@@ -25,11 +25,3 @@ pub enum News {
     /// The link-local address that was held is lost to another host.
     LocalLost(Ip4),
 }
-
-/// The timed machines of an interface, in the order in which they tick.
-#[derive(Clone, Copy, Debug, PartialEq, Eq)]
-pub enum TimedMachine {
-    Dhcp4,
-    LinkLocal,
-    Dhcp6,
-}

@@ -7,9 +7,9 @@ ghost use Rattle.settings.specs.Fitting.{FitsManaged};
 ghost use Rattle.world.specs.Rows.{IsInterface};
 
 use crate::{Outs, Told, Turn, TurnInput, iface_due, iface_input, iface_tick, machine_due};
-use client_model::{Iface, News, TimedMachine};
+use client_model::{Iface, News};
 use ipv4ll::ll_off;
-use machine::has_come;
+use machine::{TimedMachine, has_come};
 use net_types::{IfIndex, IfSpec, Mac, NoMemory, read_name};
 use settings::{
     Dhcp4Conf, Dhcp6Conf, HookConf, IaConf, Identifier, IfConf, Managed, ResolverConf, Script,

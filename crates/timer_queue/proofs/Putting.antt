@@ -6,8 +6,8 @@ use Rattle.std.specs.Ordering.{eq_by_cmp}
 use Rattle.std.proofs.lemmas.Bool.{eq-eqb, eqb-true, lt-ltb, cases_eq}
 use Rattle.timer_queue.specs.declared.dues.MachineDues.{MachineDues}
 use Rattle.timer_queue.specs.declared.key.Key.{Key}
-use Rattle.timer_queue.specs.declared.key.TimedMachine.{TimedMachine}
-use Rattle.timer_queue.specs.declared.key.TimedMachine.TheVariants.{Dhcp4, LinkLocal, Dhcp6}
+use Rattle.machine.specs.declared.timed.TimedMachine.{TimedMachine}
+use Rattle.machine.specs.declared.timed.TimedMachine.TheVariants.{Dhcp4, LinkLocal, Dhcp6}
 use Rattle.timer_queue.specs.Dues.{PutsMoments, due_of}
 use Rattle.timer_queue.specs.Keys.{place_of, place_exact, rank_of, rank_below, key_cmp, key_cmp_total, key_eq_equivalence}
 use Rattle.timer_queue.specs.Moments.{Moments}

@@ -9,8 +9,8 @@ use Rattle.std.proofs.lemmas.Bool.{lt-ltb, le-ltb, eq-eqb, eqb-true, eqb-false, 
 use Rattle.std.proofs.lemmas.List.{get_or-take, get_or-set_same, get_or-set_other}
 use Rattle.timer_queue.specs.declared.dues.MachineDues.{MachineDues}
 use Rattle.timer_queue.specs.declared.key.Key.{Key}
-use Rattle.timer_queue.specs.declared.key.TimedMachine.{TimedMachine}
-use Rattle.timer_queue.specs.declared.key.TimedMachine.TheVariants.{Dhcp4, LinkLocal, Dhcp6}
+use Rattle.machine.specs.declared.timed.TimedMachine.{TimedMachine}
+use Rattle.machine.specs.declared.timed.TimedMachine.TheVariants.{Dhcp4, LinkLocal, Dhcp6}
 use Rattle.timer_queue.specs.Dues.{due_of, never, key_due, AreMoments, PutsMoments, is_taken}
 use Rattle.timer_queue.specs.Keys.{key_cmp}
 use Rattle.timer_queue.specs.Moments.{Moments, has_come, due_after, due_by}

@@ -4,8 +4,8 @@ use Rattle.std.specs.List.{list_any}
 use Rattle.std.specs.FinMap as map
 use Rattle.timer_queue.specs.declared.dues.MachineDues.{MachineDues}
 use Rattle.timer_queue.specs.declared.key.Key.{Key}
-use Rattle.timer_queue.specs.declared.key.TimedMachine.{TimedMachine}
-use Rattle.timer_queue.specs.declared.key.TimedMachine.TheVariants.{Dhcp4, LinkLocal, Dhcp6}
+use Rattle.machine.specs.declared.timed.TimedMachine.{TimedMachine}
+use Rattle.machine.specs.declared.timed.TimedMachine.TheVariants.{Dhcp4, LinkLocal, Dhcp6}
 use Rattle.timer_queue.specs.Moments.{Moments, due_by}
 
 -- the moment of a machine

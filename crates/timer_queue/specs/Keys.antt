@@ -8,8 +8,8 @@ use Rattle.std.specs.Cmp.{IsTotalOrder, IsEquivalence, eq_by_cmp_equiv}
 use Rattle.std.specs.Cmp.Rules.{comparing}
 use Rattle.std.proofs.Common.{arith}
 use Rattle.timer_queue.specs.declared.key.Key.{Key}
-use Rattle.timer_queue.specs.declared.key.TimedMachine.{TimedMachine}
-use Rattle.timer_queue.specs.declared.key.TimedMachine.TheVariants.{Dhcp4, LinkLocal, Dhcp6}
+use Rattle.machine.specs.declared.timed.TimedMachine.{TimedMachine}
+use Rattle.machine.specs.declared.timed.TimedMachine.TheVariants.{Dhcp4, LinkLocal, Dhcp6}
 
 -- a machine's rank among those of its interface
 abbrev pub rank_of : TimedMachine → ℕ

@@ -6,10 +6,11 @@ ghost use Rattle.timer_queue.specs.Moments.{due_after, IsEarliest};
 ghost use Rattle.timer_queue.specs.Places.{has};
 ghost use Rattle.timer_queue.specs.Keys.{place_of};
 
-use crate::key::{Key, TimedMachine};
+use crate::key::Key;
 use crate::places::{PLACES, Places};
 use crate::queue::{KEYS, Queue};
 use counted_search::Steps;
+use machine::TimedMachine;
 use net_types::NoMemory;
 use std::alloc::Global;
 use std::marker::Model;

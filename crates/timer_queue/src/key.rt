@@ -5,15 +5,8 @@ ghost use Rattle.std.specs.Ordering.{as_partial_cmp, eq_by_cmp};
 ghost use Rattle.std.proofs.Common.{rules};
 ghost use Rattle.timer_queue.specs.Keys.{place_of, key_cmp, key_cmp_total, key_eq_equivalence};
 
+use machine::TimedMachine;
 use std::cmp::Ordering;
-
-/// The timed machines of an interface, in the order in which they tick.
-#[derive(Clone, Copy, Debug, PartialEq, Eq)]
-pub enum TimedMachine {
-    Dhcp4,
-    LinkLocal,
-    Dhcp6,
-}
 
 /// One timed machine of one interface. Keys are ordered by the interface's place, and those of one interface as its machines tick.
 #[derive(Clone, Copy, Debug)]

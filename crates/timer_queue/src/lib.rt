@@ -12,7 +12,7 @@ mod timer;
 
 pub use counted_search::Steps;
 pub use dues::{Dues, MachineDues};
-pub use key::{Key, TimedMachine};
+pub use key::Key;
 pub use named::Named;
 pub use places::{PLACES, Places};
 pub use queue::{KEYS, Queue};

@@ -1,6 +1,7 @@
 ghost use Rattle.std.specs.Prelude.{◌≡◌};
 
-use crate::{KEYS, Key, Queue, Steps, TimedMachine};
+use crate::{KEYS, Key, Queue, Steps};
+use machine::TimedMachine;
 use std::test::Fail;
 
 fn key(iface: u32, machine: TimedMachine) -> Key

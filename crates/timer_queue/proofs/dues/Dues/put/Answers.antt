@@ -1,5 +1,5 @@
 use Rattle.std.proofs.Common.{subst}
-use Rattle.timer_queue.specs.declared.key.TimedMachine.TheVariants.{Dhcp4}
+use Rattle.machine.specs.declared.timed.TimedMachine.TheVariants.{Dhcp4}
 use Rattle.timer_queue.specs.Moments.{Moments}
 use Rattle.timer_queue.proofs.Putting.{PutsOne, puts_all}
 use Rattle.timer_queue.proofs.dues.Dues.put.Goals as goal
