@@ -6,7 +6,7 @@
 
 For each kind of script and each size in MiB (of `renew` and `renew6`, each number of renewals): the time, the time over that of the
 size before, the time of sha256sum of the same script, and the peak memory, also over the size of the script. Beside
-`lease` stands the time in which tcpdump prints its frames, where there is a tcpdump. `busy` has the time of one turn on
+`lease`, `renew` and `renew6` stands the time in which tcpdump prints the servers' frames, where there is a tcpdump. `busy` has the time of one turn on
 an interface among 64, and alone. `check` is a configuration: blocks of 64 interfaces, again and again, with comments,
 values, lists within their limits and blocks that are skipped. `rt run` in crates/dhcpcd_prog builds the program.
 """
@@ -328,8 +328,10 @@ def run_renewals(program, room, kind, numbers):
     conf_lines, lines = RENEWED[kind]
     path, before = os.path.join(room, "script"), None
     for times in numbers:
-        write_lines(path, script_of(conf_lines, IFACES, lines(Turns(), times)))
+        turns = Turns()
+        write_lines(path, script_of(conf_lines, IFACES, lines(turns, times)))
         before = run_one(program, path, kind, times, before)
+        run_tcpdump(room, turns.frames)
 
 
 def run_busy(program, room):
