@@ -16,7 +16,7 @@ is_like text other = bytes_eq other text
 abbrev pub differs : List ℕ → List ℕ → Bool
 differs text other = not (bytes_eq other text)
 
-like_refl : (text : List ℕ) → bytes_eq text text ≡ true
+pub like_refl : (text : List ℕ) → bytes_eq text text ≡ true
 like_refl text = (bytes_eq-Decides text text).1 refl
 
 like_sym : (text other : List ℕ) (b : Bool) → bytes_eq text other ≡ b → bytes_eq other text ≡ b

@@ -87,6 +87,23 @@ fn link_local_servers(rt: HostRuntime) -> Result<(), Fail> {
 }
 
 #[test]
+fn shared_servers_are_printed_once(rt: HostRuntime) -> Result<(), Fail> {
+    // fe80::1 of each interface is another server, 10.0.0.1 and 2001::1 are the same ones everywhere
+    let servers = [four(1), six(0xfe80, 1), six(0x2001, 1)];
+    let mut parts = Vec::new(rt.alloc());
+    for digit in *b"012" {
+        let mut one = part(&rt, 0, Family::V6, &servers, &[])?;
+        one.name.bytes[3] = digit;
+        parts.push(one)?;
+    }
+    assert_eq!(rt;
+        resolver(rt.alloc(), &parts)?.as_str(),
+        "nameserver 10.0.0.1\nnameserver fe80::1%eth0\nnameserver 2001::1\nnameserver fe80::1%eth1\nnameserver fe80::1%eth2\n"
+    );
+    Ok(())
+}
+
+#[test]
 fn sixteen_names_and_eight_servers(rt: HostRuntime) -> Result<(), Fail> {
     let names = [
         "a", "b", "c", "d", "e", "f", "g", "h", "a", "i", "j", "k", "l", "m", "n", "o", "p", "q",

@@ -1,16 +1,18 @@
 //! The first of what the parts say, as texts. Once there are as many as the limit says, no more of the parts is read.
-ghost use Rattle.std.specs.Prelude.{◌≡◌, ◌<◌, ◌∷◌, [], filter, flat_map, length, map, take, bytes_eq, IfOk, OnOk};
+ghost use Rattle.std.specs.Prelude.{◌≡◌, ◌<◌, ◌∷◌, [], filter, flat_map, length, map, take, bytes_eq, Contains, Decides, IfOk, OnOk};
 ghost use Rattle.std.specs.List.{list_any};
 ghost use Rattle.std.specs.String.{string_bytes};
 ghost use Rattle.domain_names.specs.NameText.{is_name};
 ghost use Rattle.resolver_text.specs.Keeping.{KeepsOn};
 ghost use Rattle.resolver_text.specs.Parts.{part_content};
 ghost use Rattle.resolver_text.specs.Texts.{is_link_local, part_names, part_servers, server_text, unlike, zoned_text};
+ghost use Rattle.resolver_text.specs.Told.{needs_no_zone};
 
 use crate::part::{Part, Server};
 use domain_names::is_name;
 use net_types::{Ip6, Name};
 use std::alloc::{AllocError, Global};
+use std::marker::Model;
 
 /// The first ten bits of a link-local address, fe80::/10 (RFC 4291, section 2.5.6).
 const LINK_LOCAL_BITS: u128 = 0x3fa;
@@ -96,6 +98,16 @@ fn server_text(alloc: Global, name: Name, server: Server) -> Result<String, Allo
     }
 }
 
+/// Whether the server's text is the same on each interface.
+fn needs_no_zone(server: Server) -> bool
+    ensures { result ≡ needs_no_zone server }
+{
+    match server {
+        Server::V4(_) => true,
+        Server::V6(ip) => !is_link_local(ip),
+    }
+}
+
 /// Whether a text is one of the texts.
 fn is_printed(texts: &[String], text: &str) -> bool
     ensures { result ≡ list_any (λ other. bytes_eq (string_bytes other) text.now) texts.now }
@@ -103,33 +115,93 @@ fn is_printed(texts: &[String], text: &str) -> bool
     texts.iter().any(|other| other.as_str() == text)
 }
 
-/// Appends the text of a server that is unlike those before it.
-fn add_server(text: String, servers: &mut Vec<String>, limit: usize) -> Result<(), AllocError>
-    requires { length servers.old.items < limit }
-    ensures { OnOk result (KeepsOn limit (string_bytes text ∷ []) (map (λ text. string_bytes text) servers.old.items) (map (λ text. string_bytes text) servers.new.items)) }
+/// Whether a server is one of those that were told.
+fn is_told(told: &[Server], server: Server) -> bool
+    ensures { Decides result (Contains told.now server) }
 {
-    if !is_printed(servers, text.as_str()) {
-        servers.push(text)?;
-    }
-    Ok(())
+    told.contains(&server)
 }
 
-/// Appends the texts of a part's servers, until there are as many as the limit says.
-fn add_servers(
-    alloc: Global,
-    part: &Part,
-    servers: &mut Vec<String>,
-    limit: usize,
-) -> Result<(), AllocError>
-    ensures { OnOk result (KeepsOn limit (part_servers (part_content part.now)) (map (λ text. string_bytes text) servers.old.items) (map (λ text. string_bytes text) servers.new.items)) }
-{
-    for server in &part.servers {
-        if servers.len() >= limit {
+/// The texts of servers, no two alike.
+#[derive(Drop)]
+struct Servers {
+    texts: Vec<String>,
+    /// Servers whose texts stand among these whatever the interface: they needn't be printed again.
+    told: Vec<Server>,
+}
+
+impl Model for Servers {
+    ghost use Rattle.std.specs.Prelude.{ℕ, List, map};
+    ghost use Rattle.std.specs.String.{string_bytes};
+    ghost use Rattle.resolver_text.specs.Told.{AreTold};
+
+    ghost Value = { List (List ℕ) };
+
+    ghost view = { λ servers. map (λ text. string_bytes text) servers.texts.items };
+
+    ghost invariant = { λ servers. AreTold servers.told.items (map (λ text. string_bytes text) servers.texts.items) };
+}
+
+impl Servers {
+    fn new(alloc: Global) -> Servers
+        ensures { result ≡ [] }
+    {
+        Servers {
+            texts: Vec::new(alloc),
+            told: Vec::new(alloc),
+        }
+    }
+
+    fn len(&self) -> usize
+        ensures { result ≡ length self.now }
+    {
+        self.texts.len()
+    }
+
+    /// Adds the text of a server that is unlike those before it. Of several interfaces' servers most are the same ones, so a
+    /// server that was told isn't printed again.
+    fn add(
+        &mut self,
+        alloc: Global,
+        name: Name,
+        server: Server,
+        limit: usize,
+    ) -> Result<(), AllocError>
+        requires { length self.old < limit }
+        ensures { OnOk result (KeepsOn limit (server_text name server ∷ []) self.old self.new) }
+    {
+        if is_told(&self.told, server) {
             return Ok(());
         }
-        add_server(server_text(alloc, part.name, *server)?, servers, limit)?;
+        let text = server_text(alloc, name, server)?;
+        if is_printed(&self.texts, text.as_str()) {
+            return Ok(());
+        }
+        self.texts.push(text)?;
+        if needs_no_zone(server) {
+            self.told.push(server)?;
+        }
+        Ok(())
     }
-    Ok(())
+
+    /// Adds the texts of a part's servers, until there are as many as the limit says.
+    fn add_part(&mut self, alloc: Global, part: &Part, limit: usize) -> Result<(), AllocError>
+        ensures { OnOk result (KeepsOn limit (part_servers (part_content part.now)) self.old self.new) }
+    {
+        for server in &part.servers {
+            if self.len() >= limit {
+                return Ok(());
+            }
+            self.add(alloc, part.name, *server, limit)?;
+        }
+        Ok(())
+    }
+
+    fn into_texts(self) -> Vec<String>
+        ensures { map (λ text. string_bytes text) result.items ≡ self }
+    {
+        self.texts
+    }
 }
 
 /// The first unlike texts of the parts' servers, no more than `limit`.
@@ -140,12 +212,12 @@ pub(crate) fn first_servers(
 ) -> Result<Vec<String>, AllocError>
     ensures { IfOk result (λ servers. map (λ text. string_bytes text) servers.items ≡ take limit (unlike (flat_map part_servers (map (λ p. part_content p.now) parts.now)))) }
 {
-    let mut servers = Vec::new(alloc);
+    let mut servers = Servers::new(alloc);
     for part in parts {
         if servers.len() >= limit {
-            return Ok(servers);
+            return Ok(servers.into_texts());
         }
-        add_servers(alloc, part, &mut servers, limit)?;
+        servers.add_part(alloc, part, limit)?;
     }
-    Ok(servers)
+    Ok(servers.into_texts())
 }

@@ -1,5 +1,4 @@
 use Rattle.std.proofs.Common.{map, take, flat_map, []}
-use Rattle.std.specs.String.{string_bytes}
 use Rattle.resolver_text.specs.Keeping.{KeepsOn}
 use Rattle.resolver_text.specs.Parts.{part_content}
 use Rattle.resolver_text.specs.Texts.{part_servers}
@@ -7,4 +6,4 @@ use Rattle.resolver_text.proofs.texts.first_servers.Given as goal
 
 abbrev pub invariant-loop-part : goal.invariant-loop-part
 invariant-loop-part l =
-    KeepsOn l.limit (flat_map part_servers (map (λ p. part_content p.now) (take l.part-index l.parts))) [] (map (λ text. string_bytes text) l.servers.items)
+    KeepsOn l.limit (flat_map part_servers (map (λ p. part_content p.now) (take l.part-index l.parts))) [] l.servers

@@ -1,11 +1,10 @@
 use Rattle.std.proofs.Common.{arith, map}
-use Rattle.std.specs.String.{string_bytes}
 use Rattle.resolver_text.specs.Texts.{server_text}
-use Rattle.resolver_text.proofs.KeptTexts.{enough_views, mapped_parted, reads_no_more}
-use Rattle.resolver_text.proofs.texts.add_servers.Goals as goal
+use Rattle.resolver_text.proofs.KeptTexts.{mapped_parted, reads_no_more}
+use Rattle.resolver_text.proofs.texts.Servers.add_part.Goals as goal
 
 pub returns-then-len-limit : goal.returns-then-len-limit
 returns-then-len-limit c =
     reads_no_more (λ xs. map (server_text c.args.part.now.name) xs) (mapped_parted (server_text c.args.part.now.name))
     c.args.limit c.args.part.now.servers.items c.loop-server.server-index _ _ c.loop-server.invariant
-    (enough_views (λ text. string_bytes text) c.args.limit c.loop-server.servers.items (omega (arith, c.if-len-limit.true, c.len.ensures)))
+    (omega (arith, c.if-len-limit.true, c.len.ensures))
