@@ -7,10 +7,11 @@ use Rattle.std.specs.Ordering.{nat_cmp, on, then_cmp, is_eq, eq_by_cmp}
 use Rattle.std.specs.Cmp.{IsTotalOrder, IsEquivalence, eq_by_cmp_equiv}
 use Rattle.std.specs.Cmp.Rules.{comparing}
 use Rattle.std.specs.BTreeMap.{is_at}
+use Rattle.net_types.specs.declared.address.Net.{Net}
 use Rattle.world.specs.declared.rows.HostRow.{HostRow}
 use Rattle.world.specs.declared.rows.HostRow.TheVariants.{Addr, Route}
 use Rattle.world.specs.declared.rows.Via.TheVariants.{OnLink}
-use Rattle.world.specs.RowOrder.{row_iface, row_cmp, row_cmp_total, has_row}
+use Rattle.world.specs.RowOrder.{family, net_number, net_len, row_iface, row_cmp, row_cmp_total, has_row}
 use Rattle.host_model.specs.Precedence.{is_kept}
 use Rattle.host_tables.specs.declared.bringing.Bringing.{Bringing}
 
@@ -18,6 +19,10 @@ use Rattle.host_tables.specs.declared.bringing.Bringing.{Bringing}
 abbrev pub target_of : HostRow → HostRow
 target_of (Addr iface net) = Addr iface net
 target_of (Route iface dest via metric) = Route (record { number = 0 }) dest OnLink metric
+
+-- by family, address and length
+abbrev pub net_cmp : Net → Net → Ordering
+net_cmp = then_cmp (on family nat_cmp) (then_cmp (on net_number nat_cmp) (on net_len nat_cmp))
 
 -- whether two rows have one target
 abbrev pub contends : HostRow → HostRow → Bool

@@ -3,9 +3,10 @@ ghost use Rattle.std.specs.Cmp.{partial_order_from_total, partial_equiv_from_equ
 ghost use Rattle.std.specs.Cmp.Rules.{comparing};
 ghost use Rattle.std.specs.Ordering.{as_partial_cmp, eq_by_cmp};
 ghost use Rattle.std.proofs.Common.{rules};
-ghost use Rattle.host_tables.specs.Bringings.{target_of, bringing_cmp, bringing_cmp_for_target, bringing_cmp_total, bringing_eq_equivalence};
+ghost use Rattle.world.specs.RowOrder.{row_cmp};
+ghost use Rattle.host_tables.specs.Bringings.{net_cmp, target_of, bringing_cmp, bringing_cmp_for_target, bringing_cmp_total, bringing_eq_equivalence};
 
-use net_types::IfIndex;
+use net_types::{IfIndex, Net};
 use std::cmp::Ordering;
 use world::{HostRow, Via};
 
@@ -28,6 +29,37 @@ pub fn target(row: HostRow) -> HostRow
             via: Via::OnLink,
             metric,
         },
+    }
+}
+
+/// The order of networks: by family, address and length.
+fn cmp_nets(one: Net, other: Net) -> Ordering
+    ensures { result ≡ net_cmp one other }
+{
+    match (one, other) {
+        (Net::V4(a), Net::V4(b)) => a.ip.number.cmp(&b.ip.number).then(a.len.cmp(&b.len)),
+        (Net::V4(_), Net::V6(_)) => Ordering::Less,
+        (Net::V6(_), Net::V4(_)) => Ordering::Greater,
+        (Net::V6(a), Net::V6(b)) => a.ip.number.cmp(&b.ip.number).then(a.len.cmp(&b.len)),
+    }
+}
+
+/// The order of the targets of two rows, which aren't made for it.
+fn cmp_targets(one: &HostRow, other: &HostRow) -> Ordering
+    ensures { result ≡ row_cmp (target_of one.now) (target_of other.now) }
+{
+    match (one, other) {
+        (HostRow::Addr { .. }, HostRow::Addr { .. }) => one.cmp(other),
+        (HostRow::Addr { .. }, HostRow::Route { .. }) => Ordering::Less,
+        (HostRow::Route { .. }, HostRow::Addr { .. }) => Ordering::Greater,
+        (
+            HostRow::Route { dest, metric, .. },
+            HostRow::Route {
+                dest: other_dest,
+                metric: other_metric,
+                ..
+            },
+        ) => cmp_nets(*dest, *other_dest).then(metric.cmp(other_metric)),
     }
 }
 
@@ -55,7 +87,7 @@ impl Ord for Bringing {
     ghost matches_eq = { Prim.search (comparing, rules) };
 
     fn cmp(&self, other: &Bringing) -> Ordering {
-        match target(self.row).cmp(&target(other.row)) {
+        match cmp_targets(&self.row, &other.row) {
             Ordering::Equal => self.cmp_for_target(other),
             unlike => unlike,
         }
