@@ -26,6 +26,3 @@ pub use clients::{
 pub use effects::{Resolver, Touched};
 pub use host_tables::Diff;
 pub use iface_core::{Beginning, Outs, Sending, Turn, TurnInput, earlier_of};
-
-#[cfg(test)]
-mod tests;

@@ -30,6 +30,3 @@ pub use reading::{directive_said, interface_said};
 pub use values::{
     CodesSaid, Directive, Env, IaLine, Identifier, LineSaid, Pattern, ShareLine, StaticValue,
 };
-
-#[cfg(test)]
-mod tests;

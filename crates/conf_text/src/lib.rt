@@ -28,6 +28,3 @@ pub use constants::bounds_of_a_configuration;
 pub use managing::{managed, settings, settings_fit};
 pub use reading::{configuration_is_one, read_conf};
 pub use sharing::shares_are_planned;
-
-#[cfg(test)]
-mod tests;

@@ -16,6 +16,3 @@ pub use characters::is_text;
 pub use laws::{arguments_are_one, lines_are_one, readings_are_one};
 pub use lines::{Line, directive_of, first_line};
 pub use reading::{Reading, read};
-
-#[cfg(test)]
-mod tests;

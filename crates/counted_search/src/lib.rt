@@ -6,8 +6,6 @@ mod merge;
 mod ordered;
 mod search;
 mod steps;
-#[cfg(test)]
-mod tests;
 
 pub use first::first_from;
 pub use merge::{beyond, beyond_into};

@@ -13,8 +13,6 @@ mod replaying;
 mod running;
 mod settling;
 mod status;
-#[cfg(test)]
-mod tests;
 mod words;
 mod writing;
 

@@ -7,8 +7,6 @@ mod questions;
 mod saying;
 mod streams;
 mod telling;
-#[cfg(test)]
-mod tests;
 
 ghost use Rattle.std.specs.Prelude.{◌≡◌};
 ghost use Rattle.dhcpcd_prog.specs.Endings.{unread};

@@ -10,6 +10,3 @@ mod text;
 pub use laws::name_law;
 pub use search::{is_search, search_of};
 pub use text::{is_name, is_text, text_of};
-
-#[cfg(test)]
-mod tests;

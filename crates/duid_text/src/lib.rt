@@ -6,6 +6,3 @@ mod laws;
 
 pub use duid_text::{link_layer_duid, print_duid, read_duid};
 pub use laws::duids_are_read_back;
-
-#[cfg(test)]
-mod tests;

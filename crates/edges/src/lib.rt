@@ -12,8 +12,6 @@ mod datagrams;
 mod faults;
 mod folder;
 mod links;
-#[cfg(test)]
-mod tests;
 
 pub use children::ChildHooks;
 pub use commands::CommandHost;

@@ -13,6 +13,3 @@ pub use fields::{ip4_at, mac_at, word_at};
 pub use heard::{
     arp_is_heard, frame_is_heard, frame_is_spelled, packet_is_heard, packet_is_spelled,
 };
-
-#[cfg(test)]
-mod tests;

@@ -14,6 +14,3 @@ pub use laws::{jobs_are_numbered, jobs_start_in_order, one_child_runs};
 pub use supervising::{
     Supervisor, next_job, not_started, polled, put, running, supervisor_new, waiting,
 };
-
-#[cfg(test)]
-mod tests;

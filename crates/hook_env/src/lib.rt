@@ -16,6 +16,3 @@ mod variables;
 pub use jobs::job;
 pub use situation::{Held, Situation, Stage};
 pub use variables::{JobVariable, Lease6Variable, NetVariable, OptionVariable};
-
-#[cfg(test)]
-mod tests;

@@ -6,8 +6,6 @@ mod diffs;
 mod host_rows;
 mod standing;
 mod tables;
-#[cfg(test)]
-mod tests;
 mod union;
 
 pub use counted_search::Steps;

@@ -28,6 +28,3 @@ pub use outs::{Outs, Sending, Told};
 pub use sharing::{first_address, shares_of};
 pub use telling::{event_job, metric_of};
 pub use turns::{iface_input, iface_tick, iface_turn, iface_unsent};
-
-#[cfg(test)]
-mod tests;

@@ -4,6 +4,3 @@
 mod unlike;
 
 pub use unlike::all_unlike;
-
-#[cfg(test)]
-mod tests;

@@ -13,6 +13,3 @@ pub use link_local::{
     Fallback, LinkLocal, LlNews, LlOut, Waits, ll_arm, ll_drop, ll_heard, ll_held, ll_off,
     ll_unsent,
 };
-
-#[cfg(test)]
-mod tests;

@@ -22,6 +22,3 @@ pub use lease::{
 pub use printing::print6;
 pub use reading::read_lease6;
 pub use typed::lease6_is_typed;
-
-#[cfg(test)]
-mod tests;

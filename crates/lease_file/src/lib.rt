@@ -12,6 +12,3 @@ pub use faults::{SaveFault, SaveStep};
 pub use laws::{a_crash_leaves_whole_files, clearing_keeps_files};
 pub use reading::{Got, read_file, read_files};
 pub use saving::{remove, save};
-
-#[cfg(test)]
-mod tests;

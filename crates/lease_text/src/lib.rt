@@ -21,6 +21,3 @@ pub use lease::{
 pub use printing::{OptionLine, print4};
 pub use reading::read_lease4;
 pub use typed::lease_is_typed;
-
-#[cfg(test)]
-mod tests;

@@ -8,6 +8,3 @@ mod reading;
 
 pub use listed::Interfaces;
 pub use reading::live_words;
-
-#[cfg(test)]
-mod tests;

@@ -11,6 +11,3 @@ mod timed;
 pub use laws::early_ticks_rest;
 pub use salt::{draw, draw_xid};
 pub use timed::{LAST_MOMENT, Machine, TimedMachine, clamp_moment, has_come};
-
-#[cfg(test)]
-mod tests;

@@ -11,6 +11,3 @@ mod turns;
 pub use laws::{made_configuration_is_good, made_scripts_fit};
 pub use script::made_script;
 pub use turns::MOST_ROUNDS;
-
-#[cfg(test)]
-mod tests;

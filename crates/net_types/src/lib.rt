@@ -33,6 +33,3 @@ pub use printing::{Hex, append_text, print_ip4, print_ip6};
 pub use sum::Sum;
 pub use sum::calls::{sum_add, sum_is_right, sum_new, sum_value};
 pub use text_lines::{LineFault, LineState, TextFault, read_lines};
-
-#[cfg(test)]
-mod tests;

@@ -13,6 +13,3 @@ pub struct Sum {
     pub odd: bool,
     pub ghost small: { total ≤ 65535 },
 }
-
-#[cfg(test)]
-mod tests;

@@ -7,6 +7,3 @@ mod index;
 mod place;
 
 pub use index::{Found, OptionIndex};
-
-#[cfg(test)]
-mod tests;

@@ -13,6 +13,3 @@ pub use laws::{planned_shares_are_apart, planned_shares_fit, subnets_are_of_the_
 pub use rules::{ShareCause, ShareFault, plan};
 pub use share::Share;
 pub use subnets::{network_number, subnet};
-
-#[cfg(test)]
-mod tests;

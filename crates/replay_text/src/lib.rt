@@ -23,6 +23,3 @@ pub use rows::{a_text_spells_one_row, print_row, read_row, row_of};
 pub use script::{
     CrashLine, FileLine, LifeLines, Script, ScriptAnswer, ScriptCause, ScriptFault, TurnLine,
 };
-
-#[cfg(test)]
-mod tests;

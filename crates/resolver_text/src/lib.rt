@@ -12,6 +12,3 @@ mod texts;
 pub use laws::{parts_are_ordered, texts_are_lines};
 pub use part::{Family, Part, Server};
 pub use resolver_lines::resolver;
-
-#[cfg(test)]
-mod tests;

@@ -98,7 +98,7 @@ fn server_text(alloc: Global, name: Name, server: Server) -> Result<String, Allo
     }
 }
 
-/// Whether the server's text is the same on each interface.
+/// Whether the server's text is the same on each interface: a zone stands behind link-local addresses alone (RFC 4007, section 11).
 fn needs_no_zone(server: Server) -> bool
     ensures { result ≡ needs_no_zone server }
 {

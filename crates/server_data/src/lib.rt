@@ -9,6 +9,3 @@ mod writing;
 pub use laws::replies_are_read_back;
 pub use reply::{Reply, ReplyKind};
 pub use writing::server_data;
-
-#[cfg(test)]
-mod tests;

@@ -6,8 +6,6 @@ mod key;
 mod named;
 mod places;
 mod queue;
-#[cfg(test)]
-mod tests;
 mod timer;
 
 pub use counted_search::Steps;

@@ -2,7 +2,5 @@
 #![tactic(auto)]
 
 mod counting;
-#[cfg(test)]
-mod tests;
 
 pub use counting::summary;

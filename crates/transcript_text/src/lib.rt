@@ -11,6 +11,3 @@ mod printing;
 pub use laws::lines_apart;
 pub use lines::{Reading, TranscriptLine};
 pub use printing::print_line;
-
-#[cfg(test)]
-mod tests;

@@ -17,6 +17,3 @@ pub use heard::{udp4_is_heard, udp6_is_heard};
 pub use ipv6::link_local_of;
 pub use udp4::{Ends4, KIND_IPV4, Udp4View, build_udp4, udp4_of};
 pub use udp6::{Ends6, KIND_IPV6, Udp6View, build_udp6, udp6_of};
-
-#[cfg(test)]
-mod tests;

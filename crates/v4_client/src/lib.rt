@@ -29,6 +29,3 @@ pub use settings::{Set4, Site4};
 pub use states::{
     Answer4, Carrier, Exchange4, Keep4, News4, Origin4, Say4, State4, Step4, Tell, To4, Turn4,
 };
-
-#[cfg(test)]
-mod tests;

@@ -16,6 +16,3 @@ pub use laws::{
 };
 pub use sent::{CLIENT_PORT, EVERY_MAC, SERVER_PORT, Sent4, build4};
 pub use speaker::{BROADCAST_FLAG, Speaker};
-
-#[cfg(test)]
-mod tests;

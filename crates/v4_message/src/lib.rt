@@ -11,6 +11,3 @@ pub use constants::kinds_are_those_assigned;
 pub use kind::MessageKind;
 pub use reading::{Bad4, Msg4, read4};
 pub use writing::{Ask4, Kind4, Said4, put_option, write4};
-
-#[cfg(test)]
-mod tests;

@@ -104,7 +104,8 @@ fn put_client_fields(message: &mut Vec<u8>, said: &Said4) -> Result<(), AllocErr
     message.extend_from_slice(&MAGIC_COOKIE)
 }
 
-/// Appends an option with a value of fewer than 256 bytes (RFC 2132, section 2).
+/// Appends an option with a value of fewer than 256 bytes (RFC 2132, section 2). Where memory runs out, a part of it may stand there
+/// already.
 pub fn put_option(message: &mut Vec<u8>, code: u8, value: &[u8]) -> Result<(), AllocError>
     requires { length value.now < 256 }
     ensures { OnOk result (message.new.items ≡ message.old.items ++ options_text ((code, value.now) ∷ [])) }

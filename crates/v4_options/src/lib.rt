@@ -21,6 +21,3 @@ pub use numbers::{addr_of, addrs_of, u16_of, u32_of};
 pub use overload::Overload;
 pub use routes::{ClasslessRoute, are_routes, routes_of};
 pub use view::{Areas, Malformed, OptionView, options_of};
-
-#[cfg(test)]
-mod tests;

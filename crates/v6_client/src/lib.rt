@@ -44,6 +44,3 @@ pub use states::{
     Answer6, Carrier6, Cause6, Dates6, Keep6, News6, Parting6, Say6, Scope6, State6, Step6, Tell6,
 };
 pub use turn::Turn6;
-
-#[cfg(test)]
-mod tests;

@@ -12,6 +12,3 @@ pub use laws::{
     other_frames_spell_nothing, spelled_frames_alone,
 };
 pub use sent::{build6, client_ends};
-
-#[cfg(test)]
-mod tests;

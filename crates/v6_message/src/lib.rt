@@ -12,6 +12,3 @@ pub use laws::said_is_read_back;
 pub use reading::{Bad6, Msg6, ias_of, read6};
 pub use said::{IaAsked, Said6};
 pub use writing::write6;
-
-#[cfg(test)]
-mod tests;

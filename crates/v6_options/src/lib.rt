@@ -24,6 +24,3 @@ pub use laws::option_law;
 pub use options::{OptionView, Options, first_value, options_of};
 pub use readers::{are_servers6, dns6_of, is_search6, search6_of};
 pub use status::{Status, status_of};
-
-#[cfg(test)]
-mod tests;

@@ -14,6 +14,3 @@ pub use laws::{times_are_bounded, times_follow};
 pub use parameters::Parameters;
 pub use rand::{draw_positive_rand, draw_rand};
 pub use retrans::Retrans;
-
-#[cfg(test)]
-mod tests;

@@ -12,8 +12,6 @@ mod row_text;
 mod rows;
 mod stores;
 mod streams;
-#[cfg(test)]
-mod tests;
 mod wakes;
 
 pub use crash_laws::what_a_crash_leaves;

@@ -13,8 +13,6 @@ mod replaying;
 mod small_rows;
 mod stores;
 mod streams;
-#[cfg(test)]
-mod tests;
 mod undoing;
 
 pub use crashes::Pick;

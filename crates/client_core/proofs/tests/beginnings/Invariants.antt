@@ -1,7 +1,0 @@
-use Rattle.std.specs.Prelude.{map}
-use Rattle.client_model.specs.Fitting.{AreBeginnings}
-use Rattle.iface_core.specs.Beginnings.{beginning_of}
-use Rattle.client_core.proofs.tests.beginnings.Given as goal
-
-abbrev pub invariant-numbers : goal.invariant-numbers
-invariant-numbers l = AreBeginnings (map beginning_of l.all.items)
