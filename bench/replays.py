@@ -2,13 +2,14 @@
 """Times the program on long scripts, and on long configurations.
 
     bench/replays.py [--program PATH] [--kinds quiet carrier local lease renew renew6 busy check] [--sizes 4 16]
-                     [--renewals 100 200]
+                     [--renewals 100 200] [--ifaces 64]
 
 For each kind of script and each size in MiB (of `renew` and `renew6`, each number of renewals): the time, the time over that of the
 size before, the time of sha256sum of the same script, and the peak memory, also over the size of the script. Beside
-`lease`, `renew` and `renew6` stands the time in which tcpdump prints the servers' frames, where there is a tcpdump. `busy` has the time of one turn on
-an interface among 64, and alone. `check` is a configuration: blocks of 64 interfaces, again and again, with comments,
-values, lists within their limits and blocks that are skipped. `rt run` in crates/dhcpcd_prog builds the program.
+`lease`, `renew` and `renew6`, which are of so many interfaces, stands the time in which tcpdump prints the servers' frames, and
+the frames of both ways, where there is a tcpdump. `busy` has the time of one turn on an interface among 64, and alone. `check`
+is a configuration: blocks of 64 interfaces, again and again, with comments, values, lists within their limits and blocks that
+are skipped. `rt run` in crates/dhcpcd_prog builds the program.
 """
 
 import argparse
@@ -28,6 +29,7 @@ import frames  # noqa: E402 (it stands in another folder)
 BUILT = os.path.join(TOP, "crates", "dhcpcd_prog", "out", "dhcpcd_prog")
 MIB = 1 << 20
 IFACES = 64
+ARP = b"\x08\x06"  # the type of a frame that isn't DHCP
 START = 1000  # the moment of the start
 BUSY_ROUNDS = 2000
 # What an ACK has beside the least: a further server of names, a name, a broadcast address, a time server, a search list.
@@ -178,32 +180,32 @@ class Turns:
             yield self.quiet(2001)
 
 
-def lease_turns(turns):
+def lease_turns(turns, ifaces):
     """All interfaces acquire leases of a minute, which end, and begin anew."""
     while True:
-        yield from turns.acquire(range(1, IFACES + 1), 60)
+        yield from turns.acquire(range(1, ifaces + 1), 60)
         yield from turns.probe()
         yield turns.quiet(60_000)
 
 
-def renewed_turns(turns, times):
+def renewed_turns(turns, ifaces, times):
     """All interfaces acquire leases of an hour, and renew them so many times."""
-    yield from turns.acquire(range(1, IFACES + 1), 3600)
+    yield from turns.acquire(range(1, ifaces + 1), 3600)
     yield from turns.probe()
     for _ in range(times):
         yield turns.quiet(1_801_000)
         began = turns.count
-        for i in range(1, IFACES + 1):
+        for i in range(1, ifaces + 1):
             yield turns.answer("ack", i, began, {"51": "3600", **MORE})
 
 
-def renewed6_turns(turns, times):
+def renewed6_turns(turns, ifaces, times):
     """All interfaces acquire addresses of DHCPv6, and renew them so many times."""
-    yield from turns.acquire6(range(1, IFACES + 1))
+    yield from turns.acquire6(range(1, ifaces + 1))
     for _ in range(times):
         yield turns.quiet(1_801_000)
         began = turns.count
-        for i in range(1, IFACES + 1):
+        for i in range(1, ifaces + 1):
             yield turns.answer6("reply", i, began)
 
 
@@ -244,12 +246,12 @@ def script_of(conf_lines, ifaces, lines, size=None):
     return itertools.chain([text], lines if size is None else sized(text, lines, size))
 
 
-# The kinds of scripts that are made of a size, each with its turns and how many interfaces they need.
+# The kinds of scripts that are made of a size, each with its turns and how many interfaces they need, where that isn't chosen.
 SIZED = {
-    "quiet": (static_lines, 1, lambda turns: quiet_turns()),
-    "carrier": (static_lines, IFACES, lambda turns: carrier_turns()),
-    "local": (local_lines, IFACES, lambda turns: local_turns()),
-    "lease": (leased_lines, IFACES, lease_turns),
+    "quiet": (static_lines, 1, lambda turns, ifaces: quiet_turns()),
+    "carrier": (static_lines, IFACES, lambda turns, ifaces: carrier_turns()),
+    "local": (local_lines, IFACES, lambda turns, ifaces: local_turns()),
+    "lease": (leased_lines, None, lease_turns),
 }
 # Those that are made of a number of renewals.
 RENEWED = {"renew": (leased_lines, renewed_turns), "renew6": (asking6_lines, renewed6_turns)}
@@ -262,11 +264,14 @@ def write_lines(path, lines):
 
 
 def write_pcap(path, packets):
-    """Writes frames as a capture of Ethernet, one each millisecond."""
+    """Writes frames as a capture of Ethernet, one each millisecond, and says how many they are."""
+    count = 0
     with open(path, "wb") as capture:
         capture.write(struct.pack("<IHHiIII", 0xA1B2C3D4, 2, 4, 0, 0, 65535, 1))
-        for at, packet in enumerate(packets):
-            capture.write(struct.pack("<IIII", at // 1000, at % 1000 * 1000, len(packet), len(packet)) + packet)
+        for packet in packets:
+            capture.write(struct.pack("<IIII", count // 1000, count % 1000 * 1000, len(packet), len(packet)) + packet)
+            count += 1
+    return count
 
 
 def timed(words, path):
@@ -295,15 +300,16 @@ def run_one(program, path, kind, size, before, word="replay"):
     return seconds
 
 
-def run_sized(program, room, kind, sizes):
-    conf_lines, ifaces, lines = SIZED[kind]
+def run_sized(program, room, kind, sizes, chosen):
+    conf_lines, needed, lines = SIZED[kind]
+    ifaces = needed or chosen
     path, before = os.path.join(room, "script"), None
     for size in sizes:
         turns = Turns()
-        write_lines(path, script_of(conf_lines, ifaces, lines(turns), size * MIB))
+        write_lines(path, script_of(conf_lines, ifaces, lines(turns, ifaces), size * MIB))
         before = run_one(program, path, kind, size, before)
         if turns.frames:
-            run_tcpdump(room, turns.frames)
+            run_tcpdumps(program, room, turns.frames, path, before)
 
 
 def run_checks(program, room, sizes):
@@ -313,25 +319,49 @@ def run_checks(program, room, sizes):
         before = run_one(program, path, "check", size, before, "check")
 
 
-def run_tcpdump(room, packets):
-    """The time in which tcpdump reads and prints the same frames."""
-    if shutil.which("tcpdump") is None:
-        print(f"         {len(packets)} frames; there is no tcpdump", flush=True)
-        return
+def dhcp_frames(program, path):
+    """The DHCP frames that came and that were sent in the transcript of a script, in their order."""
+    with open(path, "rb") as script:
+        child = subprocess.Popen([program, "replay"], stdin=script, stdout=subprocess.PIPE, text=True)
+        for line in child.stdout:
+            words = line.split()
+            if words[0] == "turn" and words[3] == "frame":
+                packet = bytes.fromhex(words[5])
+            elif words[0] == "send":
+                packet = bytes.fromhex(words[2])
+            else:
+                continue
+            if packet[12:14] != ARP:
+                yield packet
+        if child.wait() != 0:
+            sys.exit(f"{program}: status {child.returncode}")
+
+
+def run_tcpdump(room, packets, what, seconds):
+    """The time in which tcpdump reads and prints the frames, and how many times as long the replay took."""
     path = os.path.join(room, "capture")
-    write_pcap(path, packets)
-    seconds, _ = timed(["tcpdump", "-n", "-v", "-r", "-"], path)
-    print(f"         {len(packets)} frames, which tcpdump -n -v prints in {seconds:.2f} s", flush=True)
+    count = write_pcap(path, packets)
+    printing, _ = timed(["tcpdump", "-n", "-v", "-r", "-"], path)
+    print(f"         {count} frames {what}: tcpdump -n -v {printing:.2f} s, the replay {seconds / printing:.1f} times as long", flush=True)
 
 
-def run_renewals(program, room, kind, numbers):
+def run_tcpdumps(program, room, heard, script, seconds):
+    """tcpdump on the servers' frames alone, and on all DHCP frames of the same replay."""
+    if shutil.which("tcpdump") is None:
+        print(f"         {len(heard)} frames; there is no tcpdump", flush=True)
+        return
+    run_tcpdump(room, heard, "heard", seconds)
+    run_tcpdump(room, dhcp_frames(program, script), "heard and sent", seconds)
+
+
+def run_renewals(program, room, kind, numbers, ifaces):
     conf_lines, lines = RENEWED[kind]
     path, before = os.path.join(room, "script"), None
     for times in numbers:
         turns = Turns()
-        write_lines(path, script_of(conf_lines, IFACES, lines(turns, times)))
+        write_lines(path, script_of(conf_lines, ifaces, lines(turns, ifaces, times)))
         before = run_one(program, path, kind, times, before)
-        run_tcpdump(room, turns.frames)
+        run_tcpdumps(program, room, turns.frames, path, before)
 
 
 def run_busy(program, room):
@@ -352,6 +382,7 @@ def main():
     parser.add_argument("--kinds", nargs="+", choices=KINDS, default=KINDS)
     parser.add_argument("--sizes", nargs="+", type=int, default=[4, 16], metavar="MIB")
     parser.add_argument("--renewals", nargs="+", type=int, default=[100, 200], metavar="TIMES")
+    parser.add_argument("--ifaces", type=int, choices=range(1, IFACES + 1), default=IFACES, metavar="COUNT")
     options = parser.parse_args()
     if not os.access(options.program, os.X_OK):
         sys.exit(f"{options.program} isn't built: cd crates/dhcpcd_prog && rt run -- replay < stdin")
@@ -359,13 +390,13 @@ def main():
     with tempfile.TemporaryDirectory() as room:
         for kind in options.kinds:
             if kind in RENEWED:
-                run_renewals(options.program, room, kind, options.renewals)
+                run_renewals(options.program, room, kind, options.renewals, options.ifaces)
             elif kind == "busy":
                 run_busy(options.program, room)
             elif kind == "check":
                 run_checks(options.program, room, options.sizes)
             else:
-                run_sized(options.program, room, kind, options.sizes)
+                run_sized(options.program, room, kind, options.sizes, options.ifaces)
 
 
 if __name__ == "__main__":

@@ -14,6 +14,8 @@ mod host_tables_cases;
 #[cfg(test)]
 mod iface_core_cases;
 #[cfg(test)]
+mod interfaces;
+#[cfg(test)]
 mod lease_file_cases;
 #[cfg(test)]
 mod resolver_text_cases;
