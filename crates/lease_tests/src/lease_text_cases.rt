@@ -8,8 +8,7 @@ const LEASE: &str =
 #[test]
 fn a_lease_is_printed_as_it_was_read(rt: HostRuntime) -> Result<(), Fail> {
     let lease = read_lease4(rt.alloc(), LEASE.as_bytes())?;
-    assert_eq!(rt; lease.terms().t2, 3150);
-    assert_eq!(rt; lease.values.len(), 2);
+    assert_eq!(rt; (lease.terms().t2, lease.values.len()), (3150, 2));
     let copy = lease.copied(rt.alloc())?;
     assert_eq!(rt; print4(rt.alloc(), &copy)?.as_str(), LEASE);
     Ok(())

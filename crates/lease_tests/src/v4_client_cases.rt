@@ -66,11 +66,6 @@ fn settings(alloc: Global, noarp: bool) -> Result<Set4, Fail>
     })
 }
 
-/// A client with these settings, off.
-fn client(alloc: Global, noarp: bool) -> Result<Client4, Fail> {
-    Ok(client4_new(alloc, settings(alloc, noarp)?, None))
-}
-
 /// A server's message with the address 10.0.0.50.
 fn reply(kind: u8, xid: u8, lease: u32) -> [u8; 290] {
     let time = lease.to_be_bytes();
@@ -90,13 +85,22 @@ fn reply(kind: u8, xid: u8, lease: u32) -> [u8; 290] {
     data
 }
 
+/// An offer with these options in place of the router.
+fn offer(options: &[u8; 17]) -> [u8; 290] {
+    let mut data = reply(OFFER, 1, 3600);
+    data[273..].copy_from_slice(options);
+    data
+}
+
 /// What happens to the client.
-#[derive(Clone, Copy, Debug, PartialEq, Eq)]
+#[derive(Clone, Copy)]
 enum Input {
     Tick,
     Carrier(Carrier),
     /// A message of the server: its type, its xid, its lease time.
     Message(u8, u8, u32),
+    /// An offer with these options in place of the router.
+    Offer(&'static [u8; 17]),
     /// Another host says that it has the address.
     Conflict,
     Unsent,
@@ -156,15 +160,18 @@ fn tells(at: u64, input: Input, news: News4, due: Option<u64>) -> Row {
     }
 }
 
+/// The client hears this message of the server.
+fn hears(c: &mut Client4, data: &[u8; 290], at: u64) -> Result<Out4, Fail> {
+    let message = read4(data)?;
+    Ok(heard4(c, &message, SERVER_MAC, at, 0)?)
+}
+
 fn does(c: &mut Client4, at: u64, input: Input) -> Result<Out4, Fail> {
     match input {
         Input::Tick => Ok(c.tick(at, 0)?),
         Input::Carrier(carrier) => Ok(carrier4(c, carrier, at, 0)?),
-        Input::Message(kind, xid, lease) => {
-            let data = reply(kind, xid, lease);
-            let message = read4(&data)?;
-            Ok(heard4(c, &message, SERVER_MAC, at, 0)?)
-        }
+        Input::Message(kind, xid, lease) => hears(c, &reply(kind, xid, lease), at),
+        Input::Offer(options) => hears(c, &offer(options), at),
         Input::Conflict => {
             let other = ArpView {
                 op: 2,
@@ -193,17 +200,20 @@ fn follows(rt: &impl Abort, c: &mut Client4, rows: &[Row]) -> Result<(), Fail> {
     for row in rows {
         let out = does(c, row.at, row.input)?;
         let said = out.say.map(|say| (say.said.kind, say.said.xid));
-        assert_eq!(rt; said, row.said, "at {}", row.at);
-        assert_eq!(rt; out.arp, row.arp, "at {}", row.at);
-        assert_eq!(rt; out.news, row.news, "at {}", row.at);
-        assert_eq!(rt; c.due(), row.due, "at {}", row.at);
+        assert_eq!(rt;
+            (said, out.arp, out.news, c.due()),
+            (row.said, row.arp, row.news, row.due),
+            "at {}",
+            row.at
+        );
     }
     Ok(())
 }
 
-/// The client asks for the offered address, in the exchange 1.
-fn requests(lease: u32) -> [Row; 3] {
-    [
+/// A client that asks for the offered address, in the exchange 1.
+fn asking(rt: &impl Abort, alloc: Global, noarp: bool, lease: u32) -> Result<Client4, Fail> {
+    let mut c = client4_new(alloc, settings(alloc, noarp)?, None);
+    let rows = [
         quiet(0, Input::Carrier(Carrier::Up), Some(1)),
         says(1, Input::Tick, Kind4::Discover, 1, 3002),
         says(
@@ -213,7 +223,9 @@ fn requests(lease: u32) -> [Row; 3] {
             1,
             3101,
         ),
-    ]
+    ];
+    follows(rt, &mut c, &rows)?;
+    Ok(c)
 }
 
 /// It probes the granted address and holds it.
@@ -232,8 +244,7 @@ fn binds() -> [Row; 7] {
 
 /// A client that holds a lease since 4203.
 fn bound(rt: &impl Abort, alloc: Global) -> Result<Client4, Fail> {
-    let mut c = client(alloc, false)?;
-    follows(rt, &mut c, &requests(3600))?;
+    let mut c = asking(rt, alloc, false, 3600)?;
     follows(rt, &mut c, &binds())?;
     Ok(c)
 }
@@ -243,11 +254,9 @@ fn a_lease_is_acquired_and_renewed_until_it_ends(rt: HostRuntime) -> Result<(), 
     let mut c = bound(&rt, rt.alloc())?;
     let lease = held4(&c).ok_or("none")?;
     // T1 and T2 are alike in the ACK: the usual ones count
-    assert_eq!(rt; (lease.t1, lease.t2), (1800, 3150));
-    assert_eq!(rt; lease.net.len, 24);
+    assert_eq!(rt; (lease.t1, lease.t2, lease.net.len), (1800, 3150, 24));
     // the router alone is a value
-    assert_eq!(rt; lease.values.len(), 1);
-    assert_eq!(rt; ask4(&c).list.len(), 0);
+    assert!(rt; lease.values.len() == 1 && ask4(&c).list.is_empty());
     follows(
         &rt,
         &mut c,
@@ -279,8 +288,7 @@ fn a_renewing_request_goes_to_the_server(rt: HostRuntime) -> Result<(), Fail> {
 
 #[test]
 fn an_answer_counts_while_its_lease_lasts(rt: HostRuntime) -> Result<(), Fail> {
-    let mut late = client(rt.alloc(), true)?;
-    follows(&rt, &mut late, &requests(10))?;
+    let mut late = asking(&rt, rt.alloc(), true, 10)?;
     follows(
         &rt,
         &mut late,
@@ -291,8 +299,7 @@ fn an_answer_counts_while_its_lease_lasts(rt: HostRuntime) -> Result<(), Fail> {
             tells(10_100, Input::Tick, News4::Expire, Some(10_101)),
         ],
     )?;
-    let mut endless = client(rt.alloc(), true)?;
-    follows(&rt, &mut endless, &requests(0xffff_ffff))?;
+    let mut endless = asking(&rt, rt.alloc(), true, 0xffff_ffff)?;
     follows(
         &rt,
         &mut endless,
@@ -305,8 +312,7 @@ fn an_answer_counts_while_its_lease_lasts(rt: HostRuntime) -> Result<(), Fail> {
 
 #[test]
 fn an_address_is_probed_before_it_is_held(rt: HostRuntime) -> Result<(), Fail> {
-    let mut contested = client(rt.alloc(), false)?;
-    follows(&rt, &mut contested, &requests(3600))?;
+    let mut contested = asking(&rt, rt.alloc(), false, 3600)?;
     follows(&rt, &mut contested, &binds()[..5])?;
     follows(
         &rt,
@@ -317,8 +323,7 @@ fn an_address_is_probed_before_it_is_held(rt: HostRuntime) -> Result<(), Fail> {
         ],
     )?;
     // the second probe wasn't sent: all three are said again
-    let mut unsent = client(rt.alloc(), false)?;
-    follows(&rt, &mut unsent, &requests(3600))?;
+    let mut unsent = asking(&rt, rt.alloc(), false, 3600)?;
     follows(&rt, &mut unsent, &binds()[..4])?;
     follows(
         &rt,
@@ -334,45 +339,42 @@ fn an_address_is_probed_before_it_is_held(rt: HostRuntime) -> Result<(), Fail> {
 }
 
 #[test]
-fn a_lease_is_refused_released_and_asked_for_again(rt: HostRuntime) -> Result<(), Fail> {
-    let mut refused = client(rt.alloc(), false)?;
-    follows(&rt, &mut refused, &requests(3600))?;
+fn a_refused_client_begins_again(rt: HostRuntime) -> Result<(), Fail> {
+    let mut c = asking(&rt, rt.alloc(), false, 3600)?;
     follows(
         &rt,
-        &mut refused,
+        &mut c,
         &[
             tells(200, Input::Message(NAK, 1, 3600), News4::Nak, Some(10_200)),
             says(10_200, Input::Tick, Kind4::Discover, 2, 13_201),
         ],
-    )?;
-    let mut again = bound(&rt, rt.alloc())?;
+    )
+}
+
+#[test]
+fn a_lease_is_asked_for_again_when_the_carrier_is_back(rt: HostRuntime) -> Result<(), Fail> {
+    let mut c = bound(&rt, rt.alloc())?;
     follows(
         &rt,
-        &mut again,
+        &mut c,
         &[
             quiet(7000, Input::Carrier(Carrier::Down), None),
             says(8000, Input::Carrier(Carrier::Up), Kind4::Request, 2, 11_001),
             says(11_001, Input::Tick, Kind4::Request, 2, 13_000),
             says(13_000, Input::Tick, Kind4::Discover, 1, 16_001),
         ],
-    )?;
-    let mut rebound = bound(&rt, rt.alloc())?;
-    follows(
-        &rt,
-        &mut rebound,
-        &[says(7000, Input::Rebind, Kind4::Request, 2, 1_803_550)],
-    )?;
-    let released = release4(&mut rebound, Tell::Server, 8000, 0)?;
-    assert!(rt; released.news == News4::Stop && released.old.is_some());
-    assert!(rt; kept4(&rebound).is_none());
-    Ok(())
+    )
 }
 
-/// An offer with these options in place of the router.
-fn offer(options: [u8; 17]) -> [u8; 290] {
-    let mut data = reply(OFFER, 1, 3600);
-    data[273..].copy_from_slice(&options);
-    data
+#[test]
+fn a_rebound_lease_is_released(rt: HostRuntime) -> Result<(), Fail> {
+    let mut c = bound(&rt, rt.alloc())?;
+    let rows = [says(7000, Input::Rebind, Kind4::Request, 2, 1_803_550)];
+    follows(&rt, &mut c, &rows)?;
+    let released = release4(&mut c, Tell::Server, 8000, 0)?;
+    assert!(rt; released.news == News4::Stop && released.old.is_some());
+    assert!(rt; kept4(&c).is_none());
+    Ok(())
 }
 
 #[test]
@@ -381,35 +383,20 @@ fn an_offer_with_all_required_options_is_taken(rt: HostRuntime) -> Result<(), Fa
     set.required.push(code::DOMAIN_NAME_SERVERS)?;
     set.required.push(code::ROUTERS)?;
     let mut c = client4_new(rt.alloc(), set, None);
+    let no_router = Input::Offer(&[6, 4, 10, 0, 0, 1, 255, 0, 0, 0, 0, 0, 0, 0, 0, 0, 0]);
+    // a server of names of three bytes
+    let three_bytes = Input::Offer(&[6, 3, 10, 0, 0, 3, 4, 10, 0, 0, 1, 255, 0, 0, 0, 0, 0]);
+    // servers of names in two instances, neither of which is an address
+    let two_instances = Input::Offer(&[6, 3, 10, 0, 0, 6, 1, 1, 3, 4, 10, 0, 0, 1, 255, 0, 0]);
     follows(
         &rt,
         &mut c,
         &[
             quiet(0, Input::Carrier(Carrier::Up), Some(1)),
             says(1, Input::Tick, Kind4::Discover, 1, 3002),
+            quiet(100, no_router, Some(3002)),
+            quiet(100, three_bytes, Some(3002)),
+            says(100, two_instances, Kind4::Request, 1, 3101),
         ],
-    )?;
-    let offers = [
-        // no router
-        (
-            offer([6, 4, 10, 0, 0, 1, 255, 0, 0, 0, 0, 0, 0, 0, 0, 0, 0]),
-            None,
-        ),
-        // a server of names of three bytes
-        (
-            offer([6, 3, 10, 0, 0, 3, 4, 10, 0, 0, 1, 255, 0, 0, 0, 0, 0]),
-            None,
-        ),
-        // a server of names in two instances, neither of which is an address
-        (
-            offer([6, 3, 10, 0, 0, 6, 1, 1, 3, 4, 10, 0, 0, 1, 255, 0, 0]),
-            Some(Kind4::Request),
-        ),
-    ];
-    for (data, kind) in &offers {
-        let message = read4(data)?;
-        let out = heard4(&mut c, &message, SERVER_MAC, 100, 0)?;
-        assert_eq!(rt; out.say.map(|say| say.said.kind), *kind);
-    }
-    Ok(())
+    )
 }

@@ -84,7 +84,7 @@ fn message<'a>(kind: ServerKind6, xid: u32, preference: u8, options: &'a [u8]) -
 }
 
 /// What happens to the client.
-#[derive(Clone, Copy, Debug, PartialEq, Eq)]
+#[derive(Clone, Copy)]
 enum Input {
     Up,
     Tick,
@@ -144,9 +144,12 @@ fn follows(rt: &impl Abort, c: &mut Client6, options: &[u8], rows: &[Row]) -> Re
             let items = said.ias.first().map(|ia| ia.items.len());
             (said.kind, said.xid, items)
         });
-        assert_eq!(rt; said, row.said, "at {}", row.at);
-        assert_eq!(rt; out.news, row.news, "at {}", row.at);
-        assert_eq!(rt; c.due(), Some(row.due), "at {}", row.at);
+        assert_eq!(rt;
+            (said, out.news, c.due()),
+            (row.said, row.news, Some(row.due)),
+            "at {}",
+            row.at
+        );
     }
     Ok(())
 }
@@ -206,10 +209,10 @@ fn an_address_that_is_over_goes(rt: HostRuntime) -> Result<(), Fail> {
         quiet(600, Input::Reply, News6::Bound, 2_000_600),
     ];
     follows(&rt, &mut c, &TWO_ADDRESSES, &rows)?;
-    assert_eq!(rt; kept_items(&c), Some(2));
+    assert!(rt; kept_items(&c) == Some(2));
     let rows = [quiet(2_000_600, Input::Tick, News6::Changed, 6_000_600)];
     follows(&rt, &mut c, &TWO_ADDRESSES, &rows)?;
-    assert_eq!(rt; kept_items(&c), Some(1));
+    assert!(rt; kept_items(&c) == Some(1));
     let rows = [quiet(6_000_600, Input::Tick, News6::Expire, 6_000_601)];
     follows(&rt, &mut c, &TWO_ADDRESSES, &rows)?;
     assert!(rt; held6(&c).is_none());

@@ -2,6 +2,7 @@ use arp_acd::{Acd, AcdSays, acd_addr, acd_begin, acd_heard, acd_held, acd_unsent
 use frame_link::ArpView;
 use machine::{Machine, early_ticks_rest};
 use net_types::{IfIndex, Ip4, Mac};
+use std::process::Abort;
 use std::rt::HostRuntime;
 
 const FIRST: IfIndex = IfIndex { number: 1 };
@@ -43,25 +44,36 @@ fn held() -> Acd {
     acd
 }
 
+/// At a moment the detection says this, is due then, and holds this address.
+type Row = (u64, AcdSays, Option<u64>, Option<Ip4>);
+
+/// The detection does what the rows say, one after another.
+fn follows(rt: &impl Abort, acd: &mut Acd, rows: &[Row]) {
+    for (at, says, due, held) in rows {
+        let said = acd.tick(*at, 0);
+        assert_eq!(rt;
+            (said, acd.due(), acd_held(acd)),
+            (*says, *due, *held),
+            "at {at}"
+        );
+    }
+}
+
 #[test]
 fn an_address_passes_after_three_probes(rt: HostRuntime) {
     early_ticks_rest::<Acd>();
     let mut acd = acd_begin(FIRST, ADDR, 200, 0);
-    assert_eq!(rt; acd_addr(&acd), ADDR);
-    assert_eq!(rt; acd.due(), Some(201));
-    assert_eq!(rt; acd.tick(200, 0), AcdSays::Quiet);
-    assert_eq!(rt; acd.tick(201, 0), AcdSays::SayProbe);
-    assert_eq!(rt; acd.due(), Some(1202));
-    assert_eq!(rt; acd.tick(1202, 0), AcdSays::SayProbe);
-    assert_eq!(rt; acd.due(), Some(2203));
-    assert_eq!(rt; acd.tick(2203, 0), AcdSays::SayProbe);
-    assert_eq!(rt; acd.due(), Some(4203));
-    assert_eq!(rt; acd_held(&acd), None);
-    assert_eq!(rt; acd.tick(4203, 0), AcdSays::Passed);
-    assert_eq!(rt; acd_held(&acd), Some(ADDR));
-    assert_eq!(rt; acd.due(), Some(6203));
-    assert_eq!(rt; acd.tick(6203, 0), AcdSays::SayAnnounce);
-    assert_eq!(rt; acd.due(), None);
+    assert_eq!(rt; (acd_addr(&acd), acd.due()), (ADDR, Some(201)));
+    let rows = [
+        // not due yet
+        (200, AcdSays::Quiet, Some(201), None),
+        (201, AcdSays::SayProbe, Some(1202), None),
+        (1202, AcdSays::SayProbe, Some(2203), None),
+        (2203, AcdSays::SayProbe, Some(4203), None),
+        (4203, AcdSays::Passed, Some(6203), Some(ADDR)),
+        (6203, AcdSays::SayAnnounce, None, Some(ADDR)),
+    ];
+    follows(&rt, &mut acd, &rows);
 }
 
 #[test]
@@ -70,48 +82,36 @@ fn a_probe_that_was_not_sent_begins_the_probing_anew(rt: HostRuntime) {
     let _ = acd.tick(201, 0);
     let _ = acd.tick(1202, 0);
     acd_unsent(&mut acd, 2203, 0);
-    assert_eq!(rt; acd.tick(2203, 0), AcdSays::Quiet);
-    assert_eq!(rt; acd.due(), Some(2204));
-    let _ = acd.tick(2204, 0);
-    let _ = acd.tick(3205, 0);
-    let _ = acd.tick(4206, 0);
-    assert_eq!(rt; acd.due(), Some(6206));
-    assert_eq!(rt; acd.tick(6206, 0), AcdSays::Passed);
+    let rows = [
+        (2203, AcdSays::Quiet, Some(2204), None),
+        (2204, AcdSays::SayProbe, Some(3205), None),
+        (3205, AcdSays::SayProbe, Some(4206), None),
+        (4206, AcdSays::SayProbe, Some(6206), None),
+        (6206, AcdSays::Passed, Some(8206), Some(ADDR)),
+    ];
+    follows(&rt, &mut acd, &rows);
 }
 
 #[test]
 fn a_conflict_ends_the_probing(rt: HostRuntime) {
     let mut acd = probed();
-    assert_eq!(rt;
-        acd_heard(&mut acd, &reply_from(1), 2300, &OWN),
-        AcdSays::Quiet
-    );
-    assert_eq!(rt;
-        acd_heard(&mut acd, &reply_from(0xaa), 2300, &OWN),
-        AcdSays::Conflict
-    );
-    assert_eq!(rt; acd.due(), None);
+    for (sender, says, due) in [
+        // its own reply, and another host's
+        (1, AcdSays::Quiet, Some(4203)),
+        (0xaa, AcdSays::Conflict, None),
+    ] {
+        let said = acd_heard(&mut acd, &reply_from(sender), 2300, &OWN);
+        assert_eq!(rt; (said, acd.due()), (says, due));
+    }
 }
 
 #[test]
 fn a_second_conflict_within_ten_seconds_is_one_too_many(rt: HostRuntime) {
-    let mut soon = held();
-    let mut late = held();
     let other = reply_from(0xaa);
-    assert_eq!(rt;
-        acd_heard(&mut soon, &other, 100_000, &OWN),
-        AcdSays::SayAnnounce
-    );
-    assert_eq!(rt;
-        acd_heard(&mut soon, &other, 109_999, &OWN),
-        AcdSays::GivenUp
-    );
-    assert_eq!(rt;
-        acd_heard(&mut late, &other, 100_000, &OWN),
-        AcdSays::SayAnnounce
-    );
-    assert_eq!(rt;
-        acd_heard(&mut late, &other, 110_000, &OWN),
-        AcdSays::SayAnnounce
-    );
+    for (at, says) in [(109_999, AcdSays::GivenUp), (110_000, AcdSays::SayAnnounce)] {
+        let mut acd = held();
+        let first = acd_heard(&mut acd, &other, 100_000, &OWN);
+        let second = acd_heard(&mut acd, &other, at, &OWN);
+        assert_eq!(rt; (first, second), (AcdSays::SayAnnounce, says), "at {at}");
+    }
 }

@@ -6,6 +6,7 @@ use ipv4ll::{
 };
 use machine::Machine;
 use net_types::{IfIndex, Ip4, Mac};
+use std::process::Abort;
 use std::rt::HostRuntime;
 
 const FIRST: IfIndex = IfIndex { number: 1 };
@@ -62,28 +63,40 @@ fn held() -> LinkLocal {
     ll
 }
 
+/// At a moment the machine does this, is due then, and holds this address.
+type Row = (u64, LlOut, Option<u64>, Option<Ip4>);
+
+/// The machine does what the rows say, one after another.
+fn follows(rt: &impl Abort, ll: &mut LinkLocal, rows: &[Row]) {
+    for (at, out, due, held) in rows {
+        let done = ll.tick(*at, 0);
+        assert_eq!(rt;
+            (done, ll.due(), ll_held(ll)),
+            (*out, *due, *held),
+            "at {at}"
+        );
+    }
+}
+
 #[test]
 fn an_address_is_gained_after_three_probes(rt: HostRuntime) {
     let mut ll = ll_off(FIRST);
     assert_eq!(rt; ll.due(), None);
     ll_arm(&mut ll, 0, Waits::ForNothing, Fallback::Choose);
     assert_eq!(rt; ll.due(), Some(0));
-    assert_eq!(rt; ll.tick(0, 0), QUIET);
-    assert_eq!(rt; ll.due(), Some(1));
-    assert_eq!(rt; ll.tick(1, 0), PROBE);
-    assert_eq!(rt; ll.due(), Some(1002));
-    assert_eq!(rt; ll.tick(1002, 0), PROBE);
-    assert_eq!(rt; ll.due(), Some(2003));
-    assert_eq!(rt; ll.tick(2003, 0), PROBE);
-    assert_eq!(rt; ll.due(), Some(4003));
-    assert_eq!(rt; ll_held(&ll), None);
     let gained = LlOut {
-        arp: Some(ArpSay::Announce(CHOSEN)),
         news: LlNews::Gained,
+        ..ANNOUNCE
     };
-    assert_eq!(rt; ll.tick(4003, 0), gained);
-    assert_eq!(rt; ll_held(&ll), Some(CHOSEN));
-    assert_eq!(rt; ll.tick(6003, 0), ANNOUNCE);
+    let rows = [
+        (0, QUIET, Some(1), None),
+        (1, PROBE, Some(1002), None),
+        (1002, PROBE, Some(2003), None),
+        (2003, PROBE, Some(4003), None),
+        (4003, gained, Some(6003), Some(CHOSEN)),
+        (6003, ANNOUNCE, None, Some(CHOSEN)),
+    ];
+    follows(&rt, &mut ll, &rows);
     ll_drop(&mut ll);
     assert_eq!(rt; ll_held(&ll), None);
 }
@@ -93,11 +106,8 @@ fn a_conflict_while_probing_gives_another_choice(rt: HostRuntime) {
     let mut ll = chosen();
     let _ = ll.tick(1, 0);
     let _ = ll.tick(1002, 0);
-    assert_eq!(rt;
-        ll_heard(&mut ll, &reply_for(0xa9fe_0101), 1500, 0, &OWN),
-        QUIET
-    );
-    assert_eq!(rt; ll.due(), Some(1501));
+    let heard = ll_heard(&mut ll, &reply_for(0xa9fe_0101), 1500, 0, &OWN);
+    assert_eq!(rt; (heard, ll.due()), (QUIET, Some(1501)));
     let other = LlOut {
         arp: Some(ArpSay::Probe(Ip4 {
             number: 0xa9fe_0102,
@@ -113,12 +123,13 @@ fn a_probe_that_was_not_sent_begins_the_probing_anew(rt: HostRuntime) {
     let _ = ll.tick(1, 0);
     let _ = ll.tick(1002, 0);
     ll_unsent(&mut ll, 2003, 0);
-    assert_eq!(rt; ll.tick(2003, 0), QUIET);
-    assert_eq!(rt; ll.due(), Some(2004));
-    for at in [2004, 3005, 4006] {
-        assert_eq!(rt; ll.tick(at, 0), PROBE);
-    }
-    assert_eq!(rt; ll.due(), Some(6006));
+    let rows = [
+        (2003, QUIET, Some(2004), None),
+        (2004, PROBE, Some(3005), None),
+        (3005, PROBE, Some(4006), None),
+        (4006, PROBE, Some(6006), None),
+    ];
+    follows(&rt, &mut ll, &rows);
 }
 
 #[test]
@@ -142,30 +153,34 @@ fn the_tenth_conflict_is_followed_by_a_minute(rt: HostRuntime) {
 
 #[test]
 fn a_held_address_is_defended_once_in_ten_seconds(rt: HostRuntime) {
-    let mut soon = held();
-    let mut late = held();
     let other = reply_for(0xa9fe_0101);
-    assert_eq!(rt; ll_heard(&mut soon, &other, 100_000, 0, &OWN), ANNOUNCE);
     let lost = LlOut {
-        arp: None,
         news: LlNews::Lost(CHOSEN),
+        ..QUIET
     };
-    assert_eq!(rt; ll_heard(&mut soon, &other, 109_999, 0, &OWN), lost);
-    assert_eq!(rt; ll_held(&soon), None);
-    assert_eq!(rt; ll_heard(&mut late, &other, 100_000, 0, &OWN), ANNOUNCE);
-    assert_eq!(rt; ll_heard(&mut late, &other, 110_000, 0, &OWN), ANNOUNCE);
-    assert_eq!(rt; ll_held(&late), Some(CHOSEN));
+    for (at, out, still) in [(109_999, lost, None), (110_000, ANNOUNCE, Some(CHOSEN))] {
+        let mut ll = held();
+        let first = ll_heard(&mut ll, &other, 100_000, 0, &OWN);
+        let second = ll_heard(&mut ll, &other, at, 0, &OWN);
+        assert_eq!(rt;
+            (first, second, ll_held(&ll)),
+            (ANNOUNCE, out, still),
+            "at {at}"
+        );
+    }
 }
 
 #[test]
 fn without_a_lease_the_time_out_is_told(rt: HostRuntime) {
     let mut ll = ll_off(FIRST);
     ll_arm(&mut ll, 30_000, Waits::ForLease, Fallback::GoOff);
-    assert_eq!(rt; ll.tick(29_999, 0), QUIET);
     let timeout = LlOut {
-        arp: None,
         news: LlNews::Timeout,
+        ..QUIET
     };
-    assert_eq!(rt; ll.tick(30_000, 0), timeout);
-    assert_eq!(rt; ll.due(), None);
+    let rows = [
+        (29_999, QUIET, Some(30_000), None),
+        (30_000, timeout, None, None),
+    ];
+    follows(&rt, &mut ll, &rows);
 }

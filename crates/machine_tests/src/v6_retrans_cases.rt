@@ -8,20 +8,18 @@ const FIRST: IfIndex = IfIndex { number: 1 };
 #[test]
 fn times_with_salt_0(rt: HostRuntime) {
     let rand = draw_rand(0, FIRST);
-    assert_eq!(rt; rand, 1);
-
     let mut solicit = Retrans::first(SOLICIT, draw_positive_rand(0, FIRST));
-    assert_eq!(rt; solicit.rt, 1_002);
+    let first = solicit.rt;
     solicit.next(rand);
-    assert_eq!(rt; solicit.rt, 1_904);
+    let second = solicit.rt;
     solicit.next(rand);
-    assert_eq!(rt; solicit.rt, 3_619);
+    assert_eq!(rt; (rand, first, second, solicit.rt), (1, 1_002, 1_904, 3_619));
     assert!(rt; !solicit.is_over());
 
     let mut renew = Retrans::first(RENEW, rand);
-    assert_eq!(rt; renew.rt, 9_010);
+    let first = renew.rt;
     renew.next(rand);
-    assert_eq!(rt; renew.rt, 17_128);
+    assert_eq!(rt; (first, renew.rt), (9_010, 17_128));
 }
 
 #[test]
