@@ -8,6 +8,7 @@ use std::alloc::{AllocError, Global};
 use std::fs::Permissions;
 use std::net::{Ipv4Addr, UdpSocket};
 use std::os::unix::fs::PermissionsExt;
+use std::process::Abort;
 use std::time::{Duration, SystemTime, UNIX_EPOCH};
 use std::{env, fs, process, thread};
 use world::{
@@ -27,28 +28,46 @@ fn new_folder(rt: &HostRuntime) -> std::io::Result<String> {
     Ok(dir)
 }
 
+const DONE: Result<(), DeviceAnswer> = Ok(());
+
+const FAILED: Result<(), DeviceAnswer> = Err(DeviceAnswer::Failed);
+
+/// The names of the files that stand aside.
+fn asides_of<S: Store>(rt: &impl Abort, alloc: Global, store: &mut S) -> String {
+    let mut names = Vec::new(alloc);
+    store.list_asides(&mut names).expect(rt, "asides");
+    format!(in alloc; "{names:?}").expect(rt, "memory")
+}
+
 #[test]
 fn files_in_a_folder(rt: HostRuntime) {
     let dir = new_folder(&rt).expect(&rt, "a folder");
     let mut store = FolderStore::new(&rt, &dir).expect(&rt, "memory");
-    assert_eq!(rt; store.remove("lease"), Ok(()));
-    assert_eq!(rt; store.rename_aside("lease"), Err(DeviceAnswer::Failed));
-    assert_eq!(rt; store.write_aside("lease", b"text"), Ok(()));
-    assert_eq!(rt; store.write_aside("duid", b""), Ok(()));
-    assert_eq!(rt; store.sync_aside("lease"), Ok(()));
-    let mut names = Vec::new(rt.alloc());
-    assert_eq!(rt; store.list_asides(&mut names), Ok(()));
-    let shown = format!(in rt.alloc(); "{names:?}").expect(&rt, "memory");
-    assert_eq!(rt; shown.as_str(), r#"["duid.new", "lease.new"]"#);
-    assert_eq!(rt; store.rename_aside("lease"), Ok(()));
-    assert_eq!(rt; store.settle(), Ok(()));
+    // nothing stands aside when it's to be renamed
+    let written = [
+        store.remove("lease"),
+        store.rename_aside("lease"),
+        store.write_aside("lease", b"text"),
+        store.write_aside("duid", b""),
+        store.sync_aside("lease"),
+    ];
+    assert_eq!(rt; written, [DONE, FAILED, DONE, DONE, DONE]);
+    assert_eq!(rt;
+        asides_of(&rt, rt.alloc(), &mut store).as_str(),
+        r#"["duid.new", "lease.new"]"#
+    );
+    let renamed = [store.rename_aside("lease"), store.settle()];
+    assert_eq!(rt; renamed, [DONE, DONE]);
     let mut bytes = Vec::new(rt.alloc());
-    assert_eq!(rt; store.read_file("lease", &mut bytes), Ok(true));
+    let found = [
+        store.read_file("lease", &mut bytes),
+        store.read_file("lease.new", &mut bytes),
+    ];
+    assert_eq!(rt; found, [Ok(true), Ok(false)]);
     assert_eq!(rt; bytes.as_slice(), b"text".as_slice());
-    assert_eq!(rt; store.read_file("lease.new", &mut bytes), Ok(false));
-    assert_eq!(rt; store.remove("lease"), Ok(()));
-    assert_eq!(rt; fs::remove_dir_all(&rt, &dir).is_ok(), true);
-    assert_eq!(rt; store.settle(), Err(DeviceAnswer::Failed));
+    store.remove("lease").expect(&rt, "a removal");
+    fs::remove_dir_all(&rt, &dir).expect(&rt, "a folder");
+    assert_eq!(rt; store.settle(), FAILED);
 }
 
 /// A script of a test.
@@ -83,12 +102,11 @@ fn rows_of_a_script(rt: HostRuntime) {
     let script = new_script(&rt, HOST).expect(&rt, "a script");
     let mut host = CommandHost::new(&rt, &script).expect(&rt, "memory");
     let mut rows = Vec::new(rt.alloc());
-    assert_eq!(rt; host.list(&mut rows), Ok(()));
+    host.list(&mut rows).expect(&rt, "rows");
     assert_eq!(rt; rows.as_slice(), [row].as_slice());
-    assert_eq!(rt; host.add(&row), Ok(()));
-    assert_eq!(rt; host.remove(&row), Err(DeviceAnswer::Failed));
+    assert_eq!(rt; [host.add(&row), host.remove(&row)], [DONE, FAILED]);
     let mut echo = CommandHost::new(&rt, "echo").expect(&rt, "memory");
-    assert_eq!(rt; echo.list(&mut rows), Err(DeviceAnswer::Failed));
+    assert_eq!(rt; echo.list(&mut rows), FAILED);
     assert_eq!(rt; rows.len(), 1);
 }
 
@@ -146,7 +164,7 @@ fn a_child_is_abandoned(rt: HostRuntime) {
     assert_eq!(rt; hooks.poll(), Ok(Poll::Running));
     hooks.abandon();
     let mut none = ChildHooks::new(&rt, "/nowhere").expect(&rt, "memory");
-    assert_eq!(rt; none.start(&job), Err(DeviceAnswer::Failed));
+    assert_eq!(rt; none.start(&job), FAILED);
 }
 
 /// A socket on a free port of the loopback address, and the word of that port.
@@ -163,8 +181,8 @@ fn datagrams_are_events(rt: HostRuntime) {
     let port = new_peer(&rt).expect(&rt, "a socket").1;
     let mut link = LoopLink::new(&rt, &port, &peer_port);
     let mut buf = [0; 16];
-    assert_eq!(rt; link.wait(Some(0), &mut buf).is_err(), true);
-    assert_eq!(rt; link.begin().is_ok(), true);
+    assert!(rt; link.wait(Some(0), &mut buf).is_err());
+    link.begin().expect(&rt, "a start");
     let address = format!(in rt.alloc(); "127.0.0.1:{port}").expect(&rt, "memory");
     for datagram in [
         b"\x01\x02frame".as_slice(),
@@ -179,15 +197,19 @@ fn datagrams_are_events(rt: HostRuntime) {
         iface: 3,
         up: false,
     };
-    for event in [frame, carrier, Event::Quiet, Event::Stop] {
-        assert_eq!(rt; link.wait(None, &mut buf).map(|wake| wake.event), Ok(event));
+    for (until, event) in [
+        (None, frame),
+        (None, carrier),
+        (None, Event::Quiet),
+        (None, Event::Stop),
+        (Some(0), Event::Quiet),
+    ] {
+        let wake = link.wait(until, &mut buf).expect(&rt, "a wake");
+        assert_eq!(rt; wake.event, event);
     }
     assert!(rt; buf.starts_with(b"frame"));
-    assert_eq!(rt;
-        link.wait(Some(0), &mut buf).map(|wake| wake.event),
-        Ok(Event::Quiet)
-    );
-    assert_eq!(rt; link.send(IfIndex { number: 2 }, b"back"), Ok(()));
-    assert_eq!(rt; peer.recv(&mut buf).is_ok(), true);
+    link.send(IfIndex { number: 2 }, b"back")
+        .expect(&rt, "a send");
+    peer.recv(&mut buf).expect(&rt, "a datagram");
     assert!(rt; buf.starts_with(b"\x01\x02back"));
 }

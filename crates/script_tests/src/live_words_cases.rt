@@ -1,4 +1,5 @@
 use live_words::*;
+use net_types::{IfIndex, IfSpec, Mac, name_of};
 use std::test::*;
 
 /// What the words name, each parted from the next by a blank.
@@ -10,19 +11,23 @@ fn named(rt: HostRuntime, line: &str) -> Result<Option<Interfaces>, Fail> {
     Ok(live_words(&words))
 }
 
+/// An interface whose hardware address ends so.
+fn spec(number: u32, name: &[u8], last: u8) -> Result<IfSpec, Fail> {
+    Ok(IfSpec {
+        index: IfIndex { number },
+        name: name_of(name).ok_or("this is a name")?,
+        mac: Mac {
+            bytes: [2, 0, 0, 0, 0, last],
+        },
+    })
+}
+
 #[test]
 fn words_of_live(rt: HostRuntime) -> Result<(), Fail> {
     let line = "live 6801 6802 host hook eth0=02:00:00:00:00:01 wlan0=02:00:00:00:00:02";
     let found = named(rt, line)?.ok_or("these are words of live")?;
-    let [wired, wireless] = found.as_slice() else {
-        return Err("two interfaces".into());
-    };
-    assert_eq!(rt; wired.index.number, 1);
-    assert_eq!(rt; wired.name.as_bytes(), b"eth0".as_slice());
-    assert_eq!(rt; wired.mac.bytes, [2, 0, 0, 0, 0, 1]);
-    assert_eq!(rt; wireless.index.number, 2);
-    assert_eq!(rt; wireless.name.as_bytes(), b"wlan0".as_slice());
-    assert_eq!(rt; wireless.mac.bytes, [2, 0, 0, 0, 0, 2]);
+    let expected = [spec(1, b"eth0", 1)?, spec(2, b"wlan0", 2)?];
+    assert_eq!(rt; found.as_slice(), expected.as_slice());
     Ok(())
 }
 

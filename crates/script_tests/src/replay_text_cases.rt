@@ -1,4 +1,5 @@
 use net_types::{IfIndex, Ip4, Ip6, Net, Net4};
+use replay_text::ScriptCause::{Form, NotText, Order, Word};
 use replay_text::*;
 use script_model::{CrashKind, FailDevice, FailLine};
 use std::test::*;
@@ -17,114 +18,122 @@ fn a_route(rt: HostRuntime) -> Result<(), Fail> {
         }),
         metric: 5,
     };
-    assert!(rt; read_row("route 1 0.0.0.0/0 via 10.0.0.1 metric 5") == Ok(row));
-    // a bit past the length
-    assert!(rt; read_row("route 1 10.0.0.1/24 metric 5").is_err());
-    assert!(rt; read_row("route 1 2001:db8::1/64 metric 5").is_err());
+    let text = "route 1 0.0.0.0/0 via 10.0.0.1 metric 5";
+    assert!(rt; read_row(text) == Ok(row));
+    let mut printed = String::new(rt.alloc());
+    print_row(&row, &mut printed)?;
+    assert_eq!(rt; printed.as_str(), text);
     // two spellings of one row
     let short = read_row("route 2 2001:db8::/32 via fe80::1 metric 5");
     assert!(rt; short.is_ok());
     assert!(rt; read_row("route 2 2001:0DB8:0::0/32 via fe80:0:0::0001 metric 5") == short);
-    // a gateway of the other family
-    assert!(rt; read_row("route 2 2001:db8::/32 via 10.0.0.1 metric 5").is_err());
-    assert!(rt; read_row("route 2 0.0.0.0/0 via fe80::1 metric 5").is_err());
-    let mut text = String::new(rt.alloc());
-    print_row(&row, &mut text).ok().ok_or("memory is ample")?;
-    assert_eq!(rt; text.as_str(), "route 1 0.0.0.0/0 via 10.0.0.1 metric 5");
     Ok(())
 }
 
 #[test]
-fn refusals(rt: HostRuntime) {
-    use replay_text::ScriptCause::{Form, NotText, Order, Word};
-    let bad: [(&[u8], u64, ScriptCause); 21] = [
-        (b"", 1, Word),
-        (b"c:noarp\n", 1, Word),
-        (
-            b"dhcpcd-script 1\nstart 0 0 up -\nturn 5 0 quiet\x80\n",
-            3,
-            NotText,
-        ),
-        // no last line feed
-        (
-            b"dhcpcd-script 1\nstart 0 0 up -\nturn 5 0 quiet",
-            3,
-            NotText,
-        ),
-        (
-            b"dhcpcd-script 1\nstart 0 0 up -\nturns 5 0 quiet\n",
-            3,
-            Word,
-        ),
-        // an empty line
-        (b"dhcpcd-script 1\n\nstart 0 0 up -\n", 2, Word),
-        (b"dhcpcd-script 1\nstart 0 0 up -\nc:noarp\n", 3, Order),
-        // a bare word out of its place
-        (b"dhcpcd-script 1\nstart 0 0 up -\nif\n", 3, Order),
-        // no life
-        (b"dhcpcd-script 1\nc:noarp\n", 3, Order),
-        // a life follows one that doesn't crash
-        (
-            b"dhcpcd-script 1\nstart 0 0 up -\nstart 1 0 up -\n",
-            3,
-            Order,
-        ),
-        // a turn once the life is over
-        (
-            b"dhcpcd-script 1\nstart 0 0 up -\nturn 5 0 stop\nturn 5005 0 quiet\nturn 0 0 quiet\n",
-            5,
-            Order,
-        ),
-        // a row twice, in two spellings
-        (
-            b"dhcpcd-script 1\nrow addr 1 fe80::1/64\nrow addr 1 FE80:0::1/64\nstart 0 0 up -\n",
-            3,
-            Form,
-        ),
-        (
-            b"dhcpcd-script 1\nfile a 00\nfile a -\nstart 0 0 up -\n",
-            3,
-            Form,
-        ),
-        (b"dhcpcd-script 1\nfail link 0\nstart 0 0 up -\n", 2, Form),
-        // an interface that isn't listed
-        (
-            b"dhcpcd-script 1\nstart 0 0 up -\nturn 5 0 dup 1 fe80::1\n",
-            3,
-            Form,
-        ),
-        // `::` twice, and a dotted tail
-        (
-            b"dhcpcd-script 1\nif 1 eth0 02:00:00:00:00:01\nstart 0 0 up -\nturn 5 0 dup 1 fe80::1::2\n",
-            4,
-            Form,
-        ),
-        (
-            b"dhcpcd-script 1\nif 1 eth0 02:00:00:00:00:01\nstart 0 0 up -\nturn 5 0 dup 1 ::10.0.0.1\n",
-            4,
-            Form,
-        ),
-        (
-            b"dhcpcd-script 1\nhook ended 256\nstart 0 0 up -\n",
-            2,
-            Form,
-        ),
-        (b"dhcpcd-script 1\nhook ended 255\nturns\n", 3, Word),
-        // a hook's answer before a call that fails
-        (
-            b"dhcpcd-script 1\nhook run\nfail hooks 1\nstart 0 0 up -\n",
-            3,
-            Order,
-        ),
-        // a hook's answer within a life
-        (b"dhcpcd-script 1\nstart 0 0 up -\nhook run\n", 3, Order),
+fn rows_that_are_none(rt: HostRuntime) {
+    let texts = [
+        // a bit past the length
+        "route 1 10.0.0.1/24 metric 5",
+        "route 1 2001:db8::1/64 metric 5",
+        // a gateway of the other family
+        "route 2 2001:db8::/32 via 10.0.0.1 metric 5",
+        "route 2 0.0.0.0/0 via fe80::1 metric 5",
     ];
-    for (text, line, cause) in bad {
+    for text in texts {
+        assert!(rt; read_row(text).is_err(), "at {text}");
+    }
+}
+
+/// Texts that are no scripts, each with its first bad line, and what is wrong there.
+const BAD: [(&[u8], u64, ScriptCause); 21] = [
+    (b"", 1, Word),
+    (b"c:noarp\n", 1, Word),
+    (
+        b"dhcpcd-script 1\nstart 0 0 up -\nturn 5 0 quiet\x80\n",
+        3,
+        NotText,
+    ),
+    // no last line feed
+    (
+        b"dhcpcd-script 1\nstart 0 0 up -\nturn 5 0 quiet",
+        3,
+        NotText,
+    ),
+    (
+        b"dhcpcd-script 1\nstart 0 0 up -\nturns 5 0 quiet\n",
+        3,
+        Word,
+    ),
+    // an empty line
+    (b"dhcpcd-script 1\n\nstart 0 0 up -\n", 2, Word),
+    (b"dhcpcd-script 1\nstart 0 0 up -\nc:noarp\n", 3, Order),
+    // a bare word out of its place
+    (b"dhcpcd-script 1\nstart 0 0 up -\nif\n", 3, Order),
+    // no life
+    (b"dhcpcd-script 1\nc:noarp\n", 3, Order),
+    // a life follows one that doesn't crash
+    (
+        b"dhcpcd-script 1\nstart 0 0 up -\nstart 1 0 up -\n",
+        3,
+        Order,
+    ),
+    // a turn once the life is over
+    (
+        b"dhcpcd-script 1\nstart 0 0 up -\nturn 5 0 stop\nturn 5005 0 quiet\nturn 0 0 quiet\n",
+        5,
+        Order,
+    ),
+    // a row twice, in two spellings
+    (
+        b"dhcpcd-script 1\nrow addr 1 fe80::1/64\nrow addr 1 FE80:0::1/64\nstart 0 0 up -\n",
+        3,
+        Form,
+    ),
+    (
+        b"dhcpcd-script 1\nfile a 00\nfile a -\nstart 0 0 up -\n",
+        3,
+        Form,
+    ),
+    (b"dhcpcd-script 1\nfail link 0\nstart 0 0 up -\n", 2, Form),
+    // an interface that isn't listed
+    (
+        b"dhcpcd-script 1\nstart 0 0 up -\nturn 5 0 dup 1 fe80::1\n",
+        3,
+        Form,
+    ),
+    // `::` twice, and a dotted tail
+    (
+        b"dhcpcd-script 1\nif 1 eth0 02:00:00:00:00:01\nstart 0 0 up -\nturn 5 0 dup 1 fe80::1::2\n",
+        4,
+        Form,
+    ),
+    (
+        b"dhcpcd-script 1\nif 1 eth0 02:00:00:00:00:01\nstart 0 0 up -\nturn 5 0 dup 1 ::10.0.0.1\n",
+        4,
+        Form,
+    ),
+    (
+        b"dhcpcd-script 1\nhook ended 256\nstart 0 0 up -\n",
+        2,
+        Form,
+    ),
+    (b"dhcpcd-script 1\nhook ended 255\nturns\n", 3, Word),
+    // a hook's answer before a call that fails
+    (
+        b"dhcpcd-script 1\nhook run\nfail hooks 1\nstart 0 0 up -\n",
+        3,
+        Order,
+    ),
+    // a hook's answer within a life
+    (b"dhcpcd-script 1\nstart 0 0 up -\nhook run\n", 3, Order),
+];
+
+#[test]
+fn refusals(rt: HostRuntime) {
+    for (text, line, cause) in BAD {
         let fault = ScriptAnswer::Bad(ScriptFault { line, cause });
-        match read_script(rt.alloc(), text) {
-            Ok(_) => assert!(rt; false),
-            Err(answer) => assert!(rt; answer == fault),
-        }
+        assert!(rt; read_script(rt.alloc(), text).err() == Some(fault));
     }
 }
 
@@ -132,7 +141,7 @@ fn refusals(rt: HostRuntime) {
 fn duplicates(rt: HostRuntime) -> Result<(), Fail> {
     let text = b"dhcpcd-script 1\nif 1 eth0 02:00:00:00:00:01\nstart 0 0 up 1\n\
         turn 5 0 dup 1 FE80:0:0:0:0:0:0:A1\nturn 6 0 dup 1 fe80::a1\nturn 7 0 dup 1 ::\n";
-    let script = read_script(rt.alloc(), text).ok().ok_or("it is a script")?;
+    let script = read_script(rt.alloc(), text)?;
     let life = script.lives.first().ok_or("it has a life")?;
     let numbers = [0xfe80_u128 << 112 | 0xa1, 0xfe80_u128 << 112 | 0xa1, 0];
     assert_eq!(rt; life.turns.len(), 3);
@@ -149,10 +158,9 @@ fn a_stopped_life(rt: HostRuntime) -> Result<(), Fail> {
     let text =
         b"dhcpcd-script 1\nif 1 eth0 02:00:00:00:00:01\nfail host 2\nfail host 2\nfail link 1\nstart 10 0 up 1\n\
         turn 5 0 release 1\nturn 20 0 rebind 1\nturn 7 0 stop\nturn 5019 0 stop\nturn 5020 0 quiet\n";
-    let script = read_script(rt.alloc(), text).ok().ok_or("it is a script")?;
-    assert_eq!(rt; script.fails.len(), 3);
+    let script = read_script(rt.alloc(), text)?;
     let life = script.lives.first().ok_or("it has a life")?;
-    assert_eq!(rt; life.turns.len(), 5);
+    assert_eq!(rt; (script.fails.len(), life.turns.len()), (3, 5));
     Ok(())
 }
 
@@ -160,7 +168,7 @@ fn a_stopped_life(rt: HostRuntime) -> Result<(), Fail> {
 fn answers_of_hooks(rt: HostRuntime) -> Result<(), Fail> {
     let text =
         b"dhcpcd-script 1\nfail hooks 2\nfail link 1\nhook run\nhook ended 255\nhook failed\nhook ended 0\nstart 0 0 up -\n";
-    let script = read_script(rt.alloc(), text).ok().ok_or("it is a script")?;
+    let script = read_script(rt.alloc(), text)?;
     let fail = FailLine {
         device: FailDevice::Hooks,
         number: 2,
@@ -184,28 +192,32 @@ fn lives_over_one_store(rt: HostRuntime) -> Result<(), Fail> {
     let text =
         b"dhcpcd-script 1\nfile duid 00ff\nfile eth0.lease4.new -\nfail store 3\nstart 0 0 up -\nturn 1 0 stop\n\
         turn 5001 0 quiet\ncrash 0 old\nstart 9 0 up -\ncrash - new\nstart 5 0 up -\nturn 6 0 quiet\n";
-    let script = read_script(rt.alloc(), text).ok().ok_or("it is a script")?;
+    let script = read_script(rt.alloc(), text)?;
+    assert_eq!(rt; (script.files.len(), script.fails.len()), (2, 1));
     let file = script.files.first().ok_or("it has a file")?;
     assert_eq!(rt; file.name.as_str(), "duid");
     assert!(rt; file.bytes.as_slice() == b"\x00\xff".as_slice());
-    assert_eq!(rt; script.files.len(), 2);
-    assert_eq!(rt; script.fails.len(), 1);
+    // how many turns each life has, and its crash
+    let lives: [(usize, Option<CrashLine>); 3] = [
+        (
+            2,
+            Some(CrashLine {
+                calls: Some(0),
+                kind: CrashKind::Old,
+            }),
+        ),
+        (
+            0,
+            Some(CrashLine {
+                calls: None,
+                kind: CrashKind::New,
+            }),
+        ),
+        (1, None),
+    ];
     assert_eq!(rt; script.lives.len(), 3);
-    let first = script.lives.first().ok_or("it has a life")?;
-    let crash = CrashLine {
-        calls: Some(0),
-        kind: CrashKind::Old,
-    };
-    assert!(rt; first.crash == Some(crash));
-    assert_eq!(rt; first.turns.len(), 2);
-    let second = script.lives.get(1).ok_or("it has two lives")?;
-    let crash = CrashLine {
-        calls: None,
-        kind: CrashKind::New,
-    };
-    assert!(rt; second.crash == Some(crash));
-    let last = script.lives.last().ok_or("it has three lives")?;
-    assert!(rt; last.crash.is_none());
-    assert_eq!(rt; last.turns.len(), 1);
+    for (life, expected) in script.lives.iter().zip(lives) {
+        assert_eq!(rt; (life.turns.len(), life.crash), expected);
+    }
     Ok(())
 }

@@ -1,5 +1,4 @@
-use net_types::{IfIndex, Ip6, Net, Net6, NoMemory};
-use std::alloc::Global;
+use net_types::{IfIndex, Ip6, Net, Net6};
 use std::str;
 use std::test::Fail;
 use transcript_text::*;
@@ -22,16 +21,132 @@ const ROUTE: HostRow = HostRow::Route {
     metric: 1002,
 };
 
-/// The texts of lines, one after another.
-fn printed(alloc: Global, lines: &[TranscriptLine<'_>]) -> Result<Vec<u8>, NoMemory> {
-    let mut text = Vec::new(alloc);
-    for line in lines {
-        print_line(line, &mut text)?;
-    }
-    Ok(text)
-}
-
 /// Lines that no example shows.
+const LINES: [TranscriptLine<'_>; 23] = [
+    TranscriptLine::Notice {
+        line: 12,
+        word: "résumé now",
+    },
+    TranscriptLine::AsidesFailed,
+    TranscriptLine::Wrote {
+        name: "duid",
+        bytes: &[0, 0x0a, 0xff],
+        done: true,
+    },
+    TranscriptLine::Wrote {
+        name: "resolv.conf",
+        bytes: &[],
+        done: false,
+    },
+    TranscriptLine::Synced {
+        name: "duid",
+        done: true,
+    },
+    TranscriptLine::Renamed {
+        name: "duid",
+        done: false,
+    },
+    TranscriptLine::Removed {
+        name: "duid.new",
+        done: false,
+    },
+    TranscriptLine::Settled { done: true },
+    TranscriptLine::Read {
+        name: "duid",
+        reading: Reading::Found(&[0, 0x0a, 0xff]),
+    },
+    TranscriptLine::Read {
+        name: "duid",
+        reading: Reading::Unread,
+    },
+    TranscriptLine::Turn {
+        at: 5,
+        salt: u64::MAX,
+        event: Event::Duplicate {
+            iface: 1,
+            addr: LINK_LOCAL,
+        },
+        bytes: &[],
+    },
+    TranscriptLine::Turn {
+        at: 5,
+        salt: u64::MAX,
+        event: Event::Release { iface: 1 },
+        bytes: &[],
+    },
+    TranscriptLine::Turn {
+        at: 5,
+        salt: u64::MAX,
+        event: Event::Rebind { iface: 1 },
+        bytes: &[],
+    },
+    TranscriptLine::Turn {
+        at: 5,
+        salt: u64::MAX,
+        event: Event::Stop,
+        bytes: &[],
+    },
+    TranscriptLine::HookPolled {
+        number: 7,
+        answer: Some(Poll::Running),
+    },
+    TranscriptLine::HookPolled {
+        number: 7,
+        answer: Some(Poll::Ended(255)),
+    },
+    TranscriptLine::HookPolled {
+        number: 7,
+        answer: None,
+    },
+    TranscriptLine::HookAbandoned(7),
+    TranscriptLine::HookDropped {
+        number: 8,
+        reason: Reason::NoCarrier,
+        name: "eth0",
+    },
+    TranscriptLine::HookStarted {
+        number: 9,
+        reason: Reason::Bound6,
+        name: "eth0",
+        done: false,
+    },
+    TranscriptLine::Variable {
+        name: "new_domain_name",
+        value: "a=b c",
+    },
+    TranscriptLine::HostListFailed,
+    TranscriptLine::HostAdd {
+        row: &ROUTE,
+        done: false,
+    },
+];
+
+/// What is printed of two asides, and then of the lines.
+const TEXT: &str = "store list ok duid.new eth0.lease4.new\n\
+    notice 12 résumé now\n\
+    store list failed\n\
+    store write duid 000aff ok\n\
+    store write resolv.conf - failed\n\
+    store sync duid ok\n\
+    store rename duid failed\n\
+    store remove duid.new failed\n\
+    store settle ok\n\
+    store read duid 000aff\n\
+    store read duid failed\n\
+    turn 5 18446744073709551615 dup 1 fe80::1\n\
+    turn 5 18446744073709551615 release 1\n\
+    turn 5 18446744073709551615 rebind 1\n\
+    turn 5 18446744073709551615 stop\n\
+    hook poll 7 run\n\
+    hook poll 7 ended 255\n\
+    hook poll 7 failed\n\
+    hook abandon 7\n\
+    hook drop 8 NOCARRIER eth0\n\
+    hook start 9 BOUND6 eth0 failed\n\
+    var new_domain_name=a=b c\n\
+    host list failed\n\
+    host add route 1 ::/0 via fe80::1 metric 1002 failed\n";
+
 #[test]
 fn prints_what_examples_do_not_show(rt: HostRuntime) -> Result<(), Fail> {
     let alloc = rt.alloc();
@@ -39,109 +154,11 @@ fn prints_what_examples_do_not_show(rt: HostRuntime) -> Result<(), Fail> {
         "duid.new".to_string(alloc)?,
         "eth0.lease4.new".to_string(alloc)?,
     ]?;
-    let turn = |event| TranscriptLine::Turn {
-        at: 5,
-        salt: u64::MAX,
-        event,
-        bytes: b"".as_slice(),
-    };
-    let polled = |answer| TranscriptLine::HookPolled { number: 7, answer };
-    let lines = [
-        TranscriptLine::Notice {
-            line: 12,
-            word: "résumé now",
-        },
-        TranscriptLine::Asides(&asides),
-        TranscriptLine::AsidesFailed,
-        TranscriptLine::Wrote {
-            name: "duid",
-            bytes: &[0, 0x0a, 0xff],
-            done: true,
-        },
-        TranscriptLine::Wrote {
-            name: "resolv.conf",
-            bytes: b"".as_slice(),
-            done: false,
-        },
-        TranscriptLine::Synced {
-            name: "duid",
-            done: true,
-        },
-        TranscriptLine::Renamed {
-            name: "duid",
-            done: false,
-        },
-        TranscriptLine::Removed {
-            name: "duid.new",
-            done: false,
-        },
-        TranscriptLine::Settled { done: true },
-        TranscriptLine::Read {
-            name: "duid",
-            reading: Reading::Found(&[0, 0x0a, 0xff]),
-        },
-        TranscriptLine::Read {
-            name: "duid",
-            reading: Reading::Unread,
-        },
-        turn(Event::Duplicate {
-            iface: 1,
-            addr: LINK_LOCAL,
-        }),
-        turn(Event::Release { iface: 1 }),
-        turn(Event::Rebind { iface: 1 }),
-        turn(Event::Stop),
-        polled(Some(Poll::Running)),
-        polled(Some(Poll::Ended(255))),
-        polled(None),
-        TranscriptLine::HookAbandoned(7),
-        TranscriptLine::HookDropped {
-            number: 8,
-            reason: Reason::NoCarrier,
-            name: "eth0",
-        },
-        TranscriptLine::HookStarted {
-            number: 9,
-            reason: Reason::Bound6,
-            name: "eth0",
-            done: false,
-        },
-        TranscriptLine::Variable {
-            name: "new_domain_name",
-            value: "a=b c",
-        },
-        TranscriptLine::HostListFailed,
-        TranscriptLine::HostAdd {
-            row: &ROUTE,
-            done: false,
-        },
-    ];
-    assert_eq!(rt;
-        str::from_utf8(&printed(alloc, &lines)?)?,
-        "notice 12 résumé now\n\
-         store list ok duid.new eth0.lease4.new\n\
-         store list failed\n\
-         store write duid 000aff ok\n\
-         store write resolv.conf - failed\n\
-         store sync duid ok\n\
-         store rename duid failed\n\
-         store remove duid.new failed\n\
-         store settle ok\n\
-         store read duid 000aff\n\
-         store read duid failed\n\
-         turn 5 18446744073709551615 dup 1 fe80::1\n\
-         turn 5 18446744073709551615 release 1\n\
-         turn 5 18446744073709551615 rebind 1\n\
-         turn 5 18446744073709551615 stop\n\
-         hook poll 7 run\n\
-         hook poll 7 ended 255\n\
-         hook poll 7 failed\n\
-         hook abandon 7\n\
-         hook drop 8 NOCARRIER eth0\n\
-         hook start 9 BOUND6 eth0 failed\n\
-         var new_domain_name=a=b c\n\
-         host list failed\n\
-         host add route 1 ::/0 via fe80::1 metric 1002 failed\n"
-    );
+    let mut text = Vec::new(alloc);
+    print_line(&TranscriptLine::Asides(&asides), &mut text)?;
+    for line in LINES {
+        print_line(&line, &mut text)?;
+    }
+    assert_eq!(rt; str::from_utf8(&text)?, TEXT);
     Ok(())
 }

@@ -67,8 +67,13 @@ fn rows_stand_in_order(rt: HostRuntime) {
 
 #[test]
 fn reasons_have_their_words(rt: HostRuntime) {
-    assert_eq!(rt; reason_text(Reason::Preinit), "PREINIT");
-    assert_eq!(rt; reason_text(Reason::StaticLine), "STATIC");
-    assert_eq!(rt; reason_text(Reason::Ipv4ll), "IPV4LL");
-    assert_eq!(rt; reason_text(Reason::Delegated6), "DELEGATED6");
+    let words = [
+        (Reason::Preinit, "PREINIT"),
+        (Reason::StaticLine, "STATIC"),
+        (Reason::Ipv4ll, "IPV4LL"),
+        (Reason::Delegated6, "DELEGATED6"),
+    ];
+    for (reason, word) in words {
+        assert_eq!(rt; reason_text(reason), word);
+    }
 }
