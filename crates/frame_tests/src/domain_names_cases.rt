@@ -99,13 +99,15 @@ fn search_lists(rt: HostRuntime) -> Result<(), Fail> {
 
 #[test]
 fn longest_names(rt: HostRuntime) -> Result<(), Fail> {
-    // 253 bytes and the blank, and a name of 254 bytes.
-    let value = long_name(&rt, 61)?;
-    assert_eq!(rt; listed(&rt, &value)?.len(), 254);
-    assert!(rt; is_search(&value));
-    let value = long_name(&rt, 62)?;
-    assert_eq!(rt; listed(&rt, &value)?.as_str(), "none");
-    assert!(rt; !is_search(&value));
+    // 253 bytes and the blank, and none for a name of 254 bytes.
+    for (last, len, is_name) in [(61, 254, true), (62, 4, false)] {
+        let value = long_name(&rt, last)?;
+        let text = listed(&rt, &value)?;
+        assert_eq!(rt;
+            (text.len(), text.as_str() != "none", is_search(&value)),
+            (len, is_name, is_name)
+        );
+    }
     Ok(())
 }
 
@@ -149,8 +151,7 @@ fn chain_of_pointers(rt: HostRuntime) -> Result<(), Fail> {
     let mut value = Vec::new(rt.alloc());
     value.extend_from_slice(b"\x01a\x00\xc0\x00")?;
     for place in 0u8..60 {
-        value.push(0xc0)?;
-        value.push(3 + 2 * place)?;
+        value.extend_from_slice(&[0xc0, 3 + 2 * place])?;
     }
     // Each of the 62 names is "a".
     assert_eq!(rt; listed(&rt, &value)?.len(), 124);

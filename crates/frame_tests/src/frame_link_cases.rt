@@ -32,9 +32,8 @@ fn announcement_is_spelled(rt: HostRuntime) {
 #[test]
 fn announcement_is_heard(rt: HostRuntime) -> Result<(), Fail> {
     let frame = eth_of(&ANNOUNCEMENT).ok_or("14 bytes or more are a frame")?;
-    assert_eq!(rt; frame.to.bytes, [0xff; 6]);
-    assert_eq!(rt; frame.from, MAC);
-    assert_eq!(rt; frame.kind, 0x0806);
+    let everyone = Mac { bytes: [0xff; 6] };
+    assert_eq!(rt; (frame.to, frame.from, frame.kind), (everyone, MAC, 0x0806));
     let packet = arp_of(frame.body).ok_or("the body is a packet")?;
     assert_eq!(rt;
         packet,

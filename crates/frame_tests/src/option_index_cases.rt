@@ -1,3 +1,4 @@
+use net_types::Ip4;
 use option_index::*;
 use std::test::*;
 use v4_options::{Areas, OptionView, code, options_of};
@@ -66,18 +67,23 @@ fn view() -> Result<OptionView<'static>, Fail> {
 #[test]
 fn numbers_and_addresses(rt: HostRuntime) -> Result<(), Fail> {
     let index = OptionIndex::of(&view()?);
-    assert_eq!(rt; index.byte_at(code::MESSAGE_TYPE), Some(5));
-    assert_eq!(rt; index.u32_at(code::LEASE_TIME), Some(3600));
-    let router = index.addr_at(code::ROUTERS).ok_or("no router")?;
-    assert_eq!(rt; router.number, 0x0a00_00fe);
-    // Two instances, of which the second stands in the field file.
-    let server = index.addr_at(code::SERVER_IDENTIFIER).ok_or("no server")?;
-    assert_eq!(rt; server.number, 0x0a00_0001);
-    // Values of other lengths.
-    assert_eq!(rt; index.byte_at(code::LEASE_TIME), None);
-    assert_eq!(rt; index.u32_at(code::INTERFACE_MTU), None);
-    assert!(rt; index.addr_at(code::INTERFACE_MTU).is_none());
-    assert_eq!(rt; index.byte_at(code::HOST_NAME), None);
+    // The byte and the number of 32 bits that a code has.
+    for (code, byte, number) in [
+        (code::MESSAGE_TYPE, Some(5), None),
+        (code::LEASE_TIME, None, Some(3600)),
+        (code::ROUTERS, None, Some(0x0a00_00fe)),
+        // Two instances, of which the second stands in the field file.
+        (code::SERVER_IDENTIFIER, None, Some(0x0a00_0001)),
+        // Values of other lengths.
+        (code::INTERFACE_MTU, None, None),
+        (code::HOST_NAME, None, None),
+    ] {
+        let address = number.map(|number| Ip4 { number });
+        assert_eq!(rt;
+            (index.byte_at(code), index.u32_at(code), index.addr_at(code)),
+            (byte, number, address)
+        );
+    }
     Ok(())
 }
 

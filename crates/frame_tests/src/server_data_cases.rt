@@ -47,17 +47,13 @@ const REFUSED: [u8; 10] = *b"\x35\x01\x06\
 
 #[test]
 fn writes_an_offer_and_a_nak(rt: HostRuntime) -> Result<(), Fail> {
-    let bytes = server_data(rt.alloc(), &OFFER).ok().ok_or("memory")?;
-    assert_eq!(rt;
-        bytes.as_slice(),
-        message_with(&rt, [10, 0, 0, 107], &GRANTED)?.as_slice()
-    );
-    let mut nak = OFFER;
-    nak.kind = ReplyKind::Nak;
-    let bytes = server_data(rt.alloc(), &nak).ok().ok_or("memory")?;
-    assert_eq!(rt;
-        bytes.as_slice(),
-        message_with(&rt, [0; 4], &REFUSED)?.as_slice()
-    );
+    for (kind, yiaddr, options) in [
+        (ReplyKind::Offer, [10, 0, 0, 107], GRANTED.as_slice()),
+        (ReplyKind::Nak, [0; 4], &REFUSED),
+    ] {
+        let bytes = server_data(rt.alloc(), &Reply { kind, ..OFFER })?;
+        let expected = message_with(&rt, yiaddr, options)?;
+        assert_eq!(rt; bytes.as_slice(), expected.as_slice());
+    }
     Ok(())
 }

@@ -65,21 +65,30 @@ fn own_messages(rt: HostRuntime) {
         mac: OWN,
         broadcast: false,
     };
-    assert!(rt; speaker.is_ours(&DISCOVER));
-    let mut asks = DISCOVER;
-    asks.said.flags = BROADCAST_FLAG;
-    assert!(rt; !speaker.is_ours(&asks));
-    let mut renews = DISCOVER;
-    renews.said.kind = Kind4::Request;
-    assert!(rt; !speaker.is_ours(&renews));
-    renews.said.ciaddr = Ip4 {
+    let none = Ip4::UNSPECIFIED;
+    let own = Ip4 {
         number: 0x0a00_0032,
     };
-    assert!(rt; !speaker.is_ours(&renews));
-    renews.ends.from = renews.said.ciaddr;
-    assert!(rt; speaker.is_ours(&renews));
-    renews.said.secs = 1;
-    assert!(rt; !speaker.is_ours(&renews));
+    for (kind, flags, secs, ciaddr, from, is_ours) in [
+        (Kind4::Discover, 0, 0, none, none, true),
+        (Kind4::Discover, BROADCAST_FLAG, 0, none, none, false),
+        // It renews: without its address, from no address, and late.
+        (Kind4::Request, 0, 0, none, none, false),
+        (Kind4::Request, 0, 0, own, none, false),
+        (Kind4::Request, 0, 0, own, own, true),
+        (Kind4::Request, 0, 1, own, own, false),
+    ] {
+        let mut sent = DISCOVER;
+        sent.ends.from = from;
+        sent.said = Said4 {
+            kind,
+            flags,
+            secs,
+            ciaddr,
+            ..DISCOVER.said
+        };
+        assert!(rt; speaker.is_ours(&sent) == is_ours);
+    }
 }
 
 /// An OFFER without an end of its options.

@@ -1,3 +1,5 @@
+use net_types::Ip4;
+use std::process::Abort;
 use std::test::*;
 use v4_options::*;
 
@@ -20,22 +22,50 @@ const OPTIONS: [u8; 13] = [
 
 const SNAME: [u8; 7] = [code::DOMAIN_NAME_SERVERS, 4, 10, 0, 0, 2, code::END];
 
-#[test]
-fn split_option_over_areas(rt: HostRuntime) -> Result<(), Fail> {
-    let areas = Areas {
+// A code's value stands in two parts.
+fn assert_two_pieces(rt: &impl Abort, view: &OptionView, code: u8, first: &[u8], second: &[u8]) {
+    let mut pieces = pieces_of(view, code);
+    assert_eq!(rt;
+        (pieces.next(), pieces.next(), pieces.next()),
+        (Some(first), Some(second), None)
+    );
+}
+
+fn split_view() -> Result<OptionView<'static>, Fail> {
+    let view = options_of(Areas {
         options: &OPTIONS,
         file: &[code::DOMAIN_NAME_SERVERS, 9],
         sname: &SNAME,
-    };
-    let view = options_of(areas)?;
+    })?;
+    Ok(view)
+}
+
+#[test]
+fn split_option_over_areas(rt: HostRuntime) -> Result<(), Fail> {
+    let view = split_view()?;
+    let (first, second) = (&[10, 0, 0, 1], &[10, 0, 0, 2]);
+    assert_two_pieces(&rt, &view, code::DOMAIN_NAME_SERVERS, first, second);
     let servers = value(rt.alloc(), &view, code::DOMAIN_NAME_SERVERS)?.ok_or("no servers")?;
     assert_eq!(rt; servers.as_slice(), [10, 0, 0, 1, 10, 0, 0, 2].as_slice());
-    for piece in pieces_of(&view, code::DOMAIN_NAME_SERVERS) {
-        assert_eq!(rt; piece.len(), 4);
-    }
+    Ok(())
+}
+
+#[test]
+fn whole_and_absent_options(rt: HostRuntime) -> Result<(), Fail> {
+    let view = split_view()?;
     assert_eq!(rt; byte_at(&view, code::MESSAGE_TYPE), Some(5));
     assert!(rt; value(rt.alloc(), &view, code::ROUTERS)?.is_none());
     Ok(())
+}
+
+// A view of options alone.
+fn view_of(options: &[u8]) -> Result<OptionView<'_>, Fail> {
+    let view = options_of(Areas {
+        options,
+        file: &[],
+        sname: &[],
+    })?;
+    Ok(view)
 }
 
 #[test]
@@ -68,16 +98,20 @@ fn split_number(rt: HostRuntime) -> Result<(), Fail> {
 
 #[test]
 fn split_address(rt: HostRuntime) -> Result<(), Fail> {
-    // The second part with a byte too many.
-    let view = options_of(Areas {
-        options: &[54, 1, 10, 54, 3, 0, 0, 1, 28, 4, 10, 0, 0, 255, 28, 1, 0],
-        file: &[],
-        sname: &[],
-    })?;
-    let server = addr_at(&view, code::SERVER_IDENTIFIER).ok_or("no server")?;
-    assert_eq!(rt; server.number, 0x0a00_0001);
-    assert!(rt; addr_at(&view, code::BROADCAST_ADDRESS).is_none());
-    assert!(rt; addr_at(&view, code::ROUTERS).is_none());
+    let view = view_of(&[54, 1, 10, 54, 3, 0, 0, 1, 28, 4, 10, 0, 0, 255, 28, 1, 0])?;
+    for (code, address) in [
+        (
+            code::SERVER_IDENTIFIER,
+            Some(Ip4 {
+                number: 0x0a00_0001,
+            }),
+        ),
+        // The second part with a byte too many, and no part.
+        (code::BROADCAST_ADDRESS, None),
+        (code::ROUTERS, None),
+    ] {
+        assert_eq!(rt; addr_at(&view, code), address);
+    }
     Ok(())
 }
 
@@ -98,12 +132,7 @@ const OVERLOADS: [(&[u8], Overload); 8] = [
 #[test]
 fn overloads(rt: HostRuntime) -> Result<(), Fail> {
     for (options, overload) in &OVERLOADS {
-        let areas = Areas {
-            options,
-            file: &[],
-            sname: &[],
-        };
-        assert_eq!(rt; options_of(areas)?.overload, *overload);
+        assert_eq!(rt; view_of(options)?.overload, *overload);
     }
     Ok(())
 }

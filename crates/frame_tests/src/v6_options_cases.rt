@@ -75,16 +75,27 @@ fn nested(rt: &HostRuntime, innermost: u16) -> Result<Vec<u8>, Fail> {
 
 #[test]
 fn nested_to_the_limit(rt: HostRuntime) -> Result<(), Fail> {
-    let whole = nested(&rt, 12)?;
-    assert_eq!(rt; check_options(&whole, 4).err(), None);
-    for option in options_of(&whole) {
-        assert_eq!(rt; option.value.len(), 65532);
-    }
-    // No room for the fixed fields, and a value that runs past the IA that holds it.
-    let place = 4 + 16 * (DEPTH - 1);
-    for innermost in [11, 13] {
+    let innermost_place = Malformed {
+        place: 4 + 16 * (DEPTH - 1),
+    };
+    for (innermost, fault) in [
+        (12, None),
+        // No room for the fixed fields, and a value that runs past the IA that holds it.
+        (11, Some(innermost_place)),
+        (13, Some(innermost_place)),
+    ] {
         let area = nested(&rt, innermost)?;
-        assert_eq!(rt; check_options(&area, 4).err(), Some(Malformed { place }));
+        assert_eq!(rt; check_options(&area, 4).err(), fault);
     }
+    Ok(())
+}
+
+#[test]
+fn outermost_of_the_nested(rt: HostRuntime) -> Result<(), Fail> {
+    let area = nested(&rt, 12)?;
+    let mut options = options_of(&area);
+    let outermost = options.next().ok_or("an option")?;
+    assert_eq!(rt; outermost.value.len(), 65532);
+    assert!(rt; options.next().is_none());
     Ok(())
 }
