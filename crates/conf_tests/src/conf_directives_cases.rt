@@ -96,6 +96,7 @@ const READINGS: [(&[u8], &str, &[u8]); 37] = [
     ),
     (b"allowinterfaces * e*0", "bad", b""),
 ];
+
 /// What a line says, in the words of the table.
 fn shown(alloc: Global, said: Option<&LineSaid>) -> Result<String, Fail> {
     match said {

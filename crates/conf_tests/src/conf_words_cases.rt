@@ -42,8 +42,8 @@ fn what_follows_a_directive(rt: HostRuntime) -> Result<(), Fail> {
     for (about, expected) in ARGUMENTS {
         let arguments = arguments_of(rt.alloc(), about)?;
         assert_eq!(rt; arguments.len(), expected.len());
-        for (argument, told) in arguments.iter().zip(expected) {
-            assert!(rt; (argument.form, argument.text) == *told);
+        for (argument, (form, text)) in arguments.iter().zip(expected) {
+            assert!(rt; argument.form == *form && argument.text == *text);
         }
     }
     Ok(())
