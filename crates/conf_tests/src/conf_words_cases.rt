@@ -1,4 +1,3 @@
-use conf_words::Form::{Plain, Quoted};
 use conf_words::{Argument, Form, Line, arguments_of, first_line, read, whole_argument};
 use std::test::*;
 
@@ -12,39 +11,46 @@ const fn quoted(text: &[u8]) -> Argument<'_> {
     Argument { form, text }
 }
 
-/// What follows a directive, and the arguments there.
-const ARGUMENTS: [(&[u8], &[(Form, &[u8])]); 13] = [
-    (b"", &[]),
-    (b" \t ", &[]),
-    (b" a\tb ", &[(Plain, b"a"), (Plain, b"b")]),
-    (b" \"a b\" c", &[(Quoted, b"a b"), (Plain, b"c")]),
-    // what stands right after a closing quote begins another argument
-    (b" \"a\"b", &[(Quoted, b"a"), (Plain, b"b")]),
-    (b" \"a\"\"b\"", &[(Quoted, b"a"), (Quoted, b"b")]),
-    // a quote within a word is a byte like others
-    (b" a\"b c\"", &[(Plain, b"a\"b"), (Plain, b"c\"")]),
-    // empty quoted arguments
-    (b" \"\"", &[(Quoted, b"")]),
-    (
-        b" \"\"\"\" \"",
-        &[(Quoted, b""), (Quoted, b""), (Quoted, b"")],
-    ),
-    // a quote that isn't closed goes to the end of the line
-    (b" \"a # b ", &[(Quoted, b"a # b ")]),
-    (b" a \"", &[(Plain, b"a"), (Quoted, b"")]),
-    // nothing begins a comment there
-    (b" # ;", &[(Plain, b"#"), (Plain, b";")]),
-    (b" a\\\"b", &[(Plain, b"a\\\"b")]),
-];
-
 #[test]
 fn what_follows_a_directive(rt: HostRuntime) -> Result<(), Fail> {
-    for (about, expected) in ARGUMENTS {
+    let readings: [(&[u8], [Option<Argument<'_>>; 3]); 13] = [
+        (b"", [None, None, None]),
+        (b" \t ", [None, None, None]),
+        (b" a\tb ", [Some(plain(b"a")), Some(plain(b"b")), None]),
+        (
+            b" \"a b\" c",
+            [Some(quoted(b"a b")), Some(plain(b"c")), None],
+        ),
+        // what stands right after a closing quote begins another argument
+        (b" \"a\"b", [Some(quoted(b"a")), Some(plain(b"b")), None]),
+        (
+            b" \"a\"\"b\"",
+            [Some(quoted(b"a")), Some(quoted(b"b")), None],
+        ),
+        // a quote within a word is a byte like others
+        (
+            b" a\"b c\"",
+            [Some(plain(b"a\"b")), Some(plain(b"c\"")), None],
+        ),
+        // empty quoted arguments
+        (b" \"\"", [Some(quoted(b"")), None, None]),
+        (
+            b" \"\"\"\" \"",
+            [Some(quoted(b"")), Some(quoted(b"")), Some(quoted(b""))],
+        ),
+        // a quote that isn't closed goes to the end of the line
+        (b" \"a # b ", [Some(quoted(b"a # b ")), None, None]),
+        (b" a \"", [Some(plain(b"a")), Some(quoted(b"")), None]),
+        // nothing begins a comment there
+        (b" # ;", [Some(plain(b"#")), Some(plain(b";")), None]),
+        (b" a\\\"b", [Some(plain(b"a\\\"b")), None, None]),
+    ];
+    for (about, expected) in readings {
         let arguments = arguments_of(rt.alloc(), about)?;
-        assert_eq!(rt; arguments.len(), expected.len());
-        for (argument, (form, text)) in arguments.iter().zip(expected) {
-            assert!(rt; argument.form == *form && argument.text == *text);
+        for (place, argument) in expected.iter().enumerate() {
+            assert!(rt; arguments.get(place).copied() == *argument);
         }
+        assert!(rt; arguments.len() <= 3);
     }
     Ok(())
 }
@@ -71,33 +77,32 @@ fn the_rest_of_a_line(rt: HostRuntime) {
     }
 }
 
-/// Texts, each with the count of its directives, the last of them, and the first line that isn't text.
-const TEXTS: [(&[u8], usize, &[u8], Option<usize>); 16] = [
-    (b"", 0, b"", None),
-    (b"\n\r\n \t\n# a\n  ;b\n#", 0, b"", None),
-    (b"noarp", 1, b"noarp", None),
-    (b"\tnoarp\nrelease a\r\n", 2, b"release", None),
-    // the first word is never quoted
-    (b"\"noarp\" a\n", 1, b"\"noarp\"", None),
-    // one carriage return is of the end of its line, where a line feed follows
-    (b"noarp\r\r\n", 0, b"", Some(1)),
-    (b"noarp\nrelease\r", 1, b"noarp", Some(2)),
-    (b"noarp\rrelease\n", 0, b"", Some(1)),
-    // control characters: all of them but tabs, in comments too
-    (b"noarp\n#\x01\nrelease\n", 1, b"noarp", Some(2)),
-    (b"\n\n\x7f", 0, b"", Some(3)),
-    (b"env a=\xc2\x80\n", 0, b"", Some(1)),
-    (b"env a=\xc2\x9f\n", 0, b"", Some(1)),
-    (b"env\xc2\xa0a\n", 1, b"env\xc2\xa0a", None),
-    // no UTF-8: a byte alone, a surrogate, an overlong form
-    (b"noarp\n\xff\n", 1, b"noarp", Some(2)),
-    (b"\xed\xa0\x80\n", 0, b"", Some(1)),
-    (b"\xc0\xa0\n", 0, b"", Some(1)),
-];
-
 #[test]
 fn the_lines_of_a_text(rt: HostRuntime) -> Result<(), Fail> {
-    for (text, count, last, not_text) in TEXTS {
+    // how many directives, what the last of them is, and the first line that isn't text
+    let readings: [(&[u8], usize, &[u8], Option<usize>); 16] = [
+        (b"", 0, b"", None),
+        (b"\n\r\n \t\n# a\n  ;b\n#", 0, b"", None),
+        (b"noarp", 1, b"noarp", None),
+        (b"\tnoarp\nrelease a\r\n", 2, b"release", None),
+        // the first word is never quoted
+        (b"\"noarp\" a\n", 1, b"\"noarp\"", None),
+        // one carriage return is of the end of its line, where a line feed follows
+        (b"noarp\r\r\n", 0, b"", Some(1)),
+        (b"noarp\nrelease\r", 1, b"noarp", Some(2)),
+        (b"noarp\rrelease\n", 0, b"", Some(1)),
+        // control characters: all of them but tabs, in comments too
+        (b"noarp\n#\x01\nrelease\n", 1, b"noarp", Some(2)),
+        (b"\n\n\x7f", 0, b"", Some(3)),
+        (b"env a=\xc2\x80\n", 0, b"", Some(1)),
+        (b"env a=\xc2\x9f\n", 0, b"", Some(1)),
+        (b"env\xc2\xa0a\n", 1, b"env\xc2\xa0a", None),
+        // no UTF-8: a byte alone, a surrogate, an overlong form
+        (b"noarp\n\xff\n", 1, b"noarp", Some(2)),
+        (b"\xed\xa0\x80\n", 0, b"", Some(1)),
+        (b"\xc0\xa0\n", 0, b"", Some(1)),
+    ];
+    for (text, count, last, not_text) in readings {
         let reading = read(rt.alloc(), text)?;
         assert_eq!(rt; reading.lines.len(), count);
         if let Some(line) = reading.lines.last() {
