@@ -1,5 +1,5 @@
 use conf_text::{Conf, ConfAnswer, ConfCause, ConfFault, managed, notices, read_conf, settings};
-use net_types::{IfIndex, IfSpec, Mac, name_of};
+use net_types::{IfIndex, IfSpec, Mac, Name};
 use settings::{Identifier, IfConf};
 use std::alloc::Global;
 use std::test::*;
@@ -12,64 +12,64 @@ fn fault_of(answer: Result<Conf, ConfAnswer>) -> Option<ConfFault> {
     }
 }
 
+/// Texts, each with the line and the cause of its first fault.
+const FAULTS: [(&[u8], Option<(u32, ConfCause)>); 18] = [
+    (b"", None),
+    (b"# a\r\n\n noarp yes\n", None),
+    (b"noarp\n#\xff\n", Some((2, ConfCause::NotText))),
+    // a fault of an earlier line comes first, whatever its cause
+    (b"metric x\n\x01\n", Some((1, ConfCause::BadArgument))),
+    // what is skipped need only be text
+    (b"profile\nmetric x\nssid a\n", None),
+    (b"profile\n\x07\n", Some((2, ConfCause::NotText))),
+    (
+        b"profile\ninterface eth0\nmetric x\n",
+        Some((3, ConfCause::BadArgument)),
+    ),
+    (b"interface eth0 eth1\n", Some((1, ConfCause::BadArgument))),
+    // out of its place
+    (b"script\n", Some((1, ConfCause::BadArgument))),
+    (b"interface eth0\nscript\n", None),
+    // associations
+    (
+        b"ia_na 1\nia_pd 1\nia_na 1\n",
+        Some((3, ConfCause::Repeated)),
+    ),
+    (
+        b"ia_na 1\ninterface a\nia_na 1\n",
+        Some((3, ConfCause::Repeated)),
+    ),
+    (b"interface a\nia_na 1\ninterface b\nia_na 1\n", None),
+    (b"ia_na\nia_na\n", None),
+    (
+        b"ia_na\nia_na\nia_na 3\ninterface a\nia_na\nia_na\nia_na\nia_na\n",
+        Some((8, ConfCause::TooMany)),
+    ),
+    (
+        b"ia_na\nia_na\nia_na 3\ninterface a\nia_na\nia_na\nia_na\nia_na 3\n",
+        Some((8, ConfCause::Repeated)),
+    ),
+    (
+        b"static routers=1.1.1.1 1.1.1.1 1.1.1.1 1.1.1.1 1.1.1.1 1.1.1.1 1.1.1.1 1.1.1.1 \
+            1.1.1.1 1.1.1.1 1.1.1.1 1.1.1.1 1.1.1.1 1.1.1.1 1.1.1.1 1.1.1.1\n",
+        None,
+    ),
+    (
+        b"static routers=1.1.1.1 1.1.1.1 1.1.1.1 1.1.1.1 1.1.1.1 1.1.1.1 1.1.1.1 1.1.1.1 \
+            1.1.1.1 1.1.1.1 1.1.1.1 1.1.1.1 1.1.1.1 1.1.1.1 1.1.1.1 1.1.1.1 1.1.1.1\n",
+        Some((1, ConfCause::TooMany)),
+    ),
+];
+
 #[test]
-fn the_first_fault(rt: HostRuntime) -> Result<(), Fail> {
-    let none = None;
-    let readings: [(&[u8], Option<(u32, ConfCause)>); 18] = [
-        (b"", none),
-        (b"# a\r\n\n noarp yes\n", none),
-        (b"noarp\n#\xff\n", Some((2, ConfCause::NotText))),
-        // a fault of an earlier line comes first, whatever its cause
-        (b"metric x\n\x01\n", Some((1, ConfCause::BadArgument))),
-        // what is skipped need only be text
-        (b"profile\nmetric x\nssid a\n", none),
-        (b"profile\n\x07\n", Some((2, ConfCause::NotText))),
-        (
-            b"profile\ninterface eth0\nmetric x\n",
-            Some((3, ConfCause::BadArgument)),
-        ),
-        (b"interface eth0 eth1\n", Some((1, ConfCause::BadArgument))),
-        // out of its place
-        (b"script\n", Some((1, ConfCause::BadArgument))),
-        (b"interface eth0\nscript\n", none),
-        // associations
-        (
-            b"ia_na 1\nia_pd 1\nia_na 1\n",
-            Some((3, ConfCause::Repeated)),
-        ),
-        (
-            b"ia_na 1\ninterface a\nia_na 1\n",
-            Some((3, ConfCause::Repeated)),
-        ),
-        (b"interface a\nia_na 1\ninterface b\nia_na 1\n", none),
-        (b"ia_na\nia_na\n", none),
-        (
-            b"ia_na\nia_na\nia_na 3\ninterface a\nia_na\nia_na\nia_na\nia_na\n",
-            Some((8, ConfCause::TooMany)),
-        ),
-        (
-            b"ia_na\nia_na\nia_na 3\ninterface a\nia_na\nia_na\nia_na\nia_na 3\n",
-            Some((8, ConfCause::Repeated)),
-        ),
-        (
-            b"static routers=1.1.1.1 1.1.1.1 1.1.1.1 1.1.1.1 1.1.1.1 1.1.1.1 1.1.1.1 1.1.1.1 \
-                1.1.1.1 1.1.1.1 1.1.1.1 1.1.1.1 1.1.1.1 1.1.1.1 1.1.1.1 1.1.1.1\n",
-            none,
-        ),
-        (
-            b"static routers=1.1.1.1 1.1.1.1 1.1.1.1 1.1.1.1 1.1.1.1 1.1.1.1 1.1.1.1 1.1.1.1 \
-                1.1.1.1 1.1.1.1 1.1.1.1 1.1.1.1 1.1.1.1 1.1.1.1 1.1.1.1 1.1.1.1 1.1.1.1\n",
-            Some((1, ConfCause::TooMany)),
-        ),
-    ];
-    for (text, expected) in readings {
+fn the_first_fault(rt: HostRuntime) {
+    for (text, expected) in FAULTS {
         let expected = match expected {
             Some((line, cause)) => Some(ConfFault { line, cause }),
             None => None,
         };
         assert_eq!(rt; fault_of(read_conf(rt.alloc(), text)), expected);
     }
-    Ok(())
 }
 
 /// So many copies of a line.
@@ -108,7 +108,7 @@ fn the_words_that_do_nothing(rt: HostRuntime) -> Result<(), Fail> {
     let text = b"hostname\nduid\npersistent\nvendorclassid\noption rapid_commit\n\
         option domain_name_servers, domain_name, domain_search\noption classless_static_routes\noption interface_mtu\n\
         require dhcp_server_identifier\nslaac private\nprofile a\nfoo\ninterface eth0\nscript /dev/null\nnooption 51,x\n";
-    let conf = read_conf(rt.alloc(), text).ok().ok_or("it has no fault")?;
+    let conf = read_conf(rt.alloc(), text)?;
     let expected: [(u32, &str); 7] = [
         (1, "hostname"),
         (3, "persistent"),
@@ -119,94 +119,104 @@ fn the_words_that_do_nothing(rt: HostRuntime) -> Result<(), Fail> {
         (15, "x"),
     ];
     assert_eq!(rt; notices(&conf).len(), expected.len());
-    for (notice, (line, word)) in notices(&conf).iter().zip(expected.iter()) {
-        assert_eq!(rt; notice.line, *line);
-        assert!(rt; notice.word.as_str() == *word);
+    for (notice, (line, word)) in notices(&conf).iter().zip(expected) {
+        assert!(rt; notice.line == line && notice.word.as_str() == word);
     }
     assert!(rt; !conf.turns_hooks_off());
     Ok(())
 }
 
-fn spec_of(number: u32, name: &[u8]) -> Option<IfSpec> {
-    Some(IfSpec {
+/// An interface with a name of four letters.
+fn spec(number: u32, name: [u8; 4]) -> IfSpec {
+    let [a, b, c, d] = name;
+    IfSpec {
         index: IfIndex { number },
-        name: name_of(name)?,
+        name: Name {
+            bytes: [a, b, c, d, 0, 0, 0, 0, 0, 0, 0, 0, 0, 0, 0],
+            len: 4,
+        },
         mac: Mac {
             bytes: [2, 0, 0, 0, 0, 1],
         },
-    })
+    }
+}
+
+/// eth0, eth1 and eth2, whose indices are 1 to 3.
+fn specs() -> [IfSpec; 3] {
+    [spec(1, *b"eth0"), spec(2, *b"eth1"), spec(3, *b"eth2")]
 }
 
 fn refused_by(set: &IfConf) -> &[u8] {
     &set.dhcp4.refused
 }
 
+/// Lines for all interfaces, of which eth1 is not managed, and lines for eth0.
+const TEXT: &[u8] =
+    b"script /dev/null\nallowinterfaces eth*\ndenyinterfaces eth1\nmetric 5\nnooption 3\nnodelay\n\
+    interface eth0\nmetric 6\nmetric 7\nrelease\nnooption 6\nstatic routers=10.0.0.1 10.0.0.2\n";
+
 #[test]
 fn what_is_in_force(rt: HostRuntime) -> Result<(), Fail> {
-    let text =
-        b"script /dev/null\nallowinterfaces eth*\ndenyinterfaces eth1\nmetric 5\nnooption 3\nnodelay\ninterface eth0\nmetric 6\nmetric 7\nrelease\nnooption 6\nstatic routers=10.0.0.1 10.0.0.2\n";
-    let conf = read_conf(rt.alloc(), text).ok().ok_or("it has no fault")?;
+    let conf = read_conf(rt.alloc(), TEXT)?;
     assert!(rt; conf.turns_hooks_off());
-    let eth0 = spec_of(1, b"eth0").ok_or("a name")?;
-    let eth1 = spec_of(2, b"eth1").ok_or("a name")?;
-    let eth2 = spec_of(3, b"eth2").ok_or("a name")?;
-    let set = settings(rt.alloc(), &conf, &[eth0], &eth0)
-        .ok()
-        .ok_or("memory")?
-        .ok_or("it is managed")?;
-    assert_eq!(rt;
-        (set.metric, set.nodelay, set.release),
-        (Some(7), true, true)
+    let [eth0, ..] = specs();
+    let set = settings(rt.alloc(), &conf, &[eth0], &eth0)?.ok_or("it is managed")?;
+    let found = (
+        set.metric,
+        set.nodelay,
+        set.release,
+        set.timeout,
+        set.reboot,
     );
-    assert_eq!(rt; (set.timeout, set.reboot), (30, 5));
+    assert_eq!(rt; found, (Some(7), true, true, 30, 5));
     assert!(rt; refused_by(&set).starts_with(&[3, 6]));
-    let all = managed(rt.alloc(), &conf, &[eth0, eth1, eth2])
-        .ok()
-        .ok_or("memory")?;
-    assert_eq!(rt; all.len(), 2);
-    if let Some(last) = all.last() {
-        assert_eq!(rt; last.conf.metric, Some(5));
-    }
     Ok(())
 }
 
-/// What is in force for eth0, whose index is 1, beside eth1 and eth2.
-fn set_on_eth0(alloc: Global, text: &[u8]) -> Result<IfConf, Fail> {
-    let conf = read_conf(alloc, text).ok().ok_or("it has no fault")?;
-    let eth0 = spec_of(1, b"eth0").ok_or("a name")?;
-    let eth1 = spec_of(2, b"eth1").ok_or("a name")?;
-    let eth2 = spec_of(3, b"eth2").ok_or("a name")?;
-    let set = settings(alloc, &conf, &[eth0, eth1, eth2], &eth0)
-        .ok()
-        .ok_or("memory")?
-        .ok_or("it is managed")?;
-    Ok(set)
+#[test]
+fn what_is_managed(rt: HostRuntime) -> Result<(), Fail> {
+    let conf = read_conf(rt.alloc(), TEXT)?;
+    let all = managed(rt.alloc(), &conf, &specs())?;
+    let [_, last] = all.as_slice() else {
+        return Err("two interfaces".into());
+    };
+    assert_eq!(rt; last.conf.metric, Some(5));
+    Ok(())
 }
+
+/// What is in force for eth0 beside eth1 and eth2.
+fn set_on_eth0(alloc: Global, text: &[u8]) -> Result<IfConf, Fail> {
+    let conf = read_conf(alloc, text)?;
+    let specs = specs();
+    Ok(settings(alloc, &conf, &specs, &specs[0])?.ok_or("it is managed")?)
+}
+
+/// Texts, each with the kinds and IAIDs of the associations of eth0.
+const ASSOCIATIONS: [(&[u8], &[(IaKind, u32)]); 4] = [
+    (b"ia_na\nia_pd\n", &[(IaKind::Na, 1), (IaKind::Pd, 1)]),
+    // the index is written before it, or after it, for an association of its kind
+    (
+        b"ia_na 1\nia_na 7\nia_na\nia_pd\n",
+        &[(IaKind::Na, 1), (IaKind::Na, 7), (IaKind::Pd, 1)],
+    ),
+    (
+        b"ia_na\nia_na 7\ninterface eth0\nia_na 1\n",
+        &[(IaKind::Na, 7), (IaKind::Na, 1)],
+    ),
+    // of two of a kind the later goes
+    (
+        b"ia_na\nia_pd 2\ninterface eth0\nia_na\nia_pd\n",
+        &[(IaKind::Na, 1), (IaKind::Pd, 2), (IaKind::Pd, 1)],
+    ),
+];
 
 #[test]
 fn iaids_that_are_not_written(rt: HostRuntime) -> Result<(), Fail> {
-    let readings: [(&[u8], &[(IaKind, u32)]); 4] = [
-        (b"ia_na\nia_pd\n", &[(IaKind::Na, 1), (IaKind::Pd, 1)]),
-        // the index is written before it, or after it, for an association of its kind
-        (
-            b"ia_na 1\nia_na 7\nia_na\nia_pd\n",
-            &[(IaKind::Na, 1), (IaKind::Na, 7), (IaKind::Pd, 1)],
-        ),
-        (
-            b"ia_na\nia_na 7\ninterface eth0\nia_na 1\n",
-            &[(IaKind::Na, 7), (IaKind::Na, 1)],
-        ),
-        // of two of a kind the later goes
-        (
-            b"ia_na\nia_pd 2\ninterface eth0\nia_na\nia_pd\n",
-            &[(IaKind::Na, 1), (IaKind::Pd, 2), (IaKind::Pd, 1)],
-        ),
-    ];
-    for (text, expected) in readings {
+    for (text, expected) in ASSOCIATIONS {
         let set = set_on_eth0(rt.alloc(), text)?;
         assert_eq!(rt; set.dhcp6.ias.len(), expected.len());
-        for (ia, (kind, iaid)) in set.dhcp6.ias.iter().zip(expected.iter()) {
-            assert_eq!(rt; (ia.kind, ia.iaid), (*kind, *iaid));
+        for (ia, association) in set.dhcp6.ias.iter().zip(expected) {
+            assert_eq!(rt; (ia.kind, ia.iaid), *association);
         }
     }
     Ok(())
@@ -232,36 +242,37 @@ fn the_duid_as_identifier(rt: HostRuntime) -> Result<(), Fail> {
     ];
     for (text, expected) in readings {
         let set = set_on_eth0(rt.alloc(), text)?;
-        assert_eq!(rt; is_duid(&set.dhcp4.identifier), expected);
-        assert_eq!(rt; set.dhcp6.rapid, expected);
+        let found = (is_duid(&set.dhcp4.identifier), set.dhcp6.rapid);
+        assert_eq!(rt; found, (expected, expected));
     }
     Ok(())
 }
 
+/// Texts, each with what leads where: the index of the interface, its metric, and the SLA id.
+const SHARES: [(&[u8], &[(u32, u32, u32)]); 4] = [
+    (
+        b"ia_pd 1/::/56 eth1/0 eth2/255",
+        &[(2, 1002, 0), (3, 1003, 255)],
+    ),
+    // the index is the SLA id where none is written: the upstream one uses 3 up, so eth2 is left out, and eth3 is unknown
+    (
+        b"metric 9\nia_pd 1 eth0/3 eth3 eth2 eth1\ninterface eth1\nmetric 5",
+        &[(2, 5, 2)],
+    ),
+    // it is used up by an interface that isn't managed
+    (b"denyinterfaces eth2\nia_pd 1 eth2/2 eth1", &[]),
+    // of an association that goes nothing is shared
+    (b"ia_pd 1 eth1/7\nia_pd\nia_na", &[(2, 1002, 7)]),
+];
+
 #[test]
 fn shares_of_a_prefix(rt: HostRuntime) -> Result<(), Fail> {
-    // what leads where: the index of the interface, its metric, and the SLA id
-    let readings: [(&[u8], &[(u32, u32, u32)]); 4] = [
-        (
-            b"ia_pd 1/::/56 eth1/0 eth2/255",
-            &[(2, 1002, 0), (3, 1003, 255)],
-        ),
-        // the index is the SLA id where none is written: the upstream one uses 3 up, so eth2 is left out, and eth3 is unknown
-        (
-            b"metric 9\nia_pd 1 eth0/3 eth3 eth2 eth1\ninterface eth1\nmetric 5",
-            &[(2, 5, 2)],
-        ),
-        // it is used up by an interface that isn't managed
-        (b"denyinterfaces eth2\nia_pd 1 eth2/2 eth1", &[]),
-        // of an association that goes nothing is shared
-        (b"ia_pd 1 eth1/7\nia_pd\nia_na", &[(2, 1002, 7)]),
-    ];
-    for (text, expected) in readings {
+    for (text, expected) in SHARES {
         let set = set_on_eth0(rt.alloc(), text)?;
         assert_eq!(rt; set.dhcp6.shares.len(), expected.len());
-        for (one, (number, metric, sla)) in set.dhcp6.shares.iter().zip(expected.iter()) {
-            assert_eq!(rt; one.outlet.iface, IfIndex { number: *number });
-            assert_eq!(rt; (one.outlet.metric, one.share.sla), (*metric, *sla));
+        for (one, share) in set.dhcp6.shares.iter().zip(expected) {
+            let found = (one.outlet.iface.number, one.outlet.metric, one.share.sla);
+            assert_eq!(rt; found, *share);
         }
     }
     Ok(())

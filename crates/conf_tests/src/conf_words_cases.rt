@@ -77,32 +77,33 @@ fn the_rest_of_a_line(rt: HostRuntime) {
     }
 }
 
+/// Texts, each with the count of its directives, the last of them, and the first line that isn't text.
+const TEXTS: [(&[u8], usize, &[u8], Option<usize>); 16] = [
+    (b"", 0, b"", None),
+    (b"\n\r\n \t\n# a\n  ;b\n#", 0, b"", None),
+    (b"noarp", 1, b"noarp", None),
+    (b"\tnoarp\nrelease a\r\n", 2, b"release", None),
+    // the first word is never quoted
+    (b"\"noarp\" a\n", 1, b"\"noarp\"", None),
+    // one carriage return is of the end of its line, where a line feed follows
+    (b"noarp\r\r\n", 0, b"", Some(1)),
+    (b"noarp\nrelease\r", 1, b"noarp", Some(2)),
+    (b"noarp\rrelease\n", 0, b"", Some(1)),
+    // control characters: all of them but tabs, in comments too
+    (b"noarp\n#\x01\nrelease\n", 1, b"noarp", Some(2)),
+    (b"\n\n\x7f", 0, b"", Some(3)),
+    (b"env a=\xc2\x80\n", 0, b"", Some(1)),
+    (b"env a=\xc2\x9f\n", 0, b"", Some(1)),
+    (b"env\xc2\xa0a\n", 1, b"env\xc2\xa0a", None),
+    // no UTF-8: a byte alone, a surrogate, an overlong form
+    (b"noarp\n\xff\n", 1, b"noarp", Some(2)),
+    (b"\xed\xa0\x80\n", 0, b"", Some(1)),
+    (b"\xc0\xa0\n", 0, b"", Some(1)),
+];
+
 #[test]
 fn the_lines_of_a_text(rt: HostRuntime) -> Result<(), Fail> {
-    // how many directives, what the last of them is, and the first line that isn't text
-    let readings: [(&[u8], usize, &[u8], Option<usize>); 16] = [
-        (b"", 0, b"", None),
-        (b"\n\r\n \t\n# a\n  ;b\n#", 0, b"", None),
-        (b"noarp", 1, b"noarp", None),
-        (b"\tnoarp\nrelease a\r\n", 2, b"release", None),
-        // the first word is never quoted
-        (b"\"noarp\" a\n", 1, b"\"noarp\"", None),
-        // one carriage return is of the end of its line, where a line feed follows
-        (b"noarp\r\r\n", 0, b"", Some(1)),
-        (b"noarp\nrelease\r", 1, b"noarp", Some(2)),
-        (b"noarp\rrelease\n", 0, b"", Some(1)),
-        // control characters: all of them but tabs, in comments too
-        (b"noarp\n#\x01\nrelease\n", 1, b"noarp", Some(2)),
-        (b"\n\n\x7f", 0, b"", Some(3)),
-        (b"env a=\xc2\x80\n", 0, b"", Some(1)),
-        (b"env a=\xc2\x9f\n", 0, b"", Some(1)),
-        (b"env\xc2\xa0a\n", 1, b"env\xc2\xa0a", None),
-        // no UTF-8: a byte alone, a surrogate, an overlong form
-        (b"noarp\n\xff\n", 1, b"noarp", Some(2)),
-        (b"\xed\xa0\x80\n", 0, b"", Some(1)),
-        (b"\xc0\xa0\n", 0, b"", Some(1)),
-    ];
-    for (text, count, last, not_text) in readings {
+    for (text, count, last, not_text) in TEXTS {
         let reading = read(rt.alloc(), text)?;
         assert_eq!(rt; reading.lines.len(), count);
         if let Some(line) = reading.lines.last() {
