@@ -4,6 +4,7 @@ pub mod NetworkLaws
 pub mod CaseLaws
 pub mod ChoiceLaws
 pub mod FirstBadLaws
+pub mod FirstPlace
 pub mod GroupLaws
 pub mod HexLaws
 pub mod Ip6Laws

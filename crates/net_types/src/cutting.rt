@@ -4,6 +4,7 @@ ghost use Rattle.std.specs.List.{position};
 ghost use Rattle.net_types.specs.Cutting.{strip_word, split_at_byte, end_at, list_at};
 
 use crate::fault::NoMemory;
+use memchr::memchr;
 use std::alloc::Global;
 
 /// The text after a word that it begins with.
@@ -22,7 +23,7 @@ fn place_of(bytes: &[u8], separator: u8) -> Option<usize>
     ensures place { result ≡ position (λ b. b == separator) bytes.now }
     ensures within { IfSome result (λ i. i < length bytes.now) }
 {
-    bytes.iter().position(|b| *b == separator)
+    memchr(separator, bytes)
 }
 
 /// What stands before and after the first separator.

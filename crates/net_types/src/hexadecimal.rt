@@ -1,19 +1,33 @@
 //! Bytes as pairs of lower-case hexadecimal digits.
-ghost use Rattle.std.specs.Prelude.{◌≡◌, option_map, IfOk, IfSome, ◌<◌};
-ghost use Rattle.net_types.specs.HexText.{hex_digit_at, hex_byte_at, pairs_at, hex_at};
+ghost use Rattle.std.specs.Prelude.{◌≡◌, ◌*◌, ◌<◌, flat_map, length, option_map, IfOk, IfSome};
+ghost use Rattle.std.specs.Char.{digit_char};
+ghost use Rattle.net_types.specs.HexText.{byte_hex, hex_digit_at, hex_byte_at, pairs_at, hex_at};
 
 use crate::fault::NoMemory;
 use std::alloc::Global;
+
+pub(crate) fn hex_digit(value: u8) -> u8
+    requires { value < 16 }
+    ensures { result ≡ digit_char value }
+{
+    if value < 10 {
+        b'0' + value
+    } else {
+        b'a' + (value - 10)
+    }
+}
 
 #[tactic(auto, unfolding(crate::specs::HexText::hex_digit_at))]
 fn hex_digit_of(digit: u8) -> Option<u8>
     ensures value { result ≡ hex_digit_at digit }
     ensures small { IfSome result (λ n. n < 16) }
 {
-    match digit {
-        b'0'..=b'9' => Some(digit - b'0'),
-        b'a'..=b'f' => Some(digit - b'a' + 10),
-        _ => None,
+    // by arithmetic, since a branch on each digit of a long text is often guessed wrong
+    let value = digit % 16 + 9 * (digit / 64);
+    if value < 16 && hex_digit(value) == digit {
+        Some(value)
+    } else {
+        None
     }
 }
 
@@ -63,5 +77,16 @@ pub fn hex_of(alloc: Global, bytes: &[u8]) -> Result<Option<Vec<u8>>, NoMemory>
         Ok(Some(Vec::new(alloc)))
     } else {
         pairs_of(alloc, bytes)
+    }
+}
+
+/// Writes two digits a byte over all of the pairs.
+pub fn write_pairs(bytes: &[u8], pairs: &mut [u8])
+    requires { length pairs.old ≡ 2 * length bytes.now }
+    ensures { pairs.new ≡ flat_map byte_hex bytes.now }
+{
+    for (place, byte) in bytes.iter().enumerate() {
+        pairs[2 * place] = hex_digit(*byte / 16);
+        pairs[2 * place + 1] = hex_digit(*byte % 16);
     }
 }

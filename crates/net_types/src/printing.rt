@@ -1,6 +1,5 @@
 //! The printed forms of addresses, nets and names.
 ghost use Rattle.std.specs.Prelude.{◌≡◌, ◌++◌, ◌^◌, ◌/◌, ◌%◌, ◌<◌, flat_map, IfSome, OnErr, OnOk, Some};
-ghost use Rattle.std.specs.Char.{digit_char};
 ghost use Rattle.std.specs.Net.Addr.{ipv6_segments};
 ghost use Rattle.std.specs.String.{string_bytes};
 ghost use Rattle.net_types.specs.AddressText.{group_of, groups_of, ip4_text, ip6_text, mac_text, net4_text, net6_text, net_text};
@@ -9,10 +8,11 @@ ghost use Rattle.net_types.specs.NameText.{name_text};
 
 use crate::address::{Ip4, Ip6, Mac, Net, Net4, Net6};
 use crate::fault::NoMemory;
+use crate::hexadecimal::{hex_digit, write_pairs};
 use crate::interface::Name;
 use std::fmt::Display;
 use std::net::Ipv6Addr;
-use std::{fmt, str};
+use std::{cmp, fmt, str};
 
 #[tactic(auto, unfolding(crate::specs::AddressText::ip4_text))]
 impl Display for Ip4 {
@@ -96,23 +96,32 @@ impl Display for Net {
 #[derive(Clone, Copy)]
 struct HexByte(u8);
 
-fn hex_digit(value: u8) -> u8
-    requires { value < 16 }
-    ensures { result ≡ digit_char value }
-{
-    if value < 10 {
-        b'0' + value
-    } else {
-        b'a' + (value - 10)
-    }
-}
-
 impl Display for HexByte {
     ghost output = { λ byte. Some (byte_hex byte.0) };
 
     fn fmt<W: fmt::Write>(&self, f: &mut fmt::Formatter<W>) -> fmt::Result {
         let digits = [hex_digit(self.0 / 16), hex_digit(self.0 % 16)];
         f.write_str(str::from_utf8(&digits).map_err(|_| fmt::Error)?)
+    }
+}
+
+/// How many bytes are written at a time.
+const PIECE_LIMIT: usize = 32;
+
+/// So many bytes at most, as pairs.
+#[derive(Clone, Copy)]
+struct Piece<'a>(&'a [u8]);
+
+impl Display for Piece<'_> {
+    ghost output = { λ piece. Some (flat_map byte_hex piece.0.now) };
+
+    fn fmt<W: fmt::Write>(&self, f: &mut fmt::Formatter<W>) -> fmt::Result {
+        let mut room = [0; 2 * PIECE_LIMIT];
+        let Some(pairs) = room.get_mut(..2 * self.0.len()) else {
+            return Err(fmt::Error);
+        };
+        write_pairs(self.0, pairs);
+        f.write_str(str::from_utf8(pairs).map_err(|_| fmt::Error)?)
     }
 }
 
@@ -124,8 +133,11 @@ impl Display for Pairs<'_> {
     ghost output = { λ pairs. Some (flat_map byte_hex pairs.0.now) };
 
     fn fmt<W: fmt::Write>(&self, f: &mut fmt::Formatter<W>) -> fmt::Result {
-        for byte in self.0 {
-            f.write(HexByte(*byte))?;
+        let mut rest = self.0;
+        'pieces: while !rest.is_empty() {
+            let (piece, others) = rest.split_at(cmp::min(rest.len(), PIECE_LIMIT));
+            f.write(Piece(piece))?;
+            rest = others;
         }
         Ok(())
     }

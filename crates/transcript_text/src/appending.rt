@@ -1,12 +1,11 @@
 //! Appending to bytes. Where memory runs out the bytes are as before.
 ghost use Rattle.std.specs.Prelude.{◌≡◌, ◌++◌, decimal, flat_map, length, ◌<◌, ◌*◌, OnOk, OnErr, IfSome};
-ghost use Rattle.std.specs.Char.{digit_char};
 ghost use Rattle.net_types.specs.HexText.{byte_hex, hex_text};
 ghost use Rattle.transcript_text.specs.Pieces.{names_text};
 
 use arrayvec::ArrayString;
 use itoa::Buffer;
-use net_types::NoMemory;
+use net_types::{NoMemory, write_pairs};
 use std::fmt::{Display, Write};
 
 /// Room for any row, address or name; a longer text is made on the heap.
@@ -54,28 +53,6 @@ pub fn append_names(names: &[String], into: &mut Vec<u8>) -> Result<(), NoMemory
         }
     }
     Ok(())
-}
-
-fn hex_digit(digit: u8) -> u8
-    requires { digit < 16 }
-    ensures { result ≡ digit_char digit }
-{
-    if digit < 10 {
-        b'0' + digit
-    } else {
-        b'a' + (digit - 10)
-    }
-}
-
-/// Writes two digits a byte over all of the pairs.
-fn write_pairs(bytes: &[u8], pairs: &mut [u8])
-    requires { length pairs.old ≡ 2 * length bytes.now }
-    ensures { pairs.new ≡ flat_map byte_hex bytes.now }
-{
-    for (place, byte) in bytes.iter().enumerate() {
-        pairs[2 * place] = hex_digit(*byte / 16);
-        pairs[2 * place + 1] = hex_digit(*byte % 16);
-    }
 }
 
 /// Appends two digits a byte.

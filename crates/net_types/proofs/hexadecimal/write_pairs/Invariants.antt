@@ -1,7 +1,7 @@
 -- The pairs so far are written.
 use Rattle.std.proofs.Common.{◌≡◌, ◌*◌, take, flat_map, length}
 use Rattle.net_types.specs.HexText.{byte_hex}
-use Rattle.transcript_text.proofs.appending.write_pairs.Given as goal
+use Rattle.net_types.proofs.hexadecimal.write_pairs.Given as goal
 
 abbrev pub invariant-loop-place : goal.invariant-loop-place
 invariant-loop-place l = record {
