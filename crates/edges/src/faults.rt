@@ -1,4 +1,4 @@
-ghost use Rattle.std.specs.Prelude.{◌≡◌, IfOk};
+ghost use Rattle.std.specs.Prelude.{◌≡◌, ◌<◌, ◌-◌, ◌^◌, IfOk, IsErr};
 ghost use Rattle.world.specs.Causes.{HasCause, HasDeviceCause};
 ghost use Rattle.edges.specs.Counts.{Counted};
 
@@ -37,6 +37,7 @@ impl Faults {
     pub(crate) fn failed<T: Drop>(&mut self, otherwise: T) -> Result<T, Failed>
         ensures cause { HasCause self.old.count self.new.count result }
         ensures otherwise { IfOk result (λ answer. answer ≡ otherwise) }
+        ensures counts { self.old.count < 2 ^ 64 - 1 → IsErr result }
     {
         match self.count.checked_add(1) {
             Some(count) => {

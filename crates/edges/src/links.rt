@@ -1,4 +1,4 @@
-ghost use Rattle.std.specs.Prelude.{◌≡◌, ◌≤◌, length, IfOk, IfSome};
+ghost use Rattle.std.specs.Prelude.{◌≡◌, ◌<◌, ◌≤◌, ◌-◌, ◌^◌, length, IfOk, IfSome, IsSome};
 ghost use Rattle.edges.specs.Ports.{port_named};
 ghost use Rattle.edges.specs.Waiting.{patience, is_over};
 ghost use Rattle.world.specs.Causes.{HasCause};
@@ -84,7 +84,10 @@ impl<R: Net + Clock + AllocGlobal + Drop> Wire<R> {
     }
 
     /// Binds the socket, where that wasn't done before.
-    fn bind(&mut self) -> Result<(), Failed> {
+    fn bind(&mut self) -> Result<(), Failed>
+        ensures bound { IfOk result (λ _. IsSome self.new.socket) }
+        ensures ports { (self.new.port ≡ self.old.port) × (self.new.peer ≡ self.old.peer) }
+    {
         if self.socket.is_some() {
             return Ok(());
         }
@@ -199,6 +202,8 @@ impl<R: Net + Clock + AllocGlobal + Drop> LoopLink<R> {
 
     /// Binds the link's port, where that wasn't done before.
     pub fn bind(&mut self) -> Result<(), Failed>
+        ensures bound { self.old.faults.count < 2 ^ 64 - 1 → IfOk result (λ _. IsSome self.new.wire.socket) }
+        ensures ports { (self.new.wire.port ≡ self.old.wire.port) × (self.new.wire.peer ≡ self.old.wire.peer) }
         ensures cause { HasCause self.old.faults.count self.new.faults.count result }
         ensures no_send { self.new.send_faults ≡ self.old.send_faults }
         ensures no_begin { self.new.begins ≡ self.old.begins }
