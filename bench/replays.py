@@ -6,8 +6,8 @@
 
 For each kind of script and each size in MiB (of `renew` and `renew6`, each number of renewals): the time, the time over that of the
 size before, the time of sha256sum of the same script, and the peak memory, also over the size of the script. Beside
-`lease`, `renew` and `renew6`, which are of so many interfaces, stands the time in which tcpdump prints the servers' frames, and
-the frames of both ways, where there is a tcpdump. `busy` has the time of one turn on an interface among 64, and alone. `check`
+`lease`, `renew` and `renew6`, which are of so many interfaces, stands the time in which tcpdump prints the servers' frames, the
+DHCP frames of both ways, and those of ARP too, where there is a tcpdump. `busy` has the time of one turn on an interface among 64, and alone. `check`
 is a configuration: blocks of 64 interfaces, again and again, with comments, values, lists within their limits and blocks that
 are skipped. `rt run` in crates/dhcpcd_prog builds the program.
 """
@@ -319,20 +319,16 @@ def run_checks(program, room, sizes):
         before = run_one(program, path, "check", size, before, "check")
 
 
-def dhcp_frames(program, path):
-    """The DHCP frames that came and that were sent in the transcript of a script, in their order."""
+def link_frames(program, path):
+    """The frames that came and that were sent in the transcript of a script, in their order."""
     with open(path, "rb") as script:
         child = subprocess.Popen([program, "replay"], stdin=script, stdout=subprocess.PIPE, text=True)
         for line in child.stdout:
             words = line.split()
             if words[0] == "turn" and words[3] == "frame":
-                packet = bytes.fromhex(words[5])
+                yield bytes.fromhex(words[5])
             elif words[0] == "send":
-                packet = bytes.fromhex(words[2])
-            else:
-                continue
-            if packet[12:14] != ARP:
-                yield packet
+                yield bytes.fromhex(words[2])
         if child.wait() != 0:
             sys.exit(f"{program}: status {child.returncode}")
 
@@ -346,12 +342,16 @@ def run_tcpdump(room, packets, what, seconds):
 
 
 def run_tcpdumps(program, room, heard, script, seconds):
-    """tcpdump on the servers' frames alone, and on all DHCP frames of the same replay."""
+    """tcpdump on the servers' frames alone, on all DHCP frames of the same replay, and on those of ARP too."""
     if shutil.which("tcpdump") is None:
         print(f"         {len(heard)} frames; there is no tcpdump", flush=True)
         return
     run_tcpdump(room, heard, "heard", seconds)
-    run_tcpdump(room, dhcp_frames(program, script), "heard and sent", seconds)
+    packets = list(link_frames(program, script))
+    dhcp = [packet for packet in packets if packet[12:14] != ARP]
+    run_tcpdump(room, dhcp, "heard and sent", seconds)
+    if len(dhcp) < len(packets):
+        run_tcpdump(room, packets, "heard and sent, those of ARP among them", seconds)
 
 
 def run_renewals(program, room, kind, numbers, ifaces):

@@ -193,7 +193,7 @@ fn text4(alloc: Global, lease: Option<&Lease4>) -> Result<Option<Vec<u8>>, NoMem
 {
     match lease {
         None => Ok(None),
-        Some(lease) => Ok(Some(print4(alloc, lease)?.into_bytes())),
+        Some(lease) => Ok(Some(print4(alloc, lease)?)),
     }
 }
 
@@ -203,7 +203,7 @@ fn text6(alloc: Global, lease: Option<&Lease6>) -> Result<Option<Vec<u8>>, NoMem
 {
     match lease {
         None => Ok(None),
-        Some(lease) => Ok(Some(print6(alloc, lease)?.into_bytes())),
+        Some(lease) => Ok(Some(print6(alloc, lease)?)),
     }
 }
 

@@ -1,7 +1,6 @@
 //! The text of a lease, printed.
 
-ghost use Rattle.std.specs.Prelude.{◌≡◌, ◌++◌, Some, IfOk};
-ghost use Rattle.std.specs.String.{string_bytes};
+ghost use Rattle.std.specs.Prelude.{◌≡◌, ◌++◌, Some, flat_map, IfOk};
 ghost use Rattle.net_types.specs.TextLines.{ended, lines_text};
 ghost use Rattle.lease6_text.specs.Bounds.{FitsLease6, HasText6};
 ghost use Rattle.lease6_text.specs.Leases.{ia_content, lease6_content};
@@ -9,8 +8,8 @@ ghost use Rattle.lease6_text.specs.LeaseLines.{head_lines, ia_lines, ia_line, it
 
 use crate::lease::{IaLease, Item6, Lease6};
 use crate::typed::lease6_is_typed;
-use lease_text::OptionLine;
-use net_types::{Hex, NoMemory};
+use lease_text::append_values;
+use net_types::{Hex, NoMemory, append_bytes};
 use std::alloc::Global;
 use std::fmt;
 use std::fmt::Display;
@@ -113,26 +112,36 @@ impl Display for IaLines<'_> {
     }
 }
 
-impl Display for Lease6 {
-    ghost output = { λ lease. Some (lease6_text (lease6_content lease)) };
+/// The lines before those of its values.
+#[derive(Clone, Copy)]
+struct Front<'a>(&'a Lease6);
+
+impl Display for Front<'_> {
+    ghost output = { λ front. Some (lines_text (head_lines (lease6_content front.0.now)) ++ lines_text (flat_map ia_lines (lease6_content front.0.now).ias)) };
 
     fn fmt<W: fmt::Write>(&self, f: &mut fmt::Formatter<W>) -> fmt::Result {
-        f.write(Head(self))?;
-        for ia in &self.ias {
+        f.write(Head(self.0))?;
+        for ia in &self.0.ias {
             f.write(IaLines(ia))?;
         }
-        for value in &self.values {
-            f.write(OptionLine(value))?;
-        }
-        f.write_str("end\n")
+        Ok(())
     }
 }
 
+fn printed_front(alloc: Global, lease: &Lease6) -> Result<Vec<u8>, NoMemory>
+    ensures { IfOk result (λ text. text.items ≡ lines_text (head_lines (lease6_content lease.now)) ++ lines_text (flat_map ia_lines (lease6_content lease.now).ias)) }
+{
+    Ok(format!(in alloc; "{}", Front(lease))?.into_bytes())
+}
+
 /// The text of a lease. `read_lease6` reads a lease within the bounds back from it.
-pub fn print6(alloc: Global, lease: &Lease6) -> Result<String, NoMemory>
-    ensures text { IfOk result (λ text. string_bytes text ≡ lease6_text (lease6_content lease.now)) }
+pub fn print6(alloc: Global, lease: &Lease6) -> Result<Vec<u8>, NoMemory>
+    ensures text { IfOk result (λ text. text.items ≡ lease6_text (lease6_content lease.now)) }
     ensures good { FitsLease6 (lease6_content lease.now) → HasText6 (lease6_content lease.now) }
 {
     lease6_is_typed(lease);
-    Ok(format!(in alloc; "{lease}")?)
+    let mut text = printed_front(alloc, lease)?;
+    append_values(&lease.values, &mut text)?;
+    append_bytes(b"end\n", &mut text)?;
+    Ok(text)
 }

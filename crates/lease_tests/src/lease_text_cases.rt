@@ -10,7 +10,7 @@ fn a_lease_is_printed_as_it_was_read(rt: HostRuntime) -> Result<(), Fail> {
     let lease = read_lease4(rt.alloc(), LEASE.as_bytes())?;
     assert_eq!(rt; (lease.terms().t2, lease.values.len()), (3150, 2));
     let copy = lease.copied(rt.alloc())?;
-    assert_eq!(rt; print4(rt.alloc(), &copy)?.as_str(), LEASE);
+    assert_eq!(rt; print4(rt.alloc(), &copy)?.as_slice(), LEASE.as_bytes());
     Ok(())
 }
 

@@ -18,6 +18,6 @@ pub use lease::{
     INFINITE_LEASE, LONGEST_PREFIX, Lease4, MOMENT_LIMIT, Terms4, VALUE_LIMIT, Value,
     copied_values, is_host_address,
 };
-pub use printing::{OptionLine, print4};
+pub use printing::{append_values, print4};
 pub use reading::read_lease4;
 pub use typed::lease_is_typed;

@@ -1,9 +1,9 @@
 -- Lower-case pairs: what is read is spelled so, and what is spelled so is read.
-use Rattle.std.proofs.Common.{◌≡◌, ℕ, zero, suc, ◌+◌, ◌*◌, ◌/◌, ◌%◌, ◌<◌, true, false, cond, List, [], ◌∷◌, ◌++◌, length, take, drop, Option, Some, None, option_map, option_and_then, refl, sym, ap, ◌∙◌, subst, arith, eqb, flat_map, codes, bytes_eq}
+use Rattle.std.proofs.Common.{◌≡◌, ℕ, zero, suc, ◌+◌, ◌*◌, ◌/◌, ◌%◌, ◌<◌, true, false, cond, List, [], ◌∷◌, ◌++◌, length, take, Option, Some, None, option_map, option_and_then, is_some, IfSome, get_or, set, Bool, ◌&&◌, refl, sym, ap, ◌∙◌, subst, arith, eqb, flat_map, codes, bytes_eq}
 use Rattle.std.specs.Char.{digit_char}
 use Rattle.std.proofs.lemmas.Bool.{and_right, ne_eqb}
 use Rattle.std.proofs.lemmas.Bool.Decides.{nat_tests}
-use Rattle.std.proofs.lemmas.List.{append_assoc}
+use Rattle.std.proofs.lemmas.List.{take_more_set}
 use Rattle.std.proofs.lemmas.Slice.Eq.{bytes_eq-Decides}
 use Rattle.net_types.specs.Reads.{Reads}
 use Rattle.net_types.specs.Marks.{AreBytes}
@@ -112,13 +112,67 @@ hex_sound (c ∷ cs) bs e =
 pub hex_reads : Reads hex_text AreBytes hex_at
 hex_reads = record { sound = hex_sound; whole = hex_whole }
 
--- ---- the steps of the loop over pairs
+-- ---- the loop over pairs
 
-pub pairs_more : (items : List ℕ) (whole : Option (List ℕ)) (byte : ℕ) (rest : List ℕ) → 1 < length rest → hex_byte_at (take 2 rest) ≡ Some byte → whole ≡ option_map (λ xs. items ++ xs) (pairs_at rest) → whole ≡ option_map (λ xs. items ++ byte ∷ [] ++ xs) (pairs_at (drop 2 rest))
-pairs_more items whole byte [] long read e = absurd (omega arith)
-pairs_more items whole byte (x ∷ []) long read e = absurd (omega arith)
-pairs_more items whole byte (x ∷ y ∷ rest) long read e = e ∙ rw read (joined (pairs_at rest))
+-- bytes with one more behind them, where both are there
+abbrev more : Option (List ℕ) → Option ℕ → Option (List ℕ)
+more bytes byte = option_and_then (λ xs. option_map (λ x. xs ++ x ∷ []) byte) bytes
+
+more_behind : (byte : ℕ) (o : Option (List ℕ)) (p : Option ℕ) → option_and_then (λ xs. Some (byte ∷ xs)) (more o p) ≡ more (option_and_then (λ xs. Some (byte ∷ xs)) o) p
+more_behind byte None p = refl
+more_behind byte (Some xs) None = refl
+more_behind byte (Some xs) (Some x) = refl
+
+behind : (p : Option ℕ) (o : Option (List ℕ)) (q : Option ℕ)
+    → option_and_then (λ byte. option_and_then (λ xs. Some (byte ∷ xs)) (more o q)) p ≡ more (option_and_then (λ byte. option_and_then (λ xs. Some (byte ∷ xs)) o) p) q
+behind None o q = refl
+behind (Some byte) o q = more_behind byte o q
+
+-- one pair more
+pair_more : (xs : List ℕ) (k : ℕ) → k % 2 ≡ 0 → suc k < length xs → pairs_at (take (suc (suc k)) xs) ≡ more (pairs_at (take k xs)) (hex_byte_at (get_or xs k 0 ∷ get_or xs (suc k) 0 ∷ []))
+pair_more [] k even lt = absurd (omega arith)
+pair_more (a ∷ []) k even lt = absurd (omega arith)
+pair_more (a ∷ b ∷ rest) zero even lt = first (hex_byte_at (a ∷ b ∷ []))
   where
-    joined : (o : Option (List ℕ)) → option_map (λ xs. items ++ xs) (option_and_then (λ xs. Some (byte ∷ xs)) o) ≡ option_map (λ xs. items ++ byte ∷ [] ++ xs) o
-    joined None = refl
-    joined (Some xs) = ap (λ ys. Some ys) (sym (append_assoc items (byte ∷ []) xs))
+    first : (p : Option ℕ) → option_and_then (λ x. Some (x ∷ [])) p ≡ option_map (λ x. x ∷ []) p
+    first None = refl
+    first (Some x) = refl
+pair_more (a ∷ b ∷ rest) (suc zero) even lt = absurd (omega arith)
+pair_more (a ∷ b ∷ rest) (suc (suc k)) even lt =
+    rw (pair_more rest k (omega arith) (omega arith)) (behind (hex_byte_at (a ∷ b ∷ [])) (pairs_at (take k rest)) (hex_byte_at (get_or rest k 0 ∷ get_or rest (suc k) 0 ∷ [])))
+
+no_pair : (p : Option ℕ) → option_and_then (λ byte. option_and_then (λ xs. Some (byte ∷ xs)) None) p ≡ None
+no_pair None = refl
+no_pair (Some byte) = refl
+
+pub odd_pairs : (xs : List ℕ) → length xs % 2 ≡ 1 → pairs_at xs ≡ None
+odd_pairs [] odd = absurd (omega arith)
+odd_pairs (a ∷ []) odd = refl
+odd_pairs (a ∷ b ∷ rest) odd = rw (odd_pairs rest (omega arith)) (no_pair (hex_byte_at (a ∷ b ∷ [])))
+
+-- the byte of two values, where both are there
+abbrev joined : Option ℕ → Option ℕ → Option ℕ
+joined high low = option_and_then (λ h. option_and_then (λ l. Some (h * 16 + l)) low) high
+
+byte_of_two : (a b : ℕ) → hex_byte_at (a ∷ b ∷ []) ≡ joined (hex_digit_at a) (hex_digit_at b)
+unfolding hex_byte_at
+byte_of_two a b = refl
+
+more_of : (bytes : List ℕ) (high low : ℕ) (good : Bool) (a b : Option ℕ) → IfSome a (λ n. high ≡ n) → IfSome b (λ n. low ≡ n)
+    → more (cond good (Some bytes) None) (joined a b) ≡ cond (good && (is_some a && is_some b)) (Some (bytes ++ (high * 16 + low) ∷ [])) None
+more_of bytes high low false a b ea eb = refl
+more_of bytes high low true None b ea eb = refl
+more_of bytes high low true (Some x) None ea eb = refl
+more_of bytes high low true (Some x) (Some y) ea eb = rw (ea, eb) refl
+
+pub pair_after : (xs bytes : List ℕ) (i high low : ℕ) (good : Bool) → 2 * i + 1 < length xs → i < length bytes
+    → IfSome (hex_digit_at (get_or xs (2 * i) 0)) (λ n. high ≡ n) → IfSome (hex_digit_at (get_or xs (2 * i + 1) 0)) (λ n. low ≡ n)
+    → pairs_at (take (2 * i) xs) ≡ cond good (Some (take i bytes)) None
+    → pairs_at (take (2 * (i + 1)) xs)
+    ≡ cond (good && (is_some (hex_digit_at (get_or xs (2 * i) 0)) && is_some (hex_digit_at (get_or xs (2 * i + 1) 0)))) (Some (take (i + 1) (set bytes i (high * 16 + low)))) None
+pair_after xs bytes i high low good long there first second before =
+    let next : 2 * (i + 1) ≡ suc (suc (2 * i)) = omega arith in
+    let one : 2 * i + 1 ≡ suc (2 * i) = omega arith in
+    let second_there : IfSome (hex_digit_at (get_or xs (suc (2 * i)) 0)) (λ n. low ≡ n) = subst (λ k. IfSome (hex_digit_at (get_or xs k 0)) (λ n. low ≡ n)) one second in
+    rw (next, one, take_more_set bytes i (high * 16 + low) there, pair_more xs (2 * i) (omega arith) (omega arith), before, byte_of_two)
+    (more_of (take i bytes) high low good (hex_digit_at (get_or xs (2 * i) 0)) (hex_digit_at (get_or xs (suc (2 * i)) 0)) first second_there)

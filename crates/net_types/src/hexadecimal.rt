@@ -1,5 +1,5 @@
 //! Bytes as pairs of lower-case hexadecimal digits.
-ghost use Rattle.std.specs.Prelude.{◌≡◌, ◌*◌, ◌<◌, flat_map, length, option_map, IfOk, IfSome};
+ghost use Rattle.std.specs.Prelude.{◌≡◌, ◌*◌, ◌<◌, if◌then◌else◌, flat_map, is_some, length, option_map, None, Some, IfOk, IfSome};
 ghost use Rattle.std.specs.Char.{digit_char};
 ghost use Rattle.net_types.specs.HexText.{byte_hex, hex_digit_at, hex_byte_at, pairs_at, hex_at};
 
@@ -17,18 +17,21 @@ pub(crate) fn hex_digit(value: u8) -> u8
     }
 }
 
+/// Whether a byte is a lower-case digit. Without a branch, so that many can be asked at once.
 #[tactic(auto, unfolding(crate::specs::HexText::hex_digit_at))]
-fn hex_digit_of(digit: u8) -> Option<u8>
-    ensures value { result ≡ hex_digit_at digit }
-    ensures small { IfSome result (λ n. n < 16) }
+fn is_hex_digit(digit: u8) -> bool
+    ensures { result ≡ is_some (hex_digit_at digit) }
 {
-    // by arithmetic, since a branch on each digit of a long text is often guessed wrong
-    let value = digit % 16 + 9 * (digit / 64);
-    if value < 16 && hex_digit(value) == digit {
-        Some(value)
-    } else {
-        None
-    }
+    ((b'0' <= digit) & (digit <= b'9')) | ((b'a' <= digit) & (digit <= b'f'))
+}
+
+/// What a digit stands for. Without a branch, as above.
+#[tactic(auto, unfolding(crate::specs::HexText::hex_digit_at))]
+fn digit_value(digit: u8) -> u8
+    ensures small { result < 16 }
+    ensures value { IfSome (hex_digit_at digit) (λ n. result ≡ n) }
+{
+    (digit % 16 + 9 * (digit / 64)) % 16
 }
 
 /// The byte that two lower-case digits spell.
@@ -37,33 +40,43 @@ pub fn hex_byte_of(bytes: &[u8]) -> Option<u8>
     ensures { result ≡ hex_byte_at bytes.now }
 {
     match bytes {
-        [high, low] => {
-            let high = hex_digit_of(*high)?;
-            let low = hex_digit_of(*low)?;
-            Some(high * 16 + low)
+        [high, low] if is_hex_digit(*high) && is_hex_digit(*low) => {
+            Some(digit_value(*high) * 16 + digit_value(*low))
         }
         _ => None,
     }
 }
 
-/// The bytes that pairs up to the end spell.
-fn pairs_of(alloc: Global, bytes: &[u8]) -> Result<Option<Vec<u8>>, NoMemory>
-    ensures { IfOk result (λ o. option_map (λ v. v.items) o ≡ pairs_at bytes.now) }
+/// Reads pairs of digits over all of the bytes, and says whether they are digits.
+#[tactic(auto, using(crate::proofs::HexLaws::pair_after))]
+fn read_pairs(pairs: &[u8], bytes: &mut [u8]) -> bool
+    requires { length pairs.now ≡ 2 * length bytes.old }
+    ensures { pairs_at pairs.now ≡ (if result then Some bytes.new else None) }
 {
-    let mut read = Vec::with_capacity(alloc, bytes.len() / 2)?;
-    let mut rest = bytes;
-    'pairs: while !rest.is_empty() {
-        if rest.len() == 1 {
-            return Ok(None);
-        }
-        let (pair, others) = rest.split_at(2);
-        let Some(byte) = hex_byte_of(pair) else {
-            return Ok(None);
-        };
-        read.push(byte)?;
-        rest = others;
+    let mut good = true;
+    'pairs: for i in 0..bytes.len() {
+        let high = pairs[2 * i];
+        let low = pairs[2 * i + 1];
+        bytes[i] = digit_value(high) * 16 + digit_value(low);
+        good &= is_hex_digit(high) & is_hex_digit(low);
     }
-    Ok(Some(read))
+    good
+}
+
+/// The bytes that pairs up to the end spell.
+#[tactic(auto, using(crate::proofs::HexLaws::odd_pairs))]
+fn pairs_of(alloc: Global, pairs: &[u8]) -> Result<Option<Vec<u8>>, NoMemory>
+    ensures { IfOk result (λ o. option_map (λ v. v.items) o ≡ pairs_at pairs.now) }
+{
+    if pairs.len() % 2 == 1 {
+        return Ok(None);
+    }
+    let mut bytes = vec![in alloc; 0; pairs.len() / 2]?;
+    if read_pairs(pairs, &mut bytes) {
+        Ok(Some(bytes))
+    } else {
+        Ok(None)
+    }
 }
 
 /// The bytes that lower-case pairs spell, or no bytes for `-`.
@@ -81,7 +94,7 @@ pub fn hex_of(alloc: Global, bytes: &[u8]) -> Result<Option<Vec<u8>>, NoMemory>
 }
 
 /// Writes two digits a byte over all of the pairs.
-pub fn write_pairs(bytes: &[u8], pairs: &mut [u8])
+pub(crate) fn write_pairs(bytes: &[u8], pairs: &mut [u8])
     requires { length pairs.old ≡ 2 * length bytes.now }
     ensures { pairs.new ≡ flat_map byte_hex bytes.now }
 {

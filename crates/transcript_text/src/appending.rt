@@ -1,30 +1,13 @@
 //! Appending to bytes. Where memory runs out the bytes are as before.
-ghost use Rattle.std.specs.Prelude.{◌≡◌, ◌++◌, decimal, flat_map, length, ◌<◌, ◌*◌, OnOk, OnErr, IfSome};
-ghost use Rattle.net_types.specs.HexText.{byte_hex, hex_text};
+ghost use Rattle.std.specs.Prelude.{◌≡◌, ◌++◌, OnOk, OnErr, IfSome};
 ghost use Rattle.transcript_text.specs.Pieces.{names_text};
 
 use arrayvec::ArrayString;
-use itoa::Buffer;
-use net_types::{NoMemory, write_pairs};
+use net_types::{NoMemory, append_bytes};
 use std::fmt::{Display, Write};
 
 /// Room for any row, address or name; a longer text is made on the heap.
 const SHORT: usize = 128;
-
-pub fn append_bytes(bytes: &[u8], into: &mut Vec<u8>) -> Result<(), NoMemory>
-    ensures ok { OnOk result (into.new.items ≡ into.old.items ++ bytes.now) }
-    ensures err { OnErr result (into.new.items ≡ into.old.items) }
-{
-    into.extend_from_slice(bytes)?;
-    Ok(())
-}
-
-pub fn append_number(number: u64, into: &mut Vec<u8>) -> Result<(), NoMemory>
-    ensures ok { OnOk result (into.new.items ≡ into.old.items ++ decimal number) }
-    ensures err { OnErr result (into.new.items ≡ into.old.items) }
-{
-    append_bytes(Buffer::new().format(number).as_bytes(), into)
-}
 
 /// Appends one after the other.
 pub fn append_both(first: &[u8], second: &[u8], into: &mut Vec<u8>) -> Result<(), NoMemory>
@@ -53,31 +36,6 @@ pub fn append_names(names: &[String], into: &mut Vec<u8>) -> Result<(), NoMemory
         }
     }
     Ok(())
-}
-
-/// Appends two digits a byte.
-fn append_pairs(bytes: &[u8], into: &mut Vec<u8>) -> Result<(), NoMemory>
-    ensures ok { OnOk result (into.new.items ≡ into.old.items ++ flat_map byte_hex bytes.now) }
-    ensures err { OnErr result (into.new.items ≡ into.old.items) }
-{
-    let len = into.len();
-    // A length at the limit of `usize` has no memory.
-    into.resize(len.saturating_add(2 * bytes.len()), 0)?;
-    write_pairs(bytes, &mut into[len..]);
-    Ok(())
-}
-
-/// Appends two digits a byte, or `-` for none.
-#[tactic(auto, unfolding(net_types::specs::HexText::hex_text))]
-pub fn append_hex(bytes: &[u8], into: &mut Vec<u8>) -> Result<(), NoMemory>
-    ensures ok { OnOk result (into.new.items ≡ into.old.items ++ hex_text bytes.now) }
-    ensures err { OnErr result (into.new.items ≡ into.old.items) }
-{
-    if bytes.is_empty() {
-        append_bytes(b"-", into)
-    } else {
-        append_pairs(bytes, into)
-    }
 }
 
 /// The value's printed form, where it is short.

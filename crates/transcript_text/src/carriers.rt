@@ -4,9 +4,9 @@ ghost use Rattle.script_model.specs.IfaceSets.{is_up};
 ghost use Rattle.script_model.specs.Lines.{up_text};
 ghost use Rattle.transcript_text.specs.Carriers.{next_text};
 
-use crate::appending::{append_both, append_bytes};
+use crate::appending::append_both;
 use itoa::Buffer;
-use net_types::NoMemory;
+use net_types::{NoMemory, append_bytes};
 
 /// One more than the largest number of an interface.
 const LIMIT: u32 = 65;

@@ -2,9 +2,9 @@
 ghost use Rattle.std.specs.Prelude.{◌≡◌, ◌++◌, OnOk, OnErr};
 ghost use Rattle.transcript_text.specs.Pieces.{piece_text, pieces_text};
 
-use crate::appending::{append_bytes, append_hex, append_names, append_number, append_shown};
+use crate::appending::{append_names, append_shown};
 use crate::carriers::append_carriers;
-use net_types::{Ip6, Mac, Name, Net, NoMemory};
+use net_types::{Ip6, Mac, Name, Net, NoMemory, append_bytes, append_hex, append_number};
 use world::HostRow;
 
 /// A part of a line.

@@ -7,10 +7,9 @@ ghost use Rattle.script_model.specs.Lines.{line_text, carrier_text, event_text, 
 ghost use Rattle.transcript_text.specs.Pieces.{piece_text};
 ghost use Rattle.transcript_text.specs.Printed.{line_of, reading_of};
 
-use crate::appending::append_bytes;
 use crate::lines::{Reading, TranscriptLine};
 use crate::pieces::{Piece, append_pieces};
-use net_types::{IfIndex, IfSpec, NoMemory};
+use net_types::{IfIndex, IfSpec, NoMemory, append_bytes};
 use world::{Begin, Event, HostRow, Poll, Reason, reason_text};
 
 const BLANK: Piece<'static> = Piece::Word(b" ");
