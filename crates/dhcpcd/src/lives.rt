@@ -8,7 +8,7 @@ ghost use Rattle.dhcpcd.specs.Carried.{between_in, failing_with, life_over};
 ghost use Rattle.dhcpcd.specs.Replays.{after_life, lines_in, lives_of_script};
 ghost use Rattle.dhcpcd.specs.Statuses.{HasStatusCause, StopsWriting};
 
-use crate::memory::{Between, Memory, at_first, devices, left, numbers_of};
+use crate::memory::{Between, Memory, at_first, devices, leave, left, numbers_of};
 use crate::status::Status;
 use crate::writing::begin_life;
 use daemon::{ServeEnd, serve};
@@ -85,5 +85,6 @@ pub fn replay_lives<O: Sink>(
     'lives: for life in lives {
         between = replay_life(alloc, managed, &ifaces, &sends, between, life, out)?;
     }
+    leave(between);
     Ok(())
 }

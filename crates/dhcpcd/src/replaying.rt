@@ -53,6 +53,7 @@ fn replay_input<I: Source, O: Sink>(alloc: Global, input: &mut I, out: &mut O) -
 {
     let bytes = read_all(alloc, input)?;
     let settled = settle(alloc, &bytes)?;
+    drop(bytes);
     write_transcript(alloc, settled, out)?;
     Ok(())
 }

@@ -92,10 +92,15 @@ fn lacks_feeds(line: &[u8]) -> bool
     line.iter().all(|byte| *byte != b'\n')
 }
 
+/// Whether all bytes are printable. Without a branch at each of them, so that many are judged at once.
 fn is_printable(line: &[u8]) -> bool
     ensures { result ≡ list_all is_printable line.now }
 {
-    line.iter().all(|byte| (b' '..=b'~').contains(byte))
+    let mut good = true;
+    for byte in line {
+        good &= (b' '..=b'~').contains(byte);
+    }
+    good
 }
 
 /// Whether the bytes of a line are those that it may have.
