@@ -17,19 +17,19 @@ pub(crate) const HEAD: usize = 2;
 pub(crate) const FRAME: u8 = 1;
 
 /// The carrier of an interface came or went: 1 or 0 follows.
-const CARRIER: u8 = 2;
+pub(crate) const CARRIER: u8 = 2;
 
 /// Another node has an address; its sixteen bytes follow.
-const DUPLICATE: u8 = 3;
+pub(crate) const DUPLICATE: u8 = 3;
 
 /// The leases of an interface are to be given back.
-const RELEASE: u8 = 4;
+pub(crate) const RELEASE: u8 = 4;
 
 /// The leases of an interface are to be confirmed with any server.
-const REBIND: u8 = 5;
+pub(crate) const REBIND: u8 = 5;
 
 /// The daemon is to end; the interface is 0.
-const STOP: u8 = 6;
+pub(crate) const STOP: u8 = 6;
 
 fn is_interface(iface: u8) -> bool
     ensures { result ≡ is_interface iface }

@@ -8,6 +8,7 @@
 
 mod children;
 mod commands;
+mod constants;
 mod datagrams;
 mod faults;
 mod folder;
@@ -15,5 +16,6 @@ mod links;
 
 pub use children::ChildHooks;
 pub use commands::CommandHost;
+pub use constants::datagrams_are_these;
 pub use folder::FolderStore;
 pub use links::LoopLink;

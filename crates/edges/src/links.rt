@@ -16,10 +16,10 @@ use std::time::{Duration, SystemTime, UNIX_EPOCH};
 use world::{Begin, DeviceAnswer, Event, Failed, Link, Wake};
 
 /// How many milliseconds the link waits where no moment is asked for.
-const IDLE: u64 = 60_000;
+pub(crate) const IDLE: u64 = 60_000;
 
 /// How many milliseconds a wait lasts at most.
-const LONGEST: u64 = 0xffff_ffff;
+pub(crate) const LONGEST: u64 = 0xffff_ffff;
 
 /// One more than the last port.
 const PORT_LIMIT: u64 = 65_536;

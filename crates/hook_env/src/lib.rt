@@ -4,6 +4,7 @@
 //! `job` makes the job of a situation.
 #![tactic(auto)]
 
+mod constants;
 mod forms;
 mod jobs;
 mod lists;
@@ -13,6 +14,7 @@ mod telling4;
 mod telling6;
 mod variables;
 
+pub use constants::variables_are_these;
 pub use jobs::job;
 pub use situation::{Held, Situation, Stage};
 pub use variables::{JobVariable, Lease6Variable, NetVariable, OptionVariable};

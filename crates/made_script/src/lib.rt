@@ -2,12 +2,14 @@
 //! what turns cost.
 #![tactic(auto)]
 
+mod constants;
 mod frames;
 mod hosts;
 mod laws;
 mod script;
 mod turns;
 
+pub use constants::measures_are_these;
 pub use laws::{made_configuration_is_good, made_scripts_fit};
 pub use script::made_script;
 pub use turns::MOST_ROUNDS;

@@ -1,11 +1,13 @@
 //! The data of a DHCPv4 server's message, for tests and measures (RFC 2131).
 #![tactic(auto)]
 
+mod constants;
 mod field;
 mod laws;
 mod reply;
 mod writing;
 
+pub use constants::fields_are_those_assigned;
 pub use laws::replies_are_read_back;
 pub use reply::{Reply, ReplyKind};
 pub use writing::server_data;

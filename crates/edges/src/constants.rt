@@ -1,0 +1,19 @@
+//! The numbers that the definitions take from the code. The function does nothing: its contract holds each of them.
+
+ghost use Rattle.std.specs.Prelude.{◌≡◌};
+
+use crate::datagrams::{CARRIER, DUPLICATE, FRAME, FRAME_LIMIT, REBIND, RELEASE, STOP};
+use crate::links::{IDLE, LONGEST};
+
+/// Law: the kinds of the loopback link's datagrams, the bytes of a frame, and how long a wait lasts, in milliseconds.
+pub fn datagrams_are_these()
+    ensures frame_limit { FRAME_LIMIT ≡ 2048 }
+    ensures frame { FRAME ≡ 1 }
+    ensures carrier { CARRIER ≡ 2 }
+    ensures duplicate { DUPLICATE ≡ 3 }
+    ensures release { RELEASE ≡ 4 }
+    ensures rebind { REBIND ≡ 5 }
+    ensures stop { STOP ≡ 6 }
+    ensures idle { IDLE ≡ 60000 }
+    ensures longest { LONGEST ≡ 4294967295 }
+{}
