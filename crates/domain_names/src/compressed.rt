@@ -6,6 +6,7 @@ ghost use Rattle.domain_names.specs.CompressedSteps.{HasRoom, with_label};
 
 use crate::label::{DOT, NAME_MAX, is_label};
 use arrayvec::{ArrayVec, CapacityError};
+use byteorder::{BigEndian, ByteOrder};
 
 /// The bytes of a name as a text, of which there are no more than these.
 pub(crate) type NameBytes = ArrayVec<u8, NAME_MAX>;
@@ -14,6 +15,8 @@ pub(crate) type NameBytes = ArrayVec<u8, NAME_MAX>;
 const LABEL_LIMIT: u8 = 64;
 /// From this byte on a byte begins a pointer.
 const POINTER: u8 = 192;
+/// The two high bits of a pointer, which lie before the place.
+const POINTER_BITS: u16 = 0xc000;
 
 /// What stands at a place of a value.
 #[derive(Clone, Copy)]
@@ -51,7 +54,7 @@ fn pointer_piece(value: &[u8], start: usize, at: usize) -> Piece
     if value.len() - at < 2 {
         return Piece::Bad;
     }
-    let target = (value[at] - POINTER) as usize * 256 + value[at + 1] as usize;
+    let target = usize::from(BigEndian::read_u16(&value[at..]) - POINTER_BITS);
     if target >= start {
         return Piece::Bad;
     }

@@ -67,8 +67,8 @@ pub fn arp_frame(mac: Mac, sender: Ip4, target: Ip4) -> [u8; 42]
     ensures { result ≡ texts.request_text mac sender target }
 {
     let from = mac.bytes;
-    let ip = sender.number.to_be_bytes();
-    let wanted = target.number.to_be_bytes();
+    let ip = sender.octets();
+    let wanted = target.octets();
     [
         0xff, 0xff, 0xff, 0xff, 0xff, 0xff, // to all hosts
         from[0], from[1], from[2], from[3], from[4], from[5], // source

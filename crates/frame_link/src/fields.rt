@@ -3,6 +3,7 @@
 ghost use Rattle.std.specs.Prelude.{◌≡◌, ◌+◌, ◌≤◌, length};
 ghost use Rattle.frame_link.specs.Fields as texts;
 
+use byteorder::{BigEndian, ByteOrder};
 use net_types::{Ip4, Mac};
 
 /// The two bytes at `at` as a number.
@@ -10,7 +11,7 @@ pub fn word_at(bytes: &[u8], at: usize) -> u16
     requires { at + 2 ≤ length bytes.now }
     ensures { result ≡ texts.word_in bytes.now at }
 {
-    u16::from_be_bytes([bytes[at], bytes[at + 1]])
+    BigEndian::read_u16(&bytes[at..])
 }
 
 /// The four bytes at `at` as an IPv4 address.
@@ -18,8 +19,9 @@ pub fn ip4_at(bytes: &[u8], at: usize) -> Ip4
     requires { at + 4 ≤ length bytes.now }
     ensures { result ≡ texts.ip4_in bytes.now at }
 {
-    let number = u32::from_be_bytes([bytes[at], bytes[at + 1], bytes[at + 2], bytes[at + 3]]);
-    Ip4 { number }
+    Ip4 {
+        number: BigEndian::read_u32(&bytes[at..]),
+    }
 }
 
 /// The six bytes at `at` as a hardware address.

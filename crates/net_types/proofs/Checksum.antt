@@ -4,6 +4,7 @@ use Rattle.std.proofs.Common.{drop, inl, inr}
 use Rattle.std.specs.Prelude.{◌==◌}
 use Rattle.std.proofs.lemmas.Bool.{cases_lt}
 use Rattle.std.proofs.lemmas.List.{take-append-drop, length-append, length-take, get_or-drop, get_or-take, get_or_past}
+use Rattle.byteorder.specs.Endian.{big_number}
 use Rattle.net_types.specs.Sum.{checksum, ones_add, ones_sum, ones_fold, plain_sum, IsSumOf}
 use Rattle.net_types.specs.Marks.{AreBytes}
 use Rattle.net_types.specs.declared.sum.Sum.{Sum}
@@ -93,11 +94,16 @@ half_more (a ∷ b ∷ rest) zero even e = absurd (omega arith)
 half_more (a ∷ b ∷ rest) (suc zero) even e = absurd (omega arith)
 half_more (a ∷ b ∷ rest) (suc (suc k)) even e = omega (arith, half_more rest k (omega arith) (omega arith))
 
-pub word_after : (xs : List ℕ) (i : ℕ) → 2 * i + 1 < length xs → plain_sum (take (2 * (i + 1)) xs) ≡ plain_sum (take (2 * i) xs) + (256 * get_or xs (2 * i) 0 + get_or xs (2 * i + 1) 0)
+-- the next word is the number at the front of what is left
+pub word_after : (xs : List ℕ) (i : ℕ) → 2 * i + 1 < length xs → plain_sum (take (2 * (i + 1)) xs) ≡ plain_sum (take (2 * i) xs) + big_number 2 (drop (2 * i) xs)
 word_after xs i lt =
     let next : 2 * (i + 1) ≡ suc (suc (2 * i)) = omega arith in
-    let one : 2 * i + 1 ≡ suc (2 * i) = omega arith in
-    rw (next, one) (word_more xs (2 * i) (omega arith) (omega arith))
+    let high = get_or-drop (2 * i) xs 0 0 in
+    let low = get_or-drop (2 * i) xs 1 0 in
+    let first : get_or xs (2 * i + 0) 0 ≡ get_or xs (2 * i) 0 = ap (λ k. get_or xs k 0) (omega arith) in
+    let second : get_or xs (2 * i + 1) 0 ≡ get_or xs (suc (2 * i)) 0 = ap (λ k. get_or xs k 0) (omega arith) in
+    let more = word_more xs (2 * i) (omega arith) (omega arith) in
+    rw next (omega (arith, high, low, first, second, more))
 
 pub last_half : (xs : List ℕ) (i : ℕ) → length xs % 2 ≡ 1 → length xs / 2 ≤ i → i ≤ length xs / 2 → plain_sum xs ≡ plain_sum (take (2 * i) xs) + 256 * get_or xs (length xs - 1) 0
 last_half xs i odd least most =

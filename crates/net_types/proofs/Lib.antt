@@ -15,4 +15,5 @@ pub mod MarkLaws
 pub mod NameLaws
 pub mod NumberLaws
 pub mod ReadsLaws
+pub mod WireNumbers
 pub mod Checksum

@@ -24,7 +24,9 @@ pub use address_text::{ip4_of, mac_of, net4_of, read_ip4, read_mac, read_net4};
 pub use appending::{append_bytes, append_hex, append_ip4, append_mac, append_net4, append_number};
 pub use cutting::{FromText, end_of, list_of, split_at_byte, strip_word};
 pub use fault::{BadText, Failed, NoMemory};
-pub use fields::{field, ip4_field, ip6_field, mac_field, u16_field, u32_field};
+pub use fields::{
+    field, ip4_field, ip6_field, mac_field, u16_field, u16_octets, u32_field, u32_octets,
+};
 pub use hexadecimal::{hex_byte_of, hex_of};
 pub use interface::{IfIndex, IfSpec, Name};
 pub use ip6_text::{ip6_of, net6_of, printed_ip6_of, printed_net6_of, read_ip6, read_net6};

@@ -20,7 +20,7 @@ use Rattle.udp_frame.specs.Udp6Frames.{Udp6, pseudo6, is_checked6, checked6_in, 
 use Rattle.udp_frame.proofs.Cells.{all_bytes, word_bytes}
 use Rattle.udp_frame.proofs.Spelled.{not_zero}
 use Rattle.udp_frame.proofs.Summed.{datagram_heard, sum_heard}
-use Rattle.udp_frame.proofs.Wide.{from_be_bytes-to_be_bytes_16}
+use Rattle.net_types.proofs.WireNumbers.{wide_back}
 
 abbrev pub fits6 : Ip6 → Type 0
 fits6 ip = ip.number < 2 ^ 128
@@ -123,7 +123,7 @@ packet_heard p rest from_fits to_fits small =
     let within : nat_le (40 + length p.body) (length b) ≡ true = le-leb _ _ (omega arith) in
     let test : is_packet6 b ≡ true = rw (long, len, within) refl in
     let body : take (word_in b 4) (drop 40 b) ≡ p.body = rw len (take_at p.body rest (length p.body) refl) in
-    packet_by b p test (ap (λ n. record { number = n }) (from_be_bytes-to_be_bytes_16 p.from.number from_fits)) (ap (λ n. record { number = n }) (from_be_bytes-to_be_bytes_16 p.to.number to_fits)) body
+    packet_by b p test (ap (λ n. record { number = n }) (wide_back p.from.number from_fits)) (ap (λ n. record { number = n }) (wide_back p.to.number to_fits)) body
 
 -- ---- both
 

@@ -5,6 +5,7 @@ ghost use Rattle.std.specs.Option.{option_map};
 ghost use Rattle.net_types.specs.Sum.{ones_sum};
 ghost use Rattle.udp_frame.specs.Datagrams as texts;
 
+use byteorder::{BigEndian, ByteOrder};
 use frame_link::word_at;
 use net_types::{sum_add, sum_is_right, sum_new, sum_value};
 
@@ -40,13 +41,12 @@ pub fn datagram_of(body: &[u8]) -> Option<&[u8]>
 pub fn header(from_port: u16, to_port: u16, len: u16, sum: u16) -> [u8; 8]
     ensures { result ≡ texts.ports_text from_port to_port len sum }
 {
-    let from = from_port.to_be_bytes();
-    let to = to_port.to_be_bytes();
-    let len = len.to_be_bytes();
-    let sum = sum.to_be_bytes();
-    [
-        from[0], from[1], to[0], to[1], len[0], len[1], sum[0], sum[1],
-    ]
+    let mut header = [0; 8];
+    BigEndian::write_u16(&mut header, from_port);
+    BigEndian::write_u16(&mut header[2..], to_port);
+    BigEndian::write_u16(&mut header[4..], len);
+    BigEndian::write_u16(&mut header[6..], sum);
+    header
 }
 
 /// The checksum of a datagram that is sent, where `pseudo` stands before it.

@@ -3,7 +3,7 @@
 ghost use Rattle.std.specs.Prelude.{◌≡◌, ◌≤◌, ◌+◌, ◌++◌, length, vec_len, IfOk};
 ghost use Rattle.frame_link.specs.Fields.{word_text};
 
-use net_types::Mac;
+use net_types::{Mac, u16_octets};
 use std::alloc::{AllocError, Global};
 
 /// The header of a frame.
@@ -12,7 +12,7 @@ pub fn eth_header(to: Mac, from: Mac, kind: u16) -> [u8; 14]
 {
     let to = to.bytes;
     let from = from.bytes;
-    let kind = kind.to_be_bytes();
+    let kind = u16_octets(kind);
     [
         to[0], to[1], to[2], to[3], to[4], to[5], // destination
         from[0], from[1], from[2], from[3], from[4], from[5], // source

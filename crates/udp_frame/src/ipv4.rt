@@ -7,6 +7,7 @@ ghost use Rattle.udp_frame.specs.Packets as texts;
 ghost use Rattle.udp_frame.specs.Datagrams.{pseudo4};
 
 use crate::datagram::UDP;
+use byteorder::{BigEndian, ByteOrder};
 use frame_link::{ip4_at, word_at};
 use net_types::{Ip4, sum_add, sum_is_right, sum_new, sum_value};
 
@@ -94,29 +95,28 @@ pub fn header(from: Ip4, to: Ip4, total: u16) -> [u8; 20]
 fn header_with(from: Ip4, to: Ip4, total: u16, sum: u16) -> [u8; 20]
     ensures { result ≡ texts.head_text from to total sum }
 {
-    let total = total.to_be_bytes();
-    let sum = sum.to_be_bytes();
-    let from = from.number.to_be_bytes();
-    let to = to.number.to_be_bytes();
-    [
-        0x45, 0x00, total[0], total[1], // version and header length, no service asked for, total length
+    let mut header = [
+        0x45, 0x00, 0x00, 0x00, // version and header length, no service asked for, total length
         0x00, 0x00, 0x40, 0x00, // no identification, don't fragment
-        64, UDP, sum[0], sum[1], // hops to live, protocol, checksum
-        from[0], from[1], from[2], from[3], // source
-        to[0], to[1], to[2], to[3], // destination
-    ]
+        64, UDP, 0x00, 0x00, // hops to live, protocol, checksum
+        0x00, 0x00, 0x00, 0x00, // source
+        0x00, 0x00, 0x00, 0x00, // destination
+    ];
+    BigEndian::write_u16(&mut header[2..], total);
+    BigEndian::write_u16(&mut header[10..], sum);
+    BigEndian::write_u32(&mut header[12..], from.number);
+    BigEndian::write_u32(&mut header[16..], to.number);
+    header
 }
 
 /// What stands before a datagram of `len` bytes where it is summed (RFC 768).
 pub fn pseudo_header(from: Ip4, to: Ip4, len: u16) -> [u8; 12]
     ensures { result ≡ pseudo4 from to len }
 {
-    let from = from.number.to_be_bytes();
-    let to = to.number.to_be_bytes();
-    let len = len.to_be_bytes();
-    [
-        from[0], from[1], from[2], from[3], // source
-        to[0], to[1], to[2], to[3], // destination
-        0x00, UDP, len[0], len[1], // protocol, length
-    ]
+    let mut pseudo = [0; 12];
+    BigEndian::write_u32(&mut pseudo, from.number);
+    BigEndian::write_u32(&mut pseudo[4..], to.number);
+    pseudo[9] = UDP;
+    BigEndian::write_u16(&mut pseudo[10..], len);
+    pseudo
 }

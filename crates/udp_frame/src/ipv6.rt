@@ -7,6 +7,7 @@ ghost use Rattle.udp_frame.specs.Udp6Frames.{pseudo6};
 ghost use Rattle.udp_frame.specs.LinkLocal6.{link_local};
 
 use crate::datagram::UDP;
+use byteorder::{BigEndian, ByteOrder};
 use frame_link::word_at;
 use net_types::{Ip6, Mac, ip6_field};
 
@@ -64,34 +65,26 @@ fn is_packet(body: &[u8]) -> bool
 pub fn header(from: Ip6, to: Ip6, len: u16) -> [u8; 40]
     ensures { result ≡ texts.head6_text from to len }
 {
-    let len = len.to_be_bytes();
-    let from = from.octets();
-    let to = to.octets();
-    [
-        0x60, 0x00, 0x00, 0x00, // version, no traffic class, no flow
-        len[0], len[1], UDP, HOP_LIMIT, // payload length, next header, hop limit
-        from[0], from[1], from[2], from[3], from[4], from[5], from[6], from[7], // source
-        from[8], from[9], from[10], from[11], from[12], from[13], from[14], from[15], // goes on
-        to[0], to[1], to[2], to[3], to[4], to[5], to[6], to[7], // destination
-        to[8], to[9], to[10], to[11], to[12], to[13], to[14], to[15], // goes on
-    ]
+    let mut header = [0; 40];
+    header[0] = 16 * VERSION;
+    BigEndian::write_u16(&mut header[4..], len);
+    header[6] = UDP;
+    header[7] = HOP_LIMIT;
+    BigEndian::write_u128(&mut header[8..], from.number);
+    BigEndian::write_u128(&mut header[24..], to.number);
+    header
 }
 
 /// What stands before a datagram of `len` bytes where it is summed (RFC 8200, section 8.1).
 pub fn pseudo_header(from: Ip6, to: Ip6, len: u16) -> [u8; 40]
     ensures { result ≡ pseudo6 from to len }
 {
-    let from = from.octets();
-    let to = to.octets();
-    let len = len.to_be_bytes();
-    [
-        from[0], from[1], from[2], from[3], from[4], from[5], from[6], from[7], // source
-        from[8], from[9], from[10], from[11], from[12], from[13], from[14], from[15], // goes on
-        to[0], to[1], to[2], to[3], to[4], to[5], to[6], to[7], // destination
-        to[8], to[9], to[10], to[11], to[12], to[13], to[14], to[15], // goes on
-        0x00, 0x00, len[0], len[1], // length
-        0x00, 0x00, 0x00, UDP, // next header
-    ]
+    let mut pseudo = [0; 40];
+    BigEndian::write_u128(&mut pseudo, from.number);
+    BigEndian::write_u128(&mut pseudo[16..], to.number);
+    BigEndian::write_u32(&mut pseudo[32..], u32::from(len));
+    pseudo[39] = UDP;
+    pseudo
 }
 
 /// The link-local address of the interface with this hardware address: fe80::/64 with the address's

@@ -8,6 +8,12 @@
 
 pub(crate) const XID: usize = 4;
 
+pub(crate) const SECS: usize = 8;
+
+pub(crate) const FLAGS: usize = 10;
+
+pub(crate) const CIADDR: usize = 12;
+
 pub(crate) const YIADDR: usize = 16;
 
 pub(crate) const CHADDR: usize = 28;

@@ -4,9 +4,12 @@ ghost use Rattle.std.specs.Prelude.{◌≡◌, ◌<◌, ◌≤◌, ◌++◌, ◌
 ghost use Rattle.v4_message.specs.Message.{message_instances, malformed_place};
 ghost use Rattle.v4_message.specs.Requests.{options_text, address_option, text_option, number_of_kind, asked_for, said_options, exchange_fields, client_fields, fixed_fields, message_text, padded, ask_content, AskFits};
 
-use crate::field::{BOOT_REQUEST, ETHERNET, MAC_LEN, MAGIC_COOKIE};
+use crate::field::{
+    BOOT_REQUEST, CIADDR, ETHERNET, FLAGS, MAC_LEN, MAGIC_COOKIE, SECS, XID, YIADDR,
+};
 use crate::kind;
-use net_types::{Ip4, Mac, NoMemory};
+use byteorder::{BigEndian, ByteOrder};
+use net_types::{Ip4, Mac, NoMemory, u16_octets};
 use std::alloc::{AllocError, Global};
 use v4_options::code;
 
@@ -71,18 +74,22 @@ fn put_fixed_fields(message: &mut Vec<u8>, said: &Said4) -> Result<(), AllocErro
     ensures fields { OnOk result (message.new.items ≡ message.old.items ++ fixed_fields said.now) }
     ensures len { OnOk result (length (fixed_fields said.now) ≡ 240) }
 {
-    put_exchange_fields(message, said)?;
+    message.extend_from_slice(&exchange_fields(said))?;
     put_client_fields(message, said)
 }
 
-fn put_exchange_fields(message: &mut Vec<u8>, said: &Said4) -> Result<(), AllocError>
-    ensures { OnOk result (message.new.items ≡ message.old.items ++ exchange_fields said.now) }
+/// The fields up to the address that the client has.
+fn exchange_fields(said: &Said4) -> [u8; 16]
+    ensures { result ≡ exchange_fields said.now }
 {
-    message.extend_from_slice(&[BOOT_REQUEST, ETHERNET, MAC_LEN, 0])?;
-    message.extend_from_slice(&said.xid.to_be_bytes())?;
-    message.extend_from_slice(&said.secs.to_be_bytes())?;
-    message.extend_from_slice(&said.flags.to_be_bytes())?;
-    message.extend_from_slice(&said.ciaddr.number.to_be_bytes())
+    let mut fields = [0; YIADDR];
+    // no hops
+    fields[..XID].copy_from_slice(&[BOOT_REQUEST, ETHERNET, MAC_LEN, 0]);
+    BigEndian::write_u32(&mut fields[XID..], said.xid);
+    BigEndian::write_u16(&mut fields[SECS..], said.secs);
+    BigEndian::write_u16(&mut fields[FLAGS..], said.flags);
+    BigEndian::write_u32(&mut fields[CIADDR..], said.ciaddr.number);
+    fields
 }
 
 fn octets(mac: &Mac) -> &[u8]
@@ -120,7 +127,7 @@ fn put_address(message: &mut Vec<u8>, code: u8, address: Option<Ip4>) -> Result<
     ensures { OnOk result (message.new.items ≡ message.old.items ++ options_text (address_option code address)) }
 {
     match address {
-        Some(address) => put_option(message, code, &address.number.to_be_bytes()),
+        Some(address) => put_option(message, code, &address.octets()),
         None => Ok(()),
     }
 }
@@ -144,7 +151,7 @@ fn put_asked_for(message: &mut Vec<u8>, ask: &Ask4) -> Result<(), AllocError>
     put_option(
         message,
         code::MAXIMUM_MESSAGE_SIZE,
-        &MESSAGE_MAX.to_be_bytes(),
+        &u16_octets(MESSAGE_MAX),
     )?;
     put_text(message, code::VENDOR_CLASS, &ask.vendor)?;
     put_text(message, code::HOST_NAME, &ask.host)?;

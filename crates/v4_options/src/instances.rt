@@ -10,6 +10,7 @@ ghost use Rattle.v4_options.specs.Numbers.{address_at, number_at};
 
 use crate::area::find_option;
 use crate::view::OptionView;
+use byteorder::{BigEndian, ByteOrder};
 use net_types::{Ip4, NoMemory};
 use std::alloc::{AllocError, Global};
 
@@ -160,7 +161,7 @@ pub fn u32_at(view: &OptionView, code: u8) -> Option<u32>
     ensures { result ≡ number_at code (view_instances view.now) }
 {
     let word = word_at(view, code)?;
-    Some(u32::from_be_bytes(word))
+    Some(BigEndian::read_u32(&word))
 }
 
 /// The address that a code's value is: that of all its instances, end to end. None unless it has 4 bytes. It takes no memory.

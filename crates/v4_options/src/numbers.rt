@@ -4,6 +4,7 @@ ghost use Rattle.std.specs.Prelude.{◌≡◌, length, IfOk};
 ghost use Rattle.std.specs.Option.{option_map};
 ghost use Rattle.v4_options.specs.Numbers.{address, addresses, addr_in, addrs_in, u16_in, u32_in};
 
+use byteorder::{BigEndian, ByteOrder};
 use net_types::{Ip4, NoMemory};
 use std::alloc::{AllocError, Global};
 
@@ -24,7 +25,7 @@ pub fn u16_of(value: &[u8]) -> Option<u16>
     if value.len() != 2 {
         return None;
     }
-    Some(u16::from_be_bytes([value[0], value[1]]))
+    Some(BigEndian::read_u16(value))
 }
 
 /// The number that is the value: options 51, 58 and 59. None unless it has 4 bytes.
@@ -34,7 +35,7 @@ pub fn u32_of(value: &[u8]) -> Option<u32>
     if value.len() != 4 {
         return None;
     }
-    Some(u32::from_be_bytes([value[0], value[1], value[2], value[3]]))
+    Some(BigEndian::read_u32(value))
 }
 
 /// The addresses that are the value: options 3, 6 and 42. None unless it is one address or more.
@@ -71,5 +72,7 @@ pub(crate) fn address_at(octets: &[u8]) -> Ip4
     requires { length octets.now ≡ 4 }
     ensures { result ≡ address octets.now }
 {
-    Ip4::from_octets([octets[0], octets[1], octets[2], octets[3]])
+    Ip4 {
+        number: BigEndian::read_u32(octets),
+    }
 }

@@ -3,6 +3,7 @@ ghost use Rattle.net_types.specs.Sum.{IsSumOf, checksum};
 ghost use Rattle.net_types.specs.Sum as words;
 
 use crate::sum::Sum;
+use byteorder::{BigEndian, ByteOrder};
 
 /// All bits of a word.
 const ALL_ONES: u32 = 0xffff;
@@ -80,17 +81,17 @@ fn block_of(block: &[u8]) -> u32
 }
 
 /// The plain sum of the words of a block.
-#[tactic(auto, using(crate::proofs::Checksum::word_after, crate::proofs::Checksum::last_half))]
+#[tactic(auto, using(crate::proofs::Checksum::last_half))]
 fn plain_of(block: &[u8]) -> u32
     requires { length block.now ≤ 65536 }
     ensures { result ≡ words.plain_sum block.now }
 {
     let mut total = 0;
     'words: for i in 0..block.len() / 2 {
-        total += u32::from(block[2 * i]) * 256 + u32::from(block[2 * i + 1]);
+        total += u32::from(BigEndian::read_u16(&block[2 * i..]));
     }
     if block.len() % 2 == 1 {
-        total += u32::from(block[block.len() - 1]) * 256;
+        total += u32::from(BigEndian::read_u16(&[block[block.len() - 1], 0]));
     }
     total
 }

@@ -5,4 +5,4 @@ use Rattle.frame_link.proofs.arp.arp_frame.Goals as goal
 pub returns : goal.returns
 returns c =
     let len : length c.args.mac.bytes ≡ 6 = search rules in
-    rw (six_cells c.args.mac.bytes len, c.to_be_bytes-ip.ensures, c.to_be_bytes-wanted.ensures) (search rules)
+    rw (six_cells c.args.mac.bytes len, c.octets-ip.ensures, c.octets-wanted.ensures) (search rules)
