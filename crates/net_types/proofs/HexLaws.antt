@@ -1,22 +1,18 @@
--- Lower-case pairs: what is read is spelled so, and what is spelled so is read.
-use Rattle.std.proofs.Common.{◌≡◌, ℕ, zero, suc, ◌+◌, ◌*◌, ◌/◌, ◌%◌, ◌<◌, true, false, cond, List, [], ◌∷◌, ◌++◌, length, take, Option, Some, None, option_map, option_and_then, is_some, IfSome, get_or, set, Bool, ◌&&◌, refl, sym, ap, ◌∙◌, subst, arith, eqb, flat_map, codes, bytes_eq}
-use Rattle.std.specs.Char.{digit_char}
-use Rattle.std.proofs.lemmas.Bool.{and_right, ne_eqb}
+-- Lower-case pairs: what is read is spelled so, and what is spelled so is read. They are encoded and decoded by `hex`, which reads
+-- capital letters too.
+use Rattle.std.proofs.Common.{◌≡◌, ℕ, zero, suc, ◌+◌, ◌*◌, ◌/◌, ◌%◌, ◌<◌, Bool, true, false, not, cond, ◌&&◌, inl, inr, List, [], ◌∷◌, ◌++◌, length, get_or, Option, Some, None, option_map, option_and_then, Result, Ok, Err, refl, sym, ap, ◌∙◌, subst, arith, eqb, flat_map, codes, bytes_eq}
+use Rattle.std.specs.Char.{digit_char, is_ascii_uppercase}
+use Rattle.std.specs.Result.{result_ok}
+use Rattle.std.proofs.lemmas.Bool.{and_parts, and_from, and_right, cases_eq, cases_lt, eqb-true, ne_eqb, not-true}
 use Rattle.std.proofs.lemmas.Bool.Decides.{nat_tests}
-use Rattle.std.proofs.lemmas.List.{take_more_set}
 use Rattle.std.proofs.lemmas.Slice.Eq.{bytes_eq-Decides}
+use Rattle.hex.specs.Hex.{decode_of, decode_pairs, decode_sized, digit_or_error, encode_lower, encode_with, hex_digit_value, lower_digits, pair_value, ◌>>=◌}
+use Rattle.hex.specs.declared.error.FromHexError.{FromHexError}
+use Rattle.hex.proofs.HexLemmas.{decode_of-encode_lower, decode_of-even, decode_of-odd, decode_pairs-ok, decode_sized-encode_lower, decode_sized-ok}
 use Rattle.net_types.specs.Reads.{Reads}
 use Rattle.net_types.specs.Marks.{AreBytes}
-use Rattle.net_types.specs.HexText.{byte_hex, hex_text, hex_digit_at, hex_byte_at, pairs_at, hex_at}
+use Rattle.net_types.specs.HexText.{byte_hex, hex_text, hex_digit_at, hex_byte_at, lacks_capitals, pairs_at, hex_at}
 use Rattle.net_types.proofs.ReadsLaws.{passed, some_same}
-
-pub digit_whole : (n : ℕ) → n < 16 → hex_digit_at (digit_char n) ≡ Some n
-unfolding hex_digit_at
-digit_whole n small = grind (arith, nat_tests)
-
-pub record IsDigit (c n : ℕ) : Type 0 where
-  pub spelled : c ≡ digit_char n
-  pub small : n < 16
 
 digit_spelled : (c n : ℕ) → hex_digit_at c ≡ Some n → c ≡ digit_char n
 unfolding hex_digit_at
@@ -25,14 +21,6 @@ digit_spelled c n e = grind (arith, nat_tests)
 digit_small : (c n : ℕ) → hex_digit_at c ≡ Some n → n < 16
 unfolding hex_digit_at
 digit_small c n e = grind (arith, nat_tests)
-
-byte_whole : (b : ℕ) → b < 256 → hex_byte_at (byte_hex b) ≡ Some b
-unfolding hex_byte_at
-byte_whole b small =
-    let high : b / 16 < 16 = omega arith in
-    let low : b % 16 < 16 = omega arith in
-    let joined : b / 16 * 16 + b % 16 ≡ b = omega arith in
-    rw (digit_whole (b / 16) high, digit_whole (b % 16) low) (ap (λ n. Some n) joined)
 
 of_digits : (x y high low b : ℕ) → x ≡ digit_char high → high < 16 → y ≡ digit_char low → low < 16 → high * 16 + low ≡ b → (x ∷ y ∷ [] ≡ byte_hex b) × (b < 256)
 of_digits x y high low b ex sh ey sl e =
@@ -53,19 +41,12 @@ byte_sound (x ∷ y ∷ []) b e =
     of_digits x y high.value low.value b (digit_spelled x _ high.was) (digit_small x _ high.was) (digit_spelled y _ low.was) (digit_small y _ low.was) value
 byte_sound (x ∷ y ∷ z ∷ rest) b e = cc
 
-pub hex_byte_reads : Reads byte_hex (λ b. b < 256) hex_byte_at
-hex_byte_reads = record { sound = byte_sound; whole = byte_whole }
-
 pub cons_bytes : (b : ℕ) (bs : List ℕ) → b < 256 → AreBytes bs → AreBytes (b ∷ bs)
 cons_bytes b bs small rest zero = small
 cons_bytes b bs small rest (suc i) = rest i
 
 pub no_bytes : AreBytes []
 no_bytes i = omega arith
-
-pairs_whole : (bs : List ℕ) → AreBytes bs → pairs_at (flat_map byte_hex bs) ≡ Some bs
-pairs_whole [] fits = refl
-pairs_whole (b ∷ bs) fits = rw (hex_byte_reads.whole b (fits 0), pairs_whole bs (λ i. fits (suc i))) refl
 
 pairs_sound : (text bs : List ℕ) → pairs_at text ≡ Some bs → (text ≡ flat_map byte_hex bs) × AreBytes bs
 pairs_sound [] bs e = let none : [] ≡ bs = some_same e in (ap (flat_map byte_hex) none, subst AreBytes none no_bytes)
@@ -74,9 +55,160 @@ pairs_sound (x ∷ y ∷ rest) bs e =
     let first = passed (hex_byte_at (x ∷ y ∷ [])) _ bs e in
     let others = passed (pairs_at rest) _ bs first.gives in
     let whole : first.value ∷ others.value ≡ bs = some_same others.gives in
-    let s = hex_byte_reads.sound (x ∷ y ∷ []) first.value first.was in
+    let s = byte_sound (x ∷ y ∷ []) first.value first.was in
     let t = pairs_sound rest others.value others.was in
     (ap (λ p. p ++ rest) s.0 ∙ ap (λ r. byte_hex first.value ++ r) t.0 ∙ ap (flat_map byte_hex) whole, subst AreBytes whole (cons_bytes first.value others.value s.1 t.1))
+
+-- ---- the digits that `hex` writes
+
+-- the first n digits of its table are those that we name
+abbrev are_ours : ℕ → Bool
+are_ours zero = true
+are_ours (suc n) = eqb (get_or lower_digits n 0) (digit_char n) && are_ours n
+
+ours_at : (n d : ℕ) → are_ours n ≡ true → d < n → get_or lower_digits d 0 ≡ digit_char d
+ours_at zero d ours below = absurd (omega arith)
+ours_at (suc n) d ours below =
+    let parts = and_parts (eqb (get_or lower_digits n 0) (digit_char n)) (are_ours n) ours in
+    elim (cases_lt d n) [
+      | inl before ↦ ours_at n d parts.1 before
+      | inr last ↦ let same : n ≡ d = omega arith in subst (λ k. get_or lower_digits k 0 ≡ digit_char k) same (eqb-true _ _ parts.0)
+    ]
+
+lower_digit : (d : ℕ) → d < 16 → get_or lower_digits d 0 ≡ digit_char d
+lower_digit d small = ours_at 16 d refl small
+
+pub encoded : (bs : List ℕ) → AreBytes bs → encode_lower bs ≡ flat_map byte_hex bs
+unfolding encode_with
+encoded [] fits = refl
+encoded (b ∷ bs) fits =
+    let small : b < 256 = fits 0 in
+    let high = lower_digit (b / 16) (omega arith) in
+    let low = lower_digit (b % 16) (omega arith) in
+    ap (λ c. c ∷ get_or lower_digits (b % 16) 0 ∷ encode_with lower_digits bs) high
+    ∙ ap (λ c. digit_char (b / 16) ∷ c ∷ encode_with lower_digits bs) low
+    ∙ ap (λ rest. digit_char (b / 16) ∷ digit_char (b % 16) ∷ rest) (encoded bs (λ i. fits (suc i)))
+
+digit_lacks : (n : ℕ) → n < 16 → not (is_ascii_uppercase (digit_char n)) ≡ true
+digit_lacks n small = grind (arith, nat_tests)
+
+pairs_lack : (bs : List ℕ) → AreBytes bs → lacks_capitals (flat_map byte_hex bs) ≡ true
+pairs_lack [] fits = refl
+pairs_lack (b ∷ bs) fits =
+    let small : b < 256 = fits 0 in
+    and_from _ _ (digit_lacks (b / 16) (omega arith)) (and_from _ _ (digit_lacks (b % 16) (omega arith)) (pairs_lack bs (λ i. fits (suc i))))
+
+-- ---- what `hex` reads where no letter is a capital
+
+same_digit : (c : ℕ) → is_ascii_uppercase c ≡ false → hex_digit_value c ≡ hex_digit_at c
+unfolding hex_digit_at
+same_digit c small = grind (arith, nat_tests)
+
+-- the byte of two values, where both are there
+abbrev joined : Option ℕ → Option ℕ → Option ℕ
+joined high low = option_and_then (λ h. option_and_then (λ l. Some (h * 16 + l)) low) high
+
+both : (x y i : ℕ) (high low : Option ℕ) → result_ok (digit_or_error x i high >>= (λ h. digit_or_error y (i + 1) low >>= (λ l. Ok (h * 16 + l)))) ≡ joined high low
+both x y i None low = refl
+both x y i (Some h) None = refl
+both x y i (Some h) (Some l) = refl
+
+pair_same : (x y i : ℕ) → is_ascii_uppercase x ≡ false → is_ascii_uppercase y ≡ false → result_ok (pair_value x y i) ≡ hex_byte_at (x ∷ y ∷ [])
+unfolding hex_byte_at
+pair_same x y i first second =
+    both x y i (hex_digit_value x) (hex_digit_value y)
+    ∙ ap (λ high. joined high (hex_digit_value y)) (same_digit x first)
+    ∙ ap (λ low. joined (hex_digit_at x) low) (same_digit y second)
+
+-- a byte in front of bytes, where both are there
+abbrev in_front : Option ℕ → Option (List ℕ) → Option (List ℕ)
+in_front byte bytes = option_and_then (λ b. option_and_then (λ bs. Some (b ∷ bs)) bytes) byte
+
+one_more : (byte : Result ℕ FromHexError) (bytes : Result (List ℕ) FromHexError) → result_ok (byte >>= (λ b. bytes >>= (λ bs. Ok (b ∷ bs)))) ≡ in_front (result_ok byte) (result_ok bytes)
+one_more (Err e) bytes = refl
+one_more (Ok b) (Err e) = refl
+one_more (Ok b) (Ok bs) = refl
+
+pairs_same : (i : ℕ) (text : List ℕ) → lacks_capitals text ≡ true → result_ok (decode_pairs i text) ≡ pairs_at text
+unfolding decode_pairs
+pairs_same i [] small = refl
+pairs_same i (x ∷ []) small = refl
+pairs_same i (x ∷ y ∷ rest) small =
+    let first = and_parts (not (is_ascii_uppercase x)) _ small in
+    let second = and_parts (not (is_ascii_uppercase y)) _ first.1 in
+    one_more (pair_value x y i) (decode_pairs (i + 2) rest)
+    ∙ ap (λ byte. in_front byte (result_ok (decode_pairs (i + 2) rest))) (pair_same x y i (not-true _ first.0) (not-true _ second.0))
+    ∙ ap (in_front (hex_byte_at (x ∷ y ∷ []))) (pairs_same (i + 2) rest second.1)
+
+odd_none : (text : List ℕ) → length text % 2 ≡ 1 → (r : Result (List ℕ) FromHexError) → decode_pairs 0 text ≡ r → result_ok r ≡ None
+odd_none text odd (Ok bytes) e = absurd (let len = (decode_pairs-ok 0 text bytes e).1 in omega (arith, len))
+odd_none text odd (Err fault) e = refl
+
+pub pairs_decoded : (text : List ℕ) → lacks_capitals text ≡ true → pairs_at text ≡ result_ok (decode_of text)
+pairs_decoded text small =
+    elim (cases_eq (length text % 2) 1) [
+      | inl odd ↦ sym (pairs_same 0 text small) ∙ odd_none text odd (decode_pairs 0 text) refl ∙ ap result_ok (sym (decode_of-odd text odd))
+      | inr other ↦ sym (ap result_ok (decode_of-even text (omega arith)) ∙ pairs_same 0 text small)
+    ]
+
+pub capital_pairs : (text : List ℕ) → lacks_capitals text ≡ false → pairs_at text ≡ None
+capital_pairs text capital =
+    elim (pairs_at text) as (λ o. pairs_at text ≡ o → o ≡ None) [
+      | None ↦ λ e. refl
+      | Some bs ↦ λ e.
+          let s = pairs_sound text bs e in
+          let lacks : lacks_capitals text ≡ true = ap lacks_capitals s.0 ∙ pairs_lack bs s.1 in cc
+    ] refl
+
+pairs_whole : (bs : List ℕ) → AreBytes bs → pairs_at (flat_map byte_hex bs) ≡ Some bs
+pairs_whole bs fits =
+    pairs_decoded (flat_map byte_hex bs) (pairs_lack bs fits)
+    ∙ ap result_ok (ap decode_of (sym (encoded bs fits)) ∙ decode_of-encode_lower bs fits)
+
+-- the byte of what was read into room for one
+abbrev byte_in : Result (List ℕ) FromHexError → Option ℕ
+byte_in r = option_map (λ bytes. get_or bytes 0 0) (result_ok r)
+
+longer_none : (x y z : ℕ) (rest : List ℕ) (r : Result (List ℕ) FromHexError) → decode_sized (x ∷ y ∷ z ∷ rest) 1 ≡ r → None ≡ byte_in r
+longer_none x y z rest (Ok bytes) e = absurd (let len = decode_sized-ok (x ∷ y ∷ z ∷ rest) 1 bytes e in omega (arith, len))
+longer_none x y z rest (Err fault) e = refl
+
+byte_alone : (byte : Result ℕ FromHexError) → result_ok byte ≡ byte_in (byte >>= (λ b. Ok (b ∷ [])))
+byte_alone (Ok b) = refl
+byte_alone (Err e) = refl
+
+pub byte_decoded : (text : List ℕ) → lacks_capitals text ≡ true → hex_byte_at text ≡ byte_in (decode_sized text 1)
+unfolding decode_pairs hex_byte_at
+byte_decoded [] small = refl
+byte_decoded (x ∷ []) small = refl
+byte_decoded (x ∷ y ∷ []) small =
+    let first = and_parts (not (is_ascii_uppercase x)) _ small in
+    let second = and_parts (not (is_ascii_uppercase y)) _ first.1 in
+    sym (pair_same x y 0 (not-true _ first.0) (not-true _ second.0)) ∙ byte_alone (pair_value x y 0)
+byte_decoded (x ∷ y ∷ z ∷ rest) small = longer_none x y z rest (decode_sized (x ∷ y ∷ z ∷ rest) 1) refl
+
+byte_lacks : (b : ℕ) → b < 256 → lacks_capitals (byte_hex b) ≡ true
+byte_lacks b small = pairs_lack (b ∷ []) (cons_bytes b [] small no_bytes)
+
+pub capital_byte : (text : List ℕ) → lacks_capitals text ≡ false → hex_byte_at text ≡ None
+capital_byte text capital =
+    elim (hex_byte_at text) as (λ o. hex_byte_at text ≡ o → o ≡ None) [
+      | None ↦ λ e. refl
+      | Some b ↦ λ e.
+          let s = byte_sound text b e in
+          let lacks : lacks_capitals text ≡ true = ap lacks_capitals s.0 ∙ byte_lacks b s.1 in cc
+    ] refl
+
+byte_whole : (b : ℕ) → b < 256 → hex_byte_at (byte_hex b) ≡ Some b
+byte_whole b small =
+    let fits = cons_bytes b [] small no_bytes in
+    byte_decoded (byte_hex b) (byte_lacks b small)
+    ∙ ap byte_in (ap (λ text. decode_sized text 1) (sym (encoded (b ∷ []) fits)) ∙ decode_sized-encode_lower (b ∷ []) 1 refl fits)
+
+pub hex_byte_reads : Reads byte_hex (λ b. b < 256) hex_byte_at
+hex_byte_reads = record { sound = byte_sound; whole = byte_whole }
+
+-- ---- bytes, with `-` for none
 
 nonzero : (n : ℕ) → eqb (suc n) 0 ≡ false
 nonzero n = ne_eqb (suc n) 0 (λ e. omega arith)
@@ -111,68 +243,3 @@ hex_sound (c ∷ cs) bs e =
 
 pub hex_reads : Reads hex_text AreBytes hex_at
 hex_reads = record { sound = hex_sound; whole = hex_whole }
-
--- ---- the loop over pairs
-
--- bytes with one more behind them, where both are there
-abbrev more : Option (List ℕ) → Option ℕ → Option (List ℕ)
-more bytes byte = option_and_then (λ xs. option_map (λ x. xs ++ x ∷ []) byte) bytes
-
-more_behind : (byte : ℕ) (o : Option (List ℕ)) (p : Option ℕ) → option_and_then (λ xs. Some (byte ∷ xs)) (more o p) ≡ more (option_and_then (λ xs. Some (byte ∷ xs)) o) p
-more_behind byte None p = refl
-more_behind byte (Some xs) None = refl
-more_behind byte (Some xs) (Some x) = refl
-
-behind : (p : Option ℕ) (o : Option (List ℕ)) (q : Option ℕ)
-    → option_and_then (λ byte. option_and_then (λ xs. Some (byte ∷ xs)) (more o q)) p ≡ more (option_and_then (λ byte. option_and_then (λ xs. Some (byte ∷ xs)) o) p) q
-behind None o q = refl
-behind (Some byte) o q = more_behind byte o q
-
--- one pair more
-pair_more : (xs : List ℕ) (k : ℕ) → k % 2 ≡ 0 → suc k < length xs → pairs_at (take (suc (suc k)) xs) ≡ more (pairs_at (take k xs)) (hex_byte_at (get_or xs k 0 ∷ get_or xs (suc k) 0 ∷ []))
-pair_more [] k even lt = absurd (omega arith)
-pair_more (a ∷ []) k even lt = absurd (omega arith)
-pair_more (a ∷ b ∷ rest) zero even lt = first (hex_byte_at (a ∷ b ∷ []))
-  where
-    first : (p : Option ℕ) → option_and_then (λ x. Some (x ∷ [])) p ≡ option_map (λ x. x ∷ []) p
-    first None = refl
-    first (Some x) = refl
-pair_more (a ∷ b ∷ rest) (suc zero) even lt = absurd (omega arith)
-pair_more (a ∷ b ∷ rest) (suc (suc k)) even lt =
-    rw (pair_more rest k (omega arith) (omega arith)) (behind (hex_byte_at (a ∷ b ∷ [])) (pairs_at (take k rest)) (hex_byte_at (get_or rest k 0 ∷ get_or rest (suc k) 0 ∷ [])))
-
-no_pair : (p : Option ℕ) → option_and_then (λ byte. option_and_then (λ xs. Some (byte ∷ xs)) None) p ≡ None
-no_pair None = refl
-no_pair (Some byte) = refl
-
-pub odd_pairs : (xs : List ℕ) → length xs % 2 ≡ 1 → pairs_at xs ≡ None
-odd_pairs [] odd = absurd (omega arith)
-odd_pairs (a ∷ []) odd = refl
-odd_pairs (a ∷ b ∷ rest) odd = rw (odd_pairs rest (omega arith)) (no_pair (hex_byte_at (a ∷ b ∷ [])))
-
--- the byte of two values, where both are there
-abbrev joined : Option ℕ → Option ℕ → Option ℕ
-joined high low = option_and_then (λ h. option_and_then (λ l. Some (h * 16 + l)) low) high
-
-byte_of_two : (a b : ℕ) → hex_byte_at (a ∷ b ∷ []) ≡ joined (hex_digit_at a) (hex_digit_at b)
-unfolding hex_byte_at
-byte_of_two a b = refl
-
-more_of : (bytes : List ℕ) (high low : ℕ) (good : Bool) (a b : Option ℕ) → IfSome a (λ n. high ≡ n) → IfSome b (λ n. low ≡ n)
-    → more (cond good (Some bytes) None) (joined a b) ≡ cond (good && (is_some a && is_some b)) (Some (bytes ++ (high * 16 + low) ∷ [])) None
-more_of bytes high low false a b ea eb = refl
-more_of bytes high low true None b ea eb = refl
-more_of bytes high low true (Some x) None ea eb = refl
-more_of bytes high low true (Some x) (Some y) ea eb = rw (ea, eb) refl
-
-pub pair_after : (xs bytes : List ℕ) (i high low : ℕ) (good : Bool) → 2 * i + 1 < length xs → i < length bytes
-    → IfSome (hex_digit_at (get_or xs (2 * i) 0)) (λ n. high ≡ n) → IfSome (hex_digit_at (get_or xs (2 * i + 1) 0)) (λ n. low ≡ n)
-    → pairs_at (take (2 * i) xs) ≡ cond good (Some (take i bytes)) None
-    → pairs_at (take (2 * (i + 1)) xs)
-    ≡ cond (good && (is_some (hex_digit_at (get_or xs (2 * i) 0)) && is_some (hex_digit_at (get_or xs (2 * i + 1) 0)))) (Some (take (i + 1) (set bytes i (high * 16 + low)))) None
-pair_after xs bytes i high low good long there first second before =
-    let next : 2 * (i + 1) ≡ suc (suc (2 * i)) = omega arith in
-    let one : 2 * i + 1 ≡ suc (2 * i) = omega arith in
-    let second_there : IfSome (hex_digit_at (get_or xs (suc (2 * i)) 0)) (λ n. low ≡ n) = subst (λ k. IfSome (hex_digit_at (get_or xs k 0)) (λ n. low ≡ n)) one second in
-    rw (next, one, take_more_set bytes i (high * 16 + low) there, pair_more xs (2 * i) (omega arith) (omega arith), before, byte_of_two)
-    (more_of (take i bytes) high low good (hex_digit_at (get_or xs (2 * i) 0)) (hex_digit_at (get_or xs (suc (2 * i)) 0)) first second_there)

@@ -1,7 +1,8 @@
 -- Bytes as pairs of lower-case hexadecimal digits.
-use Rattle.std.specs.Prelude.{ℕ, ◌+◌, ◌*◌, ◌-◌, ◌/◌, ◌%◌, List, [], ◌∷◌, ◌==◌, length, Option, Some, None, codes, bytes_eq, if◌then◌else◌, flat_map}
-use Rattle.std.specs.Char.{digit_char}
+use Rattle.std.specs.Prelude.{ℕ, ◌+◌, ◌*◌, ◌-◌, ◌/◌, ◌%◌, Bool, not, List, [], ◌∷◌, ◌==◌, length, Option, Some, None, codes, bytes_eq, if◌then◌else◌, flat_map}
+use Rattle.std.specs.Char.{digit_char, is_ascii_uppercase}
 use Rattle.std.specs.Int.{is_in_range}
+use Rattle.std.specs.List.{list_all}
 use Rattle.net_types.specs.Cutting.{◌>>=◌}
 
 -- one byte
@@ -23,6 +24,10 @@ hex_byte_at (a ∷ b ∷ []) = do
   low ← hex_digit_at b
   Some (high * 16 + low)
 hex_byte_at _ = None
+
+-- the spelling that is read: none of the letters is a capital
+abbrev pub lacks_capitals : List ℕ → Bool
+lacks_capitals text = list_all (λ c. not (is_ascii_uppercase c)) text
 
 -- pairs up to the end
 abbrev pub pairs_at : List ℕ → Option (List ℕ)

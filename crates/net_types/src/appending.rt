@@ -5,7 +5,7 @@ ghost use Rattle.net_types.specs.HexText.{byte_hex, hex_text};
 
 use crate::address::{Ip4, Mac, Net4};
 use crate::fault::NoMemory;
-use crate::hexadecimal::{hex_digit, write_pairs};
+use crate::hexadecimal::{digits_of, write_pairs};
 use itoa::Buffer;
 
 /// Appends bytes as they are; where memory runs out nothing.
@@ -90,25 +90,15 @@ pub fn append_mac(mac: Mac, into: &mut Vec<u8>) -> Result<(), NoMemory>
     ensures ok { OnOk result (into.new.items ≡ into.old.items ++ mac_text mac) }
     ensures err { OnErr result (into.new.items ≡ into.old.items) }
 {
-    let [a, b, c, d, e, f] = mac.bytes;
+    let [first, second, third, fourth, fifth, sixth] = mac.bytes;
+    let [a, b] = digits_of(first);
+    let [c, d] = digits_of(second);
+    let [e, f] = digits_of(third);
+    let [g, h] = digits_of(fourth);
+    let [i, j] = digits_of(fifth);
+    let [k, l] = digits_of(sixth);
     let text = [
-        hex_digit(a / 16),
-        hex_digit(a % 16),
-        b':',
-        hex_digit(b / 16),
-        hex_digit(b % 16),
-        b':',
-        hex_digit(c / 16),
-        hex_digit(c % 16),
-        b':',
-        hex_digit(d / 16),
-        hex_digit(d % 16),
-        b':',
-        hex_digit(e / 16),
-        hex_digit(e % 16),
-        b':',
-        hex_digit(f / 16),
-        hex_digit(f % 16),
+        a, b, b':', c, d, b':', e, f, b':', g, h, b':', i, j, b':', k, l,
     ];
     append_bytes(&text, into)
 }

@@ -1,81 +1,46 @@
 //! Bytes as pairs of lower-case hexadecimal digits.
-ghost use Rattle.std.specs.Prelude.{◌≡◌, ◌*◌, ◌<◌, if◌then◌else◌, flat_map, is_some, length, option_map, None, Some, IfOk, IfSome};
-ghost use Rattle.std.specs.Char.{digit_char};
-ghost use Rattle.net_types.specs.HexText.{byte_hex, hex_digit_at, hex_byte_at, pairs_at, hex_at};
+ghost use Rattle.std.specs.Prelude.{◌≡◌, ◌*◌, flat_map, length, option_map, IfOk};
+ghost use Rattle.net_types.specs.HexText.{byte_hex, hex_at, hex_byte_at, lacks_capitals, pairs_at};
 
 use crate::fault::NoMemory;
+use hex::{FromHex, FromHexError};
 use std::alloc::Global;
 
-pub(crate) fn hex_digit(value: u8) -> u8
-    requires { value < 16 }
-    ensures { result ≡ digit_char value }
-{
-    if value < 10 {
-        b'0' + value
-    } else {
-        b'a' + (value - 10)
-    }
-}
-
-/// Whether a byte is a lower-case digit. Without a branch, so that many can be asked at once.
-#[tactic(auto, unfolding(crate::specs::HexText::hex_digit_at))]
-fn is_hex_digit(digit: u8) -> bool
-    ensures { result ≡ is_some (hex_digit_at digit) }
-{
-    ((b'0' <= digit) & (digit <= b'9')) | ((b'a' <= digit) & (digit <= b'f'))
-}
-
-/// What a digit stands for. Without a branch, as above.
-#[tactic(auto, unfolding(crate::specs::HexText::hex_digit_at))]
-fn digit_value(digit: u8) -> u8
-    ensures small { result < 16 }
-    ensures value { IfSome (hex_digit_at digit) (λ n. result ≡ n) }
-{
-    (digit % 16 + 9 * (digit / 64)) % 16
-}
-
-/// The byte that two lower-case digits spell.
-#[tactic(auto, unfolding(crate::specs::HexText::hex_byte_at))]
-pub fn hex_byte_of(bytes: &[u8]) -> Option<u8>
-    ensures { result ≡ hex_byte_at bytes.now }
-{
-    match bytes {
-        [high, low] if is_hex_digit(*high) && is_hex_digit(*low) => {
-            Some(digit_value(*high) * 16 + digit_value(*low))
-        }
-        _ => None,
-    }
-}
-
-/// Reads pairs of digits over all of the bytes, and says whether they are digits.
-#[tactic(auto, using(crate::proofs::HexLaws::pair_after))]
-fn read_pairs(pairs: &[u8], bytes: &mut [u8]) -> bool
-    requires { length pairs.now ≡ 2 * length bytes.old }
-    ensures { pairs_at pairs.now ≡ (if result then Some bytes.new else None) }
+/// Whether no byte is a capital letter. Without a branch, so that many are asked at once.
+fn lacks_capitals(text: &[u8]) -> bool
+    ensures { result ≡ lacks_capitals text.now }
 {
     let mut good = true;
-    'pairs: for i in 0..bytes.len() {
-        let high = pairs[2 * i];
-        let low = pairs[2 * i + 1];
-        bytes[i] = digit_value(high) * 16 + digit_value(low);
-        good &= is_hex_digit(high) & is_hex_digit(low);
+    'bytes: for i in 0..text.len() {
+        good &= !text[i].is_ascii_uppercase();
     }
     good
 }
 
+/// The byte that two lower-case digits spell.
+#[tactic(auto, using(crate::proofs::HexLaws::byte_decoded, crate::proofs::HexLaws::capital_byte))]
+pub fn hex_byte_of(bytes: &[u8]) -> Option<u8>
+    ensures { result ≡ hex_byte_at bytes.now }
+{
+    if !lacks_capitals(bytes) {
+        return None;
+    }
+    let [byte] = <[u8; 1]>::from_hex(bytes).ok()?;
+    Some(byte)
+}
+
 /// The bytes that pairs up to the end spell.
-#[tactic(auto, using(crate::proofs::HexLaws::odd_pairs))]
+#[tactic(auto, using(crate::proofs::HexLaws::pairs_decoded, crate::proofs::HexLaws::capital_pairs))]
 fn pairs_of(alloc: Global, pairs: &[u8]) -> Result<Option<Vec<u8>>, NoMemory>
     ensures { IfOk result (λ o. option_map (λ v. v.items) o ≡ pairs_at pairs.now) }
 {
-    if pairs.len() % 2 == 1 {
+    if !lacks_capitals(pairs) {
         return Ok(None);
     }
-    let mut bytes = vec![in alloc; 0; pairs.len() / 2]?;
-    if read_pairs(pairs, &mut bytes) {
-        Ok(Some(bytes))
-    } else {
-        Ok(None)
+    match hex::decode(alloc, pairs) {
+        Ok(bytes) => Ok(Some(bytes)),
+        Err(FromHexError::OutOfMemory) => Err(NoMemory),
+        Err(_) => Ok(None),
     }
 }
 
@@ -94,12 +59,22 @@ pub fn hex_of(alloc: Global, bytes: &[u8]) -> Result<Option<Vec<u8>>, NoMemory>
 }
 
 /// Writes two digits a byte over all of the pairs.
+#[tactic(auto, using(crate::proofs::HexLaws::encoded))]
 pub(crate) fn write_pairs(bytes: &[u8], pairs: &mut [u8])
     requires { length pairs.old ≡ 2 * length bytes.now }
     ensures { pairs.new ≡ flat_map byte_hex bytes.now }
 {
-    for (place, byte) in bytes.iter().enumerate() {
-        pairs[2 * place] = hex_digit(*byte / 16);
-        pairs[2 * place + 1] = hex_digit(*byte % 16);
+    match hex::encode_to_slice(bytes, pairs) {
+        Ok(()) => (),
+        Err(_) => unreachable!(),
     }
+}
+
+/// The two digits of a byte.
+pub(crate) fn digits_of(byte: u8) -> [u8; 2]
+    ensures { result ≡ byte_hex byte }
+{
+    let mut digits = [0; 2];
+    write_pairs(&[byte], &mut digits);
+    digits
 }

@@ -8,7 +8,7 @@ ghost use Rattle.net_types.specs.NameText.{name_text};
 
 use crate::address::{Ip4, Ip6, Mac, Net, Net4, Net6};
 use crate::fault::NoMemory;
-use crate::hexadecimal::{hex_digit, write_pairs};
+use crate::hexadecimal::{digits_of, write_pairs};
 use crate::interface::Name;
 use std::fmt::Display;
 use std::net::Ipv6Addr;
@@ -100,7 +100,7 @@ impl Display for HexByte {
     ghost output = { λ byte. Some (byte_hex byte.0) };
 
     fn fmt<W: fmt::Write>(&self, f: &mut fmt::Formatter<W>) -> fmt::Result {
-        let digits = [hex_digit(self.0 / 16), hex_digit(self.0 % 16)];
+        let digits = digits_of(self.0);
         f.write_str(str::from_utf8(&digits).map_err(|_| fmt::Error)?)
     }
 }
