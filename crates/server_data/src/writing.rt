@@ -8,7 +8,7 @@ ghost use Rattle.server_data.specs.ReadBack.{reply_message, FitsReply};
 
 use crate::field::{BOOT_REPLY, ETHERNET, MAC_LEN, MAGIC_COOKIE, NETMASK};
 use crate::reply::{Reply, ReplyKind};
-use net_types::{Ip4, NoMemory};
+use net_types::{Ip4, NoMemory, u32_octets};
 use std::alloc::{AllocError, Global};
 use v4_message::{kind, put_option};
 use v4_options::code;
@@ -42,7 +42,7 @@ fn put_fields(message: &mut Vec<u8>, reply: &Reply) -> Result<(), AllocError>
     ensures { OnOk result (message.new.items ≡ message.old.items ++ reply_fields reply.now) }
 {
     message.extend_from_slice(&[BOOT_REPLY, ETHERNET, MAC_LEN, 0])?;
-    message.extend_from_slice(&reply.xid.to_be_bytes())?;
+    message.extend_from_slice(&u32_octets(reply.xid))?;
     // secs, flags and ciaddr
     message.extend_from_slice(&[0; 8])?;
     message.extend_from_slice(&given(reply).octets())?;
@@ -58,7 +58,7 @@ fn put_fields(message: &mut Vec<u8>, reply: &Reply) -> Result<(), AllocError>
 fn put_lease(message: &mut Vec<u8>, lease: u32) -> Result<(), AllocError>
     ensures { OnOk result (message.new.items ≡ message.old.items ++ options_text (granted lease)) }
 {
-    put_option(message, code::LEASE_TIME, &lease.to_be_bytes())?;
+    put_option(message, code::LEASE_TIME, &u32_octets(lease))?;
     put_option(message, code::SUBNET_MASK, &NETMASK.octets())
 }
 

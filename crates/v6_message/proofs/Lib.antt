@@ -1,6 +1,5 @@
 pub mod OptionLists
 pub mod Lengths
-pub mod Wide
 pub mod SpelledOptions
 pub mod ReadFields
 pub mod MessageBack

@@ -18,7 +18,7 @@ use Rattle.v6_message.specs.declared.kind.Kind6.TheVariants.{Solicit, Request, R
 use Rattle.v6_message.specs.Requests.{AskedContent, item_of, options_text, ia_option, ia_value, server_options, rapid_options, wanted_in}
 use Rattle.v6_message.specs.ReadBack.{FitsNet, FitsAsked, asked_in}
 use Rattle.v6_message.proofs.SpelledOptions.{nothing_found, texts_found, items_spelled}
-use Rattle.v6_message.proofs.Wide.{wide_back}
+use Rattle.net_types.proofs.WireNumbers.{wide_back}
 
 -- ---- items
 

@@ -11,6 +11,7 @@ ghost use Rattle.v6_message.specs.Replies.{content_of, message6_in, options_area
 ghost use Rattle.v6_message.specs.Shown.{message_shown};
 
 use crate::kind::{ServerKind6, server_kind_of};
+use byteorder::{BigEndian, ByteOrder};
 use net_types::NoMemory;
 use std::alloc::Global;
 use v6_options::{IaSaid, Status, check_options, code, first_value, ia_views, status_of};
@@ -76,7 +77,7 @@ fn seconds_of(value: &[u8]) -> Option<u32>
     if value.len() != 4 {
         return None;
     }
-    Some(u32::from_be_bytes([value[0], value[1], value[2], value[3]]))
+    Some(BigEndian::read_u32(value))
 }
 
 fn sol_max_of(options: &[u8]) -> Option<u32>
@@ -100,7 +101,7 @@ fn xid_at(payload: &[u8]) -> u32
     requires { 4 ≤ length payload.now }
     ensures { result ≡ xid_in payload.now }
 {
-    u32::from_be_bytes([0, payload[1], payload[2], payload[3]])
+    BigEndian::read_u24(&payload[1..])
 }
 
 /// What a message of this kind says.

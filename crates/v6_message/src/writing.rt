@@ -10,7 +10,8 @@ ghost use Rattle.v6_message.specs.Requests.{message6_text, options_text, rapid_o
 
 use crate::kind::Kind6;
 use crate::said::{IaAsked, Said6};
-use net_types::{Net6, NoMemory};
+use byteorder::{BigEndian, ByteOrder};
+use net_types::{Net6, NoMemory, u16_octets, u32_octets};
 use std::alloc::{AllocError, Global};
 use v6_options::layout::{ADDRESS_FIELDS_LEN, HEADER_LEN, IA_FIELDS_LEN, PREFIX_FIELDS_LEN};
 use v6_options::{Duid, IaKind, code};
@@ -25,7 +26,7 @@ const WANTED_LEN: u16 = 6;
 fn put_word(message: &mut Vec<u8>, word: u16) -> Result<(), AllocError>
     ensures { OnOk result (message.new.items ≡ message.old.items ++ word_text word) }
 {
-    message.extend_from_slice(&word.to_be_bytes())
+    message.extend_from_slice(&u16_octets(word))
 }
 
 fn put_option(message: &mut Vec<u8>, code: u16, value: &[u8]) -> Result<(), AllocError>
@@ -42,7 +43,7 @@ fn put_address(message: &mut Vec<u8>, net: Net6) -> Result<(), AllocError>
 {
     put_word(message, code::IA_ADDRESS)?;
     put_word(message, ADDRESS_FIELDS_LEN as u16)?;
-    message.extend_from_slice(&net.ip.number.to_be_bytes())?;
+    message.extend_from_slice(&net.ip.octets())?;
     message.extend_from_slice(&NO_TIMES)
 }
 
@@ -53,7 +54,7 @@ fn put_prefix(message: &mut Vec<u8>, net: Net6) -> Result<(), AllocError>
     put_word(message, PREFIX_FIELDS_LEN as u16)?;
     message.extend_from_slice(&NO_TIMES)?;
     message.push(net.len)?;
-    message.extend_from_slice(&net.ip.number.to_be_bytes())
+    message.extend_from_slice(&net.ip.octets())
 }
 
 fn put_item(message: &mut Vec<u8>, kind: IaKind, net: Net6) -> Result<(), AllocError>
@@ -107,7 +108,7 @@ fn put_ia(message: &mut Vec<u8>, ia: &IaAsked) -> Result<(), AllocError>
 {
     put_word(message, code_of(ia.kind))?;
     put_word(message, ia_len(ia))?;
-    message.extend_from_slice(&ia.iaid.to_be_bytes())?;
+    message.extend_from_slice(&u32_octets(ia.iaid))?;
     message.extend_from_slice(&NO_TIMES)?;
     put_items(message, ia.kind, &ia.items)
 }
@@ -165,9 +166,11 @@ fn put_wanted_in(message: &mut Vec<u8>, kind: Kind6) -> Result<(), AllocError>
 fn put_header(message: &mut Vec<u8>, kind: Kind6, xid: u32) -> Result<(), AllocError>
     ensures { OnOk result (message.new.items ≡ message.old.items ++ number_of_kind kind ∷ xid_text xid) }
 {
-    message.push(kind.number())?;
-    let xid = xid.to_be_bytes();
-    message.extend_from_slice(&[xid[1], xid[2], xid[3]])
+    let mut header = [0; 4];
+    BigEndian::write_u32(&mut header, xid);
+    // the type stands where the high byte of the number would
+    header[0] = kind.number();
+    message.extend_from_slice(&header)
 }
 
 /// The options of a message, in their order.
@@ -176,7 +179,7 @@ fn put_options(message: &mut Vec<u8>, said: &Said6, client: &Duid) -> Result<(),
 {
     put_option(message, code::CLIENT_IDENTIFIER, client.as_slice())?;
     put_server(message, &said.server)?;
-    put_option(message, code::ELAPSED_TIME, &said.elapsed.to_be_bytes())?;
+    put_option(message, code::ELAPSED_TIME, &u16_octets(said.elapsed))?;
     put_rapid(message, said.rapid)?;
     put_ias(message, &said.ias)?;
     put_wanted_in(message, said.kind)

@@ -9,6 +9,7 @@ use crate::layout::{
     ADDRESS_BITS, ADDRESS_FIELDS_LEN, HEADER_LEN, IA_FIELDS_LEN, PREFIX_FIELDS_LEN,
     STATUS_FIELDS_LEN,
 };
+use byteorder::{BigEndian, ByteOrder};
 
 /// Where a prefix's length in bits stands (RFC 8415, section 21.22).
 pub(crate) const PREFIX_LEN: usize = 8;
@@ -49,7 +50,7 @@ pub(crate) fn word_at(bytes: &[u8], at: usize) -> u16
     requires { at + 2 ≤ length bytes.now }
     ensures { result ≡ word_in at bytes.now }
 {
-    u16::from_be_bytes([bytes[at], bytes[at + 1]])
+    BigEndian::read_u16(&bytes[at..])
 }
 
 /// Whether a value has room for the fixed fields of its option.

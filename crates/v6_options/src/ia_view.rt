@@ -13,11 +13,10 @@ ghost use Rattle.v6_options.specs.IaViews.{ia_content, ia_shown, ias_left, items
 use crate::area::PREFIX_LEN;
 use crate::code;
 use crate::ia::{IaKind, IaSaid, ItemSaid};
-use crate::layout::{
-    ADDRESS_BITS, ADDRESS_FIELDS_LEN, ADDRESS_LEN, IA_FIELDS_LEN, PREFIX_FIELDS_LEN,
-};
+use crate::layout::{ADDRESS_BITS, ADDRESS_FIELDS_LEN, IA_FIELDS_LEN, PREFIX_FIELDS_LEN};
 use crate::options::{OptionView, split_option};
 use crate::status::{Status, status_of};
+use byteorder::{BigEndian, ByteOrder};
 use net_types::{Ip6, Net6, NoMemory};
 use std::alloc::{AllocError, Global};
 
@@ -49,7 +48,7 @@ pub(crate) fn number_at(bytes: &[u8], at: usize) -> u32
     requires { at + 4 ≤ length bytes.now }
     ensures { result ≡ number_in at bytes.now }
 {
-    u32::from_be_bytes([bytes[at], bytes[at + 1], bytes[at + 2], bytes[at + 3]])
+    BigEndian::read_u32(&bytes[at..])
 }
 
 /// The sixteen bytes at `at` as an address.
@@ -57,13 +56,8 @@ pub(crate) fn ip6_at(bytes: &[u8], at: usize) -> Ip6
     requires { at + 16 ≤ length bytes.now }
     ensures { result ≡ ip6_in at bytes.now }
 {
-    let octets = &bytes[at..][..ADDRESS_LEN];
     Ip6 {
-        number: u128::from_be_bytes([
-            octets[0], octets[1], octets[2], octets[3], octets[4], octets[5], octets[6], octets[7],
-            octets[8], octets[9], octets[10], octets[11], octets[12], octets[13], octets[14],
-            octets[15],
-        ]),
+        number: BigEndian::read_u128(&bytes[at..]),
     }
 }
 

@@ -10,9 +10,9 @@ returns c =
     let start = c.args.message.now.items in
     let said = c.args.said.now in
     let server = server_options (option_map (λ d. d.bytes.items) said.server) in
-    let put = message_put start _ _ _ _ _ (1, c.as_slice.result.now) (8, c.to_be_bytes.result) server (rapid_options said.rapid)
+    let put = message_put start _ _ _ _ _ (1, c.as_slice.result.now) (8, c.u16_octets.result) server (rapid_options said.rapid)
     (map ia_option (map asked_content c.deref.result.now)) (wanted_in said.kind)
     c.in_ok-put_option.ensures c.in_ok-put_server.ensures c.in_ok-put_option-2.ensures c.in_ok-put_rapid.ensures c.in_ok-put_ias.ensures in
-    let whole = put ∙ (λ i. start ++ options_text ((1, c.as_slice.ensures.bytes i) ∷ (server ++ ((8, c.to_be_bytes.ensures i) ∷ (rapid_options said.rapid
+    let whole = put ∙ (λ i. start ++ options_text ((1, c.as_slice.ensures.bytes i) ∷ (server ++ ((8, c.u16_octets.ensures i) ∷ (rapid_options said.rapid
     ++ (map ia_option (map asked_content (c.deref.ensures.value i)) ++ wanted_in said.kind)))))) in
     subst (λ (text : List ℕ). OnOk c.put_wanted_in.result (c.put_wanted_in.new.message.items ≡ text)) whole c.put_wanted_in.ensures
