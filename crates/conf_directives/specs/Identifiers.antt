@@ -1,16 +1,15 @@
 -- What tells a client apart: the bytes of option 61 (RFC 2132, section 9.14).
-use Rattle.std.specs.Prelude.{ℕ, Bool, ◌&&◌, nat_le, List, [], ◌∷◌, length, Option, Some, None, option_map}
-use Rattle.std.specs.Char.{to_ascii_lowercase}
+use Rattle.std.specs.Prelude.{ℕ, Bool, ◌&&◌, nat_le, List, ◌∷◌, length, slice_index, Option, Some, None, option_map}
+use Rattle.std.specs.Result.{result_ok}
+use Rattle.hex.specs.Hex.{decode_sized}
 use Rattle.net_types.specs.Cutting.{guarded, read_all}
-use Rattle.net_types.specs.HexText.{hex_byte_at}
 use Rattle.conf_directives.specs.declared.identifiers.TheConstants.{LEAST_PAIRS, MOST_PAIRS, TYPED_TEXT_LIMIT}
 use Rattle.conf_directives.specs.Words.{colon_parts}
 use Rattle.conf_directives.specs.Texts.{printed}
 
--- two hexadecimal digits in either case
+-- the byte of two hexadecimal digits in either case
 abbrev pub pair : List ℕ → Option ℕ
-pair (high ∷ low ∷ []) = hex_byte_at (to_ascii_lowercase high ∷ to_ascii_lowercase low ∷ [])
-pair _ = None
+pair digits = option_map (λ bytes. slice_index bytes 0) (result_ok (decode_sized digits 1))
 
 abbrev pub are_enough : List ℕ → Bool
 are_enough bytes = nat_le LEAST_PAIRS (length bytes) && nat_le (length bytes) MOST_PAIRS

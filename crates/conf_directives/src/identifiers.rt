@@ -4,7 +4,8 @@ ghost use Rattle.conf_directives.specs.Identifiers.{are_enough, identifier, pair
 
 use crate::texts::printed;
 use crate::words::{Word, all_of, colon_parts};
-use net_types::{NoMemory, hex_byte_of};
+use hex::FromHex;
+use net_types::NoMemory;
 use std::alloc::{AllocError, Global};
 
 /// How many pairs of digits are no text.
@@ -21,10 +22,8 @@ const NO_HARDWARE: u8 = 0;
 fn pair(digits: &[u8]) -> Option<u8>
     ensures { result ≡ pair digits.now }
 {
-    match digits {
-        [high, low] => hex_byte_of(&[high.to_ascii_lowercase(), low.to_ascii_lowercase()]),
-        _ => None,
-    }
+    let [byte] = <[u8; 1]>::from_hex(digits).ok()?;
+    Some(byte)
 }
 
 impl Word for u8 {
