@@ -3,6 +3,7 @@ ghost use Rattle.std.specs.Prelude.{◌<◌, length};
 use net_types::{Ip4, Mac};
 use std::test::*;
 use v4_message::*;
+use v4_options::{code, value};
 
 const MAC: Mac = Mac {
     bytes: [2, 0, 0, 0, 0, 1],
@@ -113,6 +114,125 @@ fn writes_each_kind(rt: HostRuntime) -> Result<(), Fail> {
     assert_eq!(rt;
         bytes.as_slice(),
         message_with(&rt, [10, 0, 0, 50], &RELEASE)?.as_slice()
+    );
+    Ok(())
+}
+
+// type, server, lease time, net mask, router, server of names, end
+const OFFER: [u8; 34] = *b"\x35\x01\x02\
+    \x36\x04\x0a\x00\x00\x01\
+    \x33\x04\x00\x00\x0e\x10\
+    \x01\x04\xff\xff\xff\x00\
+    \x03\x04\x0a\x00\x00\x01\
+    \x06\x04\x0a\x00\x00\x01\xff";
+
+// An OFFER of 10.0.0.50 in 300 bytes.
+fn offer() -> [u8; 300] {
+    let mut message = [0; 300];
+    message[..8].copy_from_slice(&[2, 1, 6, 0, 0, 0, 0, 1]); // op, htype, hlen, hops, xid
+    message[16..20].copy_from_slice(&[10, 0, 0, 50]); // yiaddr
+    message[28..34].copy_from_slice(&MAC.bytes); // chaddr
+    message[236..240].copy_from_slice(&[0x63, 0x82, 0x53, 0x63]);
+    message[240..274].copy_from_slice(&OFFER);
+    message
+}
+
+#[test]
+fn an_offer_is_read(rt: HostRuntime) -> Result<(), Fail> {
+    let bytes = offer();
+    let message = read4(&bytes).ok().ok_or("a message")?;
+    assert_eq!(rt; message.kind, MessageKind::Offer);
+    assert_eq!(rt; message.xid, 1);
+    assert_eq!(rt; message.yiaddr, Ip4::from_octets([10, 0, 0, 50]));
+    assert_eq!(rt; message.chaddr, MAC);
+    Ok(())
+}
+
+// Bytes of an OFFER by their places, others in their stead, and why it is then no reply.
+const CHANGED: [(usize, u8, Bad4); 14] = [
+    // op, htype, hlen
+    (0, 1, Bad4::NotReply),
+    (1, 6, Bad4::NotReply),
+    (2, 16, Bad4::NotReply),
+    // the cookie
+    (236, 0, Bad4::NoCookie),
+    (237, 0, Bad4::NoCookie),
+    (238, 0, Bad4::NoCookie),
+    (239, 0, Bad4::NoCookie),
+    // the type's code: an end, and that of a host's name
+    (240, 255, Bad4::NoType),
+    (240, 12, Bad4::NoType),
+    // the type's length: past the message
+    (241, 255, Bad4::Malformed { place: 240 }),
+    // the type's value
+    (242, 0, Bad4::NoType),
+    (242, 9, Bad4::NoType),
+    // the length of the server's address, and that of the last option: one byte past the message
+    (244, 56, Bad4::Malformed { place: 243 }),
+    (268, 32, Bad4::Malformed { place: 267 }),
+];
+
+#[test]
+fn an_offer_with_one_byte_changed(rt: HostRuntime) {
+    for (place, byte, refusal) in CHANGED {
+        let mut message = offer();
+        if place < 300 {
+            message[place] = byte;
+        }
+        assert_eq!(rt; read4(&message).err(), Some(refusal), "at {place}");
+    }
+}
+
+#[test]
+fn an_offer_cut_short(rt: HostRuntime) {
+    let bytes = offer();
+    for len in 0..240 {
+        assert_eq!(rt; read4(&bytes[..len]).err(), Some(Bad4::Short));
+    }
+    // Without its options, within the first of them, and within the second.
+    assert_eq!(rt; read4(&bytes[..240]).err(), Some(Bad4::NoType));
+    assert_eq!(rt;
+        read4(&bytes[..242]).err(),
+        Some(Bad4::Malformed { place: 240 })
+    );
+    assert_eq!(rt;
+        read4(&bytes[..248]).err(),
+        Some(Bad4::Malformed { place: 243 })
+    );
+}
+
+#[test]
+fn the_first_fault_is_told(rt: HostRuntime) {
+    let mut message = [0; 241];
+    assert_eq!(rt; read4(&message[..239]).err(), Some(Bad4::Short));
+    assert_eq!(rt; read4(&message[..240]).err(), Some(Bad4::NotReply));
+    message[..3].copy_from_slice(&[2, 1, 6]);
+    assert_eq!(rt; read4(&message[..240]).err(), Some(Bad4::NoCookie));
+    message[236..].copy_from_slice(&[0x63, 0x82, 0x53, 0x63, 0xff]);
+    assert_eq!(rt; read4(&message).err(), Some(Bad4::NoType));
+}
+
+// An ACK of 300 bytes whose servers of names stand in its options and in sname, with this length of those in the options.
+fn split_ack(len: u8) -> [u8; 300] {
+    let mut message = offer();
+    message[44..51].copy_from_slice(&[6, 4, 10, 0, 0, 2, 255]);
+    message[240..253].copy_from_slice(&[53, 1, 5, 52, 1, 2, 6, len, 10, 0, 0, 1, 255]);
+    message[253..].copy_from_slice(&[0; 47]);
+    message
+}
+
+#[test]
+fn servers_in_two_areas(rt: HostRuntime) -> Result<(), Fail> {
+    let bytes = split_ack(4);
+    let message = read4(&bytes).ok().ok_or("a message")?;
+    assert_eq!(rt; message.kind, MessageKind::Ack);
+    let servers = value(rt.alloc(), &message.options, code::DOMAIN_NAME_SERVERS)?;
+    let servers = servers.ok_or("no servers")?;
+    assert_eq!(rt; servers.as_slice(), [10, 0, 0, 1, 10, 0, 0, 2].as_slice());
+    // A length of 240 goes past the message.
+    assert_eq!(rt;
+        read4(&split_ack(240)).err(),
+        Some(Bad4::Malformed { place: 246 })
     );
     Ok(())
 }

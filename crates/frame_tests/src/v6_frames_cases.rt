@@ -26,21 +26,21 @@ const HEADERS: [u8; 62] = [
     0xff, 0x02, 0x00, 0x00, 0x00, 0x00, 0x00, 0x00, // destination
     0x00, 0x00, 0x00, 0x00, 0x00, 0x01, 0x00, 0x02, // goes on
     0x02, 0x22, 0x02, 0x23, // ports
-    0x00, 0x3a, 0xfa, 0xf6, // length, checksum
+    0x00, 0x3a, 0xfa, 0xf5, // length, checksum
 ];
 
-/// Type and transaction ID; the client's DUID; elapsed time; an IA_NA of IAID 0; the options that are wanted.
+/// Type and transaction ID; the client's DUID; elapsed time; an IA_NA of IAID 1; the options that are wanted.
 const MESSAGE: [u8; 50] = *b"\x01\x00\x00\x01\
     \x00\x01\x00\x0a\x00\x03\x00\x01\x02\x00\x00\x00\x00\x01\
     \x00\x08\x00\x02\x00\x00\
-    \x00\x03\x00\x0c\x00\x00\x00\x00\x00\x00\x00\x00\x00\x00\x00\x00\
+    \x00\x03\x00\x0c\x00\x00\x00\x01\x00\x00\x00\x00\x00\x00\x00\x00\
     \x00\x06\x00\x06\x00\x17\x00\x18\x00\x52";
 
 fn solicit(rt: &HostRuntime) -> Result<Said6, Fail> {
     let mut ias = Vec::new(rt.alloc());
     ias.push(IaAsked {
         kind: IaKind::Na,
-        iaid: 0,
+        iaid: 1,
         items: Vec::new(rt.alloc()),
     })?;
     Ok(Said6 {

@@ -60,6 +60,17 @@ fn subnets_of_rfc_3633(rt: HostRuntime) {
 }
 
 #[test]
+fn last_subnet_and_the_one_after(rt: HostRuntime) {
+    // 2001:db8::/60 and /65
+    let number = 0x2001_0db8_0000_0000_0000_0000_0000_0000;
+    let last = net(0x2001_0db8_0000_000f_0000_0000_0000_0000, 64);
+    assert_eq!(rt; subnet(net(number, 60), &share(60, 15, 64)), Some(last));
+    assert_eq!(rt; subnet(net(number, 60), &share(60, 16, 64)), None);
+    // a subnet that is larger than the prefix
+    assert_eq!(rt; subnet(net(number, 65), &share(65, 0, 64)), None);
+}
+
+#[test]
 fn no_subnet(rt: HostRuntime) {
     let large = share(56, 256, 64);
     assert_eq!(rt; plan(&[large]), fault(1, ShareCause::TooLarge));
