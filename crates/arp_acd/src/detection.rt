@@ -12,7 +12,7 @@ use machine::{Machine, clamp_moment, draw, has_come};
 use net_types::{IfIndex, Ip4, Mac};
 
 /// Where a conflict detection stands. Moments are in milliseconds.
-#[derive(Clone, Copy, Debug, PartialEq, Eq)]
+#[derive(Clone, Copy, PartialEq, Eq)]
 pub enum Phase {
     /// So many probes were sent; what follows is due at `due`.
     Probing {
@@ -56,7 +56,7 @@ pub enum ArpSay {
 }
 
 /// Conflict detection for one address on one interface (RFC 5227).
-#[derive(Clone, Copy, Debug, PartialEq, Eq)]
+#[derive(Clone, Copy, PartialEq, Eq)]
 pub struct Acd {
     iface: IfIndex,
     addr: Ip4,

@@ -14,7 +14,7 @@ use std::marker::Model;
 use world::NoMemory;
 
 /// Whether it is known of all files what they hold.
-#[derive(Clone, Copy, Debug, PartialEq, Eq)]
+#[derive(Clone, Copy, PartialEq, Eq)]
 pub enum Knowledge {
     Whole,
     /// Of some it isn't.

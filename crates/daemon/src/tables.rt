@@ -11,7 +11,7 @@ use client_core::Diff;
 use host_model::HostChange;
 
 /// What is known of it between two turns.
-#[derive(Clone, Copy, Debug, PartialEq, Eq)]
+#[derive(Clone, Copy, PartialEq, Eq)]
 pub enum Table {
     /// It has exactly the wanted rows.
     AsWanted,

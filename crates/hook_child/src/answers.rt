@@ -8,7 +8,7 @@ pub struct Dropped {
 }
 
 /// What is to be done about the hook's child.
-#[derive(Debug, Drop)]
+#[derive(Drop)]
 pub enum Turned {
     Idle,
     /// This job is to be started. It counts as running from now on.

@@ -1,5 +1,5 @@
 /// The child that runs.
-#[derive(Clone, Copy, Debug, PartialEq, Eq)]
+#[derive(Clone, Copy, PartialEq, Eq)]
 pub struct Child {
     /// The number of its job.
     pub number: u64,

@@ -40,7 +40,7 @@ pub struct Situation<'a> {
 }
 
 /// Before an event, or after it.
-#[derive(Clone, Copy, Debug, PartialEq, Eq)]
+#[derive(Clone, Copy, PartialEq, Eq)]
 pub enum Stage {
     Before,
     Now,

@@ -5,7 +5,7 @@ ghost use Rattle.hook_env.specs.Words.{job_word, lease6_word, net_word, option_c
 use v4_options::code;
 
 /// A variable that each job has.
-#[derive(Clone, Copy, Debug, PartialEq, Eq)]
+#[derive(Clone, Copy, PartialEq, Eq)]
 pub enum JobVariable {
     Interface,
     Reason,
@@ -33,7 +33,7 @@ pub(crate) fn job_word(variable: JobVariable) -> &'static str
 }
 
 /// A variable of an IPv4 address with its network.
-#[derive(Clone, Copy, Debug, PartialEq, Eq)]
+#[derive(Clone, Copy, PartialEq, Eq)]
 pub enum NetVariable {
     Address,
     Length,
@@ -58,7 +58,7 @@ pub(crate) fn net_word(variable: NetVariable) -> &'static str
 }
 
 /// A variable that is the value of an option of a DHCPv4 lease.
-#[derive(Clone, Copy, Debug, PartialEq, Eq)]
+#[derive(Clone, Copy, PartialEq, Eq)]
 pub enum OptionVariable {
     BroadcastAddress,
     Routers,
@@ -118,7 +118,7 @@ pub(crate) fn option_code(variable: OptionVariable) -> u8
 }
 
 /// A variable of a DHCPv6 lease.
-#[derive(Clone, Copy, Debug, PartialEq, Eq)]
+#[derive(Clone, Copy, PartialEq, Eq)]
 pub enum Lease6Variable {
     Addresses,
     Prefixes,

@@ -1,7 +1,7 @@
 use world::HostRow;
 
 /// A change to the host's table.
-#[derive(Clone, Copy, Debug, PartialEq, Eq)]
+#[derive(Clone, Copy, PartialEq, Eq)]
 pub enum HostChange {
     Remove(HostRow),
     Add(HostRow),

@@ -15,7 +15,7 @@ const FIRST_CHOICE: u32 = 0xa9fe_0100;
 /// How many such addresses there are, up to 169.254.254.255.
 const CHOICES: u32 = 254 * 256;
 /// What an armed machine waits for until its moment.
-#[derive(Clone, Copy, Debug, PartialEq, Eq)]
+#[derive(Clone, Copy, PartialEq, Eq)]
 pub enum Waits {
     /// A lease: at the moment it is told that none came.
     ForLease,
@@ -23,7 +23,7 @@ pub enum Waits {
 }
 
 /// What an armed machine does at its moment.
-#[derive(Clone, Copy, Debug, PartialEq, Eq)]
+#[derive(Clone, Copy, PartialEq, Eq)]
 pub enum Fallback {
     /// It chooses an address.
     Choose,
@@ -32,7 +32,7 @@ pub enum Fallback {
 
 /// Where the link-local address of an interface stands. Moments are in milliseconds, and conflicts are
 /// counted since arming.
-#[derive(Clone, Copy, Debug, PartialEq, Eq)]
+#[derive(Clone, Copy, PartialEq, Eq)]
 pub enum State {
     Off,
     /// At `due` the wait is over, and `fallback` follows.
@@ -73,7 +73,7 @@ pub struct LlOut {
 }
 
 /// The link-local address of one interface (RFC 3927).
-#[derive(Clone, Copy, Debug, PartialEq, Eq)]
+#[derive(Clone, Copy, PartialEq, Eq)]
 pub struct LinkLocal {
     iface: IfIndex,
     state: State,

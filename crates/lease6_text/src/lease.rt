@@ -18,7 +18,7 @@ pub const SHORTEST_DELEGATED: u8 = 8;
 pub const LONGEST_DELEGATED: u8 = 127;
 
 /// An address or a prefix of an IA (RFC 8415, sections 21.6 and 21.22). Its moments are milliseconds since 1970; None is never.
-#[derive(Clone, Copy, Debug, PartialEq, Eq)]
+#[derive(Clone, Copy, PartialEq, Eq)]
 pub struct Item6 {
     /// An address has the length `ADDRESS_LEN`.
     pub net: Net6,
@@ -28,7 +28,7 @@ pub struct Item6 {
 }
 
 /// An IA with what was granted for it (RFC 8415, section 12).
-#[derive(Debug, Drop)]
+#[derive(Drop)]
 pub struct IaLease {
     pub kind: IaKind,
     pub iaid: u32,
@@ -36,7 +36,7 @@ pub struct IaLease {
 }
 
 /// What one server granted to an interface (RFC 8415, section 18.2.10.1).
-#[derive(Debug, Drop)]
+#[derive(Drop)]
 pub struct Lease6 {
     /// The interface that holds it.
     pub name: Name,

@@ -28,7 +28,7 @@ use std::alloc::Global;
 use v6_options::{Duid, IaKind};
 
 /// The line that comes next.
-#[derive(Clone, Copy, Debug, PartialEq, Eq)]
+#[derive(Clone, Copy, PartialEq, Eq)]
 pub enum NextLine {
     Version,
     Interface,
@@ -46,7 +46,7 @@ pub enum NextLine {
 }
 
 /// What the lines so far said.
-#[derive(Debug, Drop)]
+#[derive(Drop)]
 pub struct LeaseState {
     pub next: NextLine,
     pub name: Name,

@@ -16,14 +16,14 @@ pub const LONGEST_PREFIX: u8 = 32;
 pub const VALUE_LIMIT: usize = 2048;
 
 /// The value of an option: the bytes of all its instances, end to end (RFC 3396).
-#[derive(Debug, Drop)]
+#[derive(Drop)]
 pub struct Value {
     pub code: u16,
     pub bytes: Vec<u8>,
 }
 
 /// A lease of an IPv4 address (RFC 2131, section 2).
-#[derive(Debug, Drop)]
+#[derive(Drop)]
 pub struct Lease4 {
     /// The interface that holds it.
     pub name: Name,
@@ -44,7 +44,7 @@ pub struct Lease4 {
 }
 
 /// What a lease says in numbers: `Lease4` without its name and its values.
-#[derive(Clone, Copy, Debug, PartialEq, Eq)]
+#[derive(Clone, Copy, PartialEq, Eq)]
 pub struct Terms4 {
     pub net: Net4,
     pub server: Ip4,

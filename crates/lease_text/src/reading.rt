@@ -28,7 +28,7 @@ const SECONDS_LIMIT: u64 = 0x1_0000_0000;
 const CODE_LIMIT: u64 = 256;
 
 /// A line that says a term of a lease.
-#[derive(Clone, Copy, Debug, PartialEq, Eq)]
+#[derive(Clone, Copy, PartialEq, Eq)]
 pub enum TermLine {
     Address,
     Server,
@@ -40,7 +40,7 @@ pub enum TermLine {
 }
 
 /// The line that comes next.
-#[derive(Clone, Copy, Debug, PartialEq, Eq)]
+#[derive(Clone, Copy, PartialEq, Eq)]
 pub enum LeaseLine {
     Version,
     Interface,
@@ -52,7 +52,7 @@ pub enum LeaseLine {
 }
 
 /// What the lines so far said.
-#[derive(Debug, Drop)]
+#[derive(Drop)]
 pub struct LeaseState {
     pub next: LeaseLine,
     pub name: Name,

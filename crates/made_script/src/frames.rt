@@ -31,7 +31,7 @@ pub(crate) const LEASE: u32 = 3600;
 pub(crate) const SALT: u64 = 0;
 
 /// A message to an interface.
-#[derive(Clone, Copy, Debug, PartialEq, Eq)]
+#[derive(Clone, Copy, PartialEq, Eq)]
 pub(crate) struct ReplyTo {
     pub(crate) index: u8,
     pub(crate) kind: ReplyKind,

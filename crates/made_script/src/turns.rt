@@ -20,7 +20,7 @@ pub(crate) const FIRST_TURN: u64 = 1;
 pub(crate) const ROUND: u64 = 1_800_200;
 
 /// A message to each interface, a millisecond after the one before.
-#[derive(Clone, Copy, Debug, PartialEq, Eq)]
+#[derive(Clone, Copy, PartialEq, Eq)]
 pub(crate) struct Wave {
     pub(crate) kind: ReplyKind,
     /// The message to interface `i` comes `i` milliseconds after this moment.

@@ -11,7 +11,7 @@ use crate::fault::NoMemory;
 use std::alloc::{AllocError, AllocFailed, Global};
 
 /// Why a step was not made.
-#[derive(Clone, Copy, Debug, PartialEq, Eq)]
+#[derive(Clone, Copy, PartialEq, Eq)]
 pub enum LineFault<C> {
     /// The line may not stand there, or the text may not end there.
     Bad(C),

@@ -34,7 +34,7 @@ impl<'a> Model for OptionIndex<'a> {
 }
 
 /// The value of a code as it lies in the message.
-#[derive(Clone, Copy, Debug)]
+#[derive(Clone, Copy)]
 pub enum Found<'a> {
     /// The code has no instance.
     Absent,

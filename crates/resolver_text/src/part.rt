@@ -1,21 +1,21 @@
 use net_types::{IfIndex, Ip4, Ip6, Name};
 
 /// The protocol that a part comes from.
-#[derive(Clone, Copy, Debug, PartialEq, Eq)]
+#[derive(Clone, Copy, PartialEq, Eq)]
 pub enum Family {
     V4,
     V6,
 }
 
 /// The address of a name server.
-#[derive(Clone, Copy, Debug, PartialEq, Eq)]
+#[derive(Clone, Copy, PartialEq, Eq)]
 pub enum Server {
     V4(Ip4),
     V6(Ip6),
 }
 
 /// What one lease says of name servers and of names.
-#[derive(Debug, Drop)]
+#[derive(Drop)]
 pub struct Part {
     /// The metric of the interface's routes: parts of a lower one come first.
     pub metric: u32,

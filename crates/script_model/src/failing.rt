@@ -1,5 +1,5 @@
 /// A device some of whose calls a script lets fail.
-#[derive(Clone, Copy, Debug, PartialEq, Eq)]
+#[derive(Clone, Copy, PartialEq, Eq)]
 pub enum FailDevice {
     /// The link: the frames that it is offered.
     Link,
@@ -12,7 +12,7 @@ pub enum FailDevice {
 }
 
 /// Which call fails: the `number`-th of the device, from 1.
-#[derive(Clone, Copy, Debug, PartialEq, Eq)]
+#[derive(Clone, Copy, PartialEq, Eq)]
 pub struct FailLine {
     pub device: FailDevice,
     pub number: u64,

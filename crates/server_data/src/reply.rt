@@ -3,7 +3,7 @@
 use net_types::{Ip4, Mac};
 
 /// The messages that a server says to a client that asks for an address (RFC 2131, section 3.1).
-#[derive(Clone, Copy, Debug, PartialEq, Eq)]
+#[derive(Clone, Copy, PartialEq, Eq)]
 pub enum ReplyKind {
     /// An address is offered.
     Offer,
@@ -14,7 +14,7 @@ pub enum ReplyKind {
 }
 
 /// A message of a server.
-#[derive(Clone, Copy, Debug, PartialEq, Eq)]
+#[derive(Clone, Copy, PartialEq, Eq)]
 pub struct Reply {
     pub kind: ReplyKind,
     /// The hardware address of the client.

@@ -3,7 +3,7 @@ use net_types::{IfIndex, IfSpec, Net};
 use world::{Begin, Event, HostRow, Poll, Reason};
 
 /// What reading a file of the store gave.
-#[derive(Clone, Copy, Debug)]
+#[derive(Clone, Copy)]
 pub enum Reading<'a> {
     /// Its bytes.
     Found(&'a [u8]),
@@ -14,7 +14,7 @@ pub enum Reading<'a> {
 }
 
 /// One line of a transcript. `done` tells whether what the line names was done.
-#[derive(Clone, Copy, Debug)]
+#[derive(Clone, Copy)]
 pub enum TranscriptLine<'a> {
     /// The first line.
     Head,

@@ -26,7 +26,7 @@ pub struct Udp4View<'a> {
 }
 
 /// The ends of a frame that is sent.
-#[derive(Clone, Copy, Debug, PartialEq, Eq)]
+#[derive(Clone, Copy, PartialEq, Eq)]
 pub struct Ends4 {
     pub from_mac: Mac,
     pub to_mac: Mac,

@@ -25,7 +25,7 @@ pub struct Udp6View<'a> {
 }
 
 /// The ends of a frame that is sent.
-#[derive(Clone, Copy, Debug, PartialEq, Eq)]
+#[derive(Clone, Copy, PartialEq, Eq)]
 pub struct Ends6 {
     pub from_mac: Mac,
     pub to_mac: Mac,

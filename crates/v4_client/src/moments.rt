@@ -25,7 +25,7 @@ pub const SECS_LIMIT: u64 = 0xffff;
 
 /// How long an answer is waited for: it doubles each time that a message is said again, up to a minute and more
 /// (RFC 2131, section 4.1).
-#[derive(Clone, Copy, Debug, PartialEq, Eq)]
+#[derive(Clone, Copy, PartialEq, Eq)]
 pub enum Backoff {
     Four,
     Eight,

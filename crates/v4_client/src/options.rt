@@ -18,7 +18,7 @@ use std::alloc::Global;
 use v4_options::{OptionView, code, pieces_of, value};
 
 /// The renewal and rebinding times of a lease (T1 and T2), in seconds from its start.
-#[derive(Clone, Copy, Debug, PartialEq, Eq)]
+#[derive(Clone, Copy, PartialEq, Eq)]
 pub struct Times4 {
     pub t1: u32,
     pub t2: u32,

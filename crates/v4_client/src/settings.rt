@@ -29,7 +29,7 @@ pub struct Set4 {
 }
 
 /// The settings that the table of states looks at: those of `Set4` that are plain values.
-#[derive(Clone, Copy, Debug, PartialEq, Eq)]
+#[derive(Clone, Copy, PartialEq, Eq)]
 pub struct Site4 {
     pub iface: IfSpec,
     pub nodelay: bool,

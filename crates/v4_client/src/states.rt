@@ -9,7 +9,7 @@ use udp_frame::Ends4;
 use v4_message::Said4;
 
 /// An exchange in which an address is asked for (RFC 2131, section 3.1).
-#[derive(Clone, Copy, Debug, PartialEq, Eq)]
+#[derive(Clone, Copy, PartialEq, Eq)]
 pub struct Exchange4 {
     /// Its transaction id.
     pub xid: u32,
@@ -22,7 +22,7 @@ pub struct Exchange4 {
 }
 
 /// How the exchange of a lease began.
-#[derive(Clone, Copy, Debug, PartialEq, Eq)]
+#[derive(Clone, Copy, PartialEq, Eq)]
 pub enum Origin4 {
     /// By the offer of a server.
     Offered,
@@ -32,7 +32,7 @@ pub enum Origin4 {
 
 /// Where a client stands (RFC 2131, section 4.4). Moments are in milliseconds since 1970; at `due` the message of the state
 /// is said, or said again.
-#[derive(Clone, Copy, Debug, PartialEq, Eq)]
+#[derive(Clone, Copy, PartialEq, Eq)]
 pub enum State4 {
     /// Nothing is done: there is no carrier, or the client was stopped.
     Off,
@@ -116,7 +116,7 @@ pub enum News4 {
 }
 
 /// To whom a message goes.
-#[derive(Clone, Copy, Debug, PartialEq, Eq)]
+#[derive(Clone, Copy, PartialEq, Eq)]
 pub enum To4 {
     Everyone,
     /// The server of the lease.
@@ -124,7 +124,7 @@ pub enum To4 {
 }
 
 /// A message that is to be sent.
-#[derive(Clone, Copy, Debug, PartialEq, Eq)]
+#[derive(Clone, Copy, PartialEq, Eq)]
 pub struct Say4 {
     pub said: Said4,
     pub to: To4,
@@ -132,7 +132,7 @@ pub struct Say4 {
 }
 
 /// What a message says to a client in its state.
-#[derive(Clone, Copy, Debug, PartialEq, Eq)]
+#[derive(Clone, Copy, PartialEq, Eq)]
 pub enum Answer4 {
     /// Nothing: it isn't acceptable there.
     Nothing,
@@ -145,7 +145,7 @@ pub enum Answer4 {
 }
 
 /// What becomes of the kept lease.
-#[derive(Clone, Copy, Debug, PartialEq, Eq)]
+#[derive(Clone, Copy, PartialEq, Eq)]
 pub enum Keep4 {
     /// It stays as it is.
     Stays,
@@ -157,7 +157,7 @@ pub enum Keep4 {
 
 /// A step of the table: where the client stands after it, the transaction id of its last exchange, what becomes of the
 /// kept lease, and what is said.
-#[derive(Clone, Copy, Debug, PartialEq, Eq)]
+#[derive(Clone, Copy, PartialEq, Eq)]
 pub struct Step4 {
     pub state: State4,
     pub last: Option<u32>,
@@ -168,7 +168,7 @@ pub struct Step4 {
 }
 
 /// Whether the server is told that a lease isn't used any more.
-#[derive(Clone, Copy, Debug, PartialEq, Eq)]
+#[derive(Clone, Copy, PartialEq, Eq)]
 pub enum Tell {
     /// By a RELEASE, and the lease isn't kept.
     Server,
@@ -177,7 +177,7 @@ pub enum Tell {
 }
 
 /// Whether the interface has a carrier.
-#[derive(Clone, Copy, Debug, PartialEq, Eq)]
+#[derive(Clone, Copy, PartialEq, Eq)]
 pub enum Carrier {
     Up,
     Down,
@@ -185,7 +185,7 @@ pub enum Carrier {
 
 /// What a row of the table looks at beside the state: the settings, the transaction id of the last exchange, the moment, and
 /// the salt of the turn.
-#[derive(Clone, Copy, Debug, PartialEq, Eq)]
+#[derive(Clone, Copy, PartialEq, Eq)]
 pub struct Turn4 {
     pub site: Site4,
     pub last: Option<u32>,

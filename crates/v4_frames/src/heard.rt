@@ -13,7 +13,7 @@ use udp_frame::{KIND_IPV4, Udp4View, udp4_of};
 use v4_message::{Msg4, read4};
 
 /// A server's message, and the hardware address that it came from.
-#[derive(Clone, Copy, Debug)]
+#[derive(Clone, Copy)]
 pub struct Heard4<'a> {
     pub source: Mac,
     pub message: Msg4<'a>,

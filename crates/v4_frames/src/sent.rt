@@ -19,7 +19,7 @@ pub const SERVER_PORT: u16 = 67;
 pub const EVERY_MAC: Mac = Mac { bytes: [0xff; 6] };
 
 /// A message, and the ends between which it goes.
-#[derive(Clone, Copy, Debug, PartialEq, Eq)]
+#[derive(Clone, Copy, PartialEq, Eq)]
 pub struct Sent4 {
     pub ends: Ends4,
     pub said: Said4,

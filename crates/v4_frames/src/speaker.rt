@@ -11,7 +11,7 @@ use v4_message::{Kind4, Said4};
 pub const BROADCAST_FLAG: u16 = 0x8000;
 
 /// A client, as its messages show it.
-#[derive(Clone, Copy, Debug, PartialEq, Eq)]
+#[derive(Clone, Copy, PartialEq, Eq)]
 pub struct Speaker {
     /// The hardware address of its interface.
     pub mac: Mac,

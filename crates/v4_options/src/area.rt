@@ -11,7 +11,7 @@ use crate::overload::{BOTH, FILE, Overload, SNAME};
 use crate::view::Malformed;
 
 /// What stands at the front of an area (RFC 2132, section 2).
-#[derive(Clone, Copy, Debug)]
+#[derive(Clone, Copy)]
 pub enum Front {
     /// A byte of padding.
     Pad,

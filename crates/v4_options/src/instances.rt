@@ -15,7 +15,7 @@ use net_types::{Ip4, NoMemory};
 use std::alloc::{AllocError, Global};
 
 /// The values of one code's instances that are left of a walk over the areas.
-#[derive(Clone, Copy, Debug)]
+#[derive(Clone, Copy)]
 pub struct Pieces<'a> {
     code: u8,
     options: &'a [u8],

@@ -12,7 +12,7 @@ use std::alloc::{AllocError, Global};
 const ADDRESS_LEN: usize = 4;
 
 /// A route to a network by a gateway. A gateway of 0 says that the network is on the link.
-#[derive(Clone, Copy, Debug, PartialEq, Eq)]
+#[derive(Clone, Copy, PartialEq, Eq)]
 pub struct ClasslessRoute {
     pub dest: Net4,
     pub via: Ip4,

@@ -8,7 +8,7 @@ use crate::area::check_area;
 use crate::overload::Overload;
 
 /// The three fields of a message that can hold options (RFC 2131, section 2).
-#[derive(Clone, Copy, Debug)]
+#[derive(Clone, Copy)]
 pub struct Areas<'a> {
     pub options: &'a [u8],
     pub file: &'a [u8],
@@ -22,7 +22,7 @@ pub struct Malformed {
 }
 
 /// The options of a message. `overload` tells which areas hold options beside the first (RFC 2132, section 9.3).
-#[derive(Clone, Copy, Debug)]
+#[derive(Clone, Copy)]
 pub struct OptionView<'a> {
     pub areas: Areas<'a>,
     pub overload: Overload,

@@ -13,7 +13,7 @@ use v6_retrans::{Parameters, Retrans, draw_rand};
 pub const LONGEST_TIME: u64 = 0xffff_ffff;
 
 /// A message that was said and awaits its answer.
-#[derive(Clone, Copy, Debug, PartialEq, Eq)]
+#[derive(Clone, Copy, PartialEq, Eq)]
 pub struct Exchange6 {
     /// Its transaction id, below 2^24.
     pub xid: u32,

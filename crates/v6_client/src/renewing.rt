@@ -11,7 +11,7 @@ use crate::times::{FOREVER, LEAST_TIME, SECOND, T1_PART, T2_PART, earlier};
 use v6_options::IaView;
 
 /// The times until items are renewed and rebound, in milliseconds; None is never.
-#[derive(Clone, Copy, Debug, PartialEq, Eq)]
+#[derive(Clone, Copy, PartialEq, Eq)]
 pub struct Spans6 {
     pub t1: Option<u64>,
     pub t2: Option<u64>,

@@ -4,7 +4,7 @@ use net_types::IfSpec;
 use v6_options::{Duid, IaKind};
 
 /// An IA that is asked for (RFC 8415, section 12).
-#[derive(Clone, Copy, Debug, PartialEq, Eq)]
+#[derive(Clone, Copy, PartialEq, Eq)]
 pub struct IaAsk {
     pub kind: IaKind,
     pub iaid: u32,
@@ -28,7 +28,7 @@ pub struct Set6 {
 }
 
 /// The settings that the table of states looks at: those of `Set6` that are plain values.
-#[derive(Clone, Copy, Debug, PartialEq, Eq)]
+#[derive(Clone, Copy, PartialEq, Eq)]
 pub struct Site6 {
     pub iface: IfSpec,
     pub nodelay: bool,

@@ -5,7 +5,7 @@ use net_types::Ip6;
 use v6_message::Kind6;
 
 /// Where a client stands (RFC 8415, section 18.2). Moments are in milliseconds since 1970.
-#[derive(Clone, Copy, Debug, PartialEq, Eq)]
+#[derive(Clone, Copy, PartialEq, Eq)]
 pub enum State6 {
     /// Nothing is done: there is no carrier, or the client was stopped.
     Off,
@@ -65,7 +65,7 @@ pub enum News6 {
 }
 
 /// A message that is to be sent, without the IAs that it names.
-#[derive(Clone, Copy, Debug, PartialEq, Eq)]
+#[derive(Clone, Copy, PartialEq, Eq)]
 pub struct Say6 {
     pub kind: Kind6,
     pub xid: u32,
@@ -74,7 +74,7 @@ pub struct Say6 {
 }
 
 /// What a message that was judged says to a client in its state.
-#[derive(Clone, Copy, Debug, PartialEq, Eq)]
+#[derive(Clone, Copy, PartialEq, Eq)]
 pub enum Answer6 {
     /// Nothing: it isn't waited for there.
     Nothing,
@@ -89,7 +89,7 @@ pub enum Answer6 {
 }
 
 /// Which items of the kept lease are the client's own.
-#[derive(Clone, Copy, Debug, PartialEq, Eq)]
+#[derive(Clone, Copy, PartialEq, Eq)]
 pub enum Scope6 {
     /// None: others are asked for, or nothing is.
     Nothing,
@@ -100,7 +100,7 @@ pub enum Scope6 {
 }
 
 /// Why items go.
-#[derive(Clone, Copy, Debug, PartialEq, Eq)]
+#[derive(Clone, Copy, PartialEq, Eq)]
 pub enum Cause6 {
     /// Their valid lifetime is over at this moment.
     Lapse(u64),
@@ -109,7 +109,7 @@ pub enum Cause6 {
 }
 
 /// Whether some of the client's items go, and whether some stay.
-#[derive(Clone, Copy, Debug, PartialEq, Eq)]
+#[derive(Clone, Copy, PartialEq, Eq)]
 pub struct Parting6 {
     pub goes: bool,
     pub stays: bool,
@@ -117,7 +117,7 @@ pub struct Parting6 {
 
 /// The moments of the client's items: when they are renewed, when they are rebound, and when the first of them isn't valid any
 /// more.
-#[derive(Clone, Copy, Debug, PartialEq, Eq)]
+#[derive(Clone, Copy, PartialEq, Eq)]
 pub struct Dates6 {
     pub t1: Option<u64>,
     pub t2: Option<u64>,
@@ -125,7 +125,7 @@ pub struct Dates6 {
 }
 
 /// What becomes of the kept lease.
-#[derive(Clone, Copy, Debug, PartialEq, Eq)]
+#[derive(Clone, Copy, PartialEq, Eq)]
 pub enum Keep6 {
     /// It stays as it is.
     Stays,
@@ -137,7 +137,7 @@ pub enum Keep6 {
 
 /// A step of the table: where the client stands after it, the transaction id of its last exchange, what becomes of the
 /// kept lease, and what is said.
-#[derive(Clone, Copy, Debug, PartialEq, Eq)]
+#[derive(Clone, Copy, PartialEq, Eq)]
 pub struct Step6 {
     pub state: State6,
     pub last: Option<u32>,
@@ -147,7 +147,7 @@ pub struct Step6 {
 }
 
 /// Whether the server is told that its items aren't used any more.
-#[derive(Clone, Copy, Debug, PartialEq, Eq)]
+#[derive(Clone, Copy, PartialEq, Eq)]
 pub enum Tell6 {
     /// By a RELEASE, and the lease isn't kept.
     Server,
@@ -156,7 +156,7 @@ pub enum Tell6 {
 }
 
 /// Whether the interface has a carrier.
-#[derive(Clone, Copy, Debug, PartialEq, Eq)]
+#[derive(Clone, Copy, PartialEq, Eq)]
 pub enum Carrier6 {
     Up,
     Down,

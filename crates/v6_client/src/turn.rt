@@ -4,7 +4,7 @@ use crate::settings::Site6;
 
 /// The settings, the transaction id of the last exchange, the longest time between two SOLICITs in milliseconds, the moment,
 /// and the salt of the turn.
-#[derive(Clone, Copy, Debug, PartialEq, Eq)]
+#[derive(Clone, Copy, PartialEq, Eq)]
 pub struct Turn6 {
     pub site: Site6,
     pub last: Option<u32>,

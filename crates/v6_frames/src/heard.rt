@@ -15,7 +15,7 @@ use udp_frame::{KIND_IPV6, Udp6View, link_local_of, udp6_of};
 use v6_message::{Msg6, read6};
 
 /// A server's message, and the hardware address that it came from.
-#[derive(Clone, Copy, Debug)]
+#[derive(Clone, Copy)]
 pub struct Heard6<'a> {
     pub source: Mac,
     pub message: Msg6<'a>,

@@ -8,7 +8,7 @@ use net_types::NoMemory;
 use std::alloc::Global;
 
 /// A DUID: 2 to 130 bytes, of which the first two tell its type (RFC 8415, section 11.1).
-#[derive(Debug, Drop)]
+#[derive(Drop)]
 pub struct Duid {
     bytes: Vec<u8>,
     ghost least: { 2 ≤ length bytes.items },

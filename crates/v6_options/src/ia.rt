@@ -13,7 +13,7 @@ pub enum IaKind {
 }
 
 /// An address, as a net of length 128, or a prefix. The lifetimes are seconds; all ones stand for ever.
-#[derive(Clone, Copy, Debug, PartialEq, Eq)]
+#[derive(Clone, Copy, PartialEq, Eq)]
 pub struct ItemSaid {
     pub net: Net6,
     pub preferred: u32,
@@ -21,7 +21,7 @@ pub struct ItemSaid {
 }
 
 /// An IA as a server says it. T1 and T2 are seconds; all ones stand for ever, and 0 leaves the choice to the client.
-#[derive(Debug, Drop)]
+#[derive(Drop)]
 pub struct IaSaid {
     pub kind: IaKind,
     pub iaid: u32,

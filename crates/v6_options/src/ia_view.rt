@@ -21,7 +21,7 @@ use net_types::{Ip6, Net6, NoMemory};
 use std::alloc::{AllocError, Global};
 
 /// An IA and the options that it holds.
-#[derive(Clone, Copy, Debug)]
+#[derive(Clone, Copy)]
 pub struct IaView<'a> {
     pub kind: IaKind,
     pub iaid: u32,
@@ -31,13 +31,13 @@ pub struct IaView<'a> {
 }
 
 /// The IAs that are left of a walk over options.
-#[derive(Clone, Copy, Debug)]
+#[derive(Clone, Copy)]
 pub struct IaViews<'a> {
     rest: &'a [u8],
 }
 
 /// The addresses or prefixes that are left of a walk over an IA.
-#[derive(Clone, Copy, Debug)]
+#[derive(Clone, Copy)]
 pub struct Items<'a> {
     kind: IaKind,
     rest: &'a [u8],

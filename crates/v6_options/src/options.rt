@@ -10,14 +10,14 @@ use crate::area::{Front, read_front};
 use crate::layout::HEADER_LEN;
 
 /// An option: its code and its value.
-#[derive(Clone, Copy, Debug)]
+#[derive(Clone, Copy)]
 pub struct OptionView<'a> {
     pub code: u16,
     pub value: &'a [u8],
 }
 
 /// The options of an area that are left of a walk, without those that they hold.
-#[derive(Clone, Copy, Debug)]
+#[derive(Clone, Copy)]
 pub struct Options<'a> {
     rest: &'a [u8],
 }

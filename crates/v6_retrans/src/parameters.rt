@@ -34,7 +34,7 @@ pub const DEC_TIMEOUT: u64 = 1_000;
 pub const DEC_MAX_RC: u32 = 4;
 
 /// What controls the retransmission of a message (RFC 8415, section 15). As there, 0 stands for no limit.
-#[derive(Clone, Copy, Debug, PartialEq, Eq)]
+#[derive(Clone, Copy, PartialEq, Eq)]
 pub struct Parameters {
     /// IRT, the time after the first message.
     pub irt: u64,

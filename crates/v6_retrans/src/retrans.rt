@@ -4,7 +4,7 @@ ghost use Rattle.v6_retrans.specs.Retransmission as times;
 use crate::parameters::Parameters;
 
 /// A message that was said and awaits its answer.
-#[derive(Clone, Copy, Debug, PartialEq, Eq)]
+#[derive(Clone, Copy, PartialEq, Eq)]
 pub struct Retrans {
     /// RT: the time until the message is said again.
     pub rt: u64,

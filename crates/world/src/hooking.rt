@@ -8,7 +8,7 @@ use net_types::{Failed, IfIndex};
 use std::alloc::{AllocError, Global};
 
 /// A variable of a hook's environment.
-#[derive(Debug, Drop)]
+#[derive(Drop)]
 pub struct HookVar {
     pub name: String,
     pub value: String,
@@ -34,7 +34,7 @@ pub fn add_variables(into: &mut Vec<HookVar>, variables: &[HookVar]) -> Result<(
 }
 
 /// One run of a hook script.
-#[derive(Debug, Drop)]
+#[derive(Drop)]
 pub struct HookJob {
     /// From 1 in each life; 0 before the job has its number.
     pub number: u64,

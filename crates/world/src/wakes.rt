@@ -1,7 +1,7 @@
 use net_types::Ip6;
 
 /// How a life of the daemon begins.
-#[derive(Clone, Copy, Debug, PartialEq, Eq)]
+#[derive(Clone, Copy, PartialEq, Eq)]
 pub struct Begin {
     /// The opening moment, in milliseconds since 1970.
     pub at: u64,
@@ -33,7 +33,7 @@ pub enum Event {
 }
 
 /// A moment at which the daemon goes on, and why.
-#[derive(Clone, Copy, Debug, PartialEq, Eq)]
+#[derive(Clone, Copy, PartialEq, Eq)]
 pub struct Wake {
     /// Milliseconds since 1970.
     pub at: u64,

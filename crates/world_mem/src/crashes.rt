@@ -1,5 +1,5 @@
 /// What a crash leaves of a store.
-#[derive(Clone, Copy, Debug, PartialEq, Eq)]
+#[derive(Clone, Copy, PartialEq, Eq)]
 pub enum Pick {
     /// All renames and removals that aren't settled are undone, and asides that weren't synced are empty.
     Old,

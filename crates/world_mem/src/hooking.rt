@@ -9,7 +9,7 @@ use std::marker::Model;
 use world::{DeviceAnswer, HookJob, HookVar, Hooks, Poll};
 
 /// What a poll is to answer.
-#[derive(Clone, Copy, Debug, PartialEq, Eq)]
+#[derive(Clone, Copy, PartialEq, Eq)]
 pub enum MemPoll {
     /// The child still runs.
     Run,
