@@ -19,10 +19,9 @@ use crate::lease::{IaLease, Lease6};
 use crate::parts::{
     ia_of, item_of, item_word, may_begin, may_join, moment_of, server_of, value_of,
 };
-use lease_text::Value;
+use lease_text::{LeaseFault, Value};
 use net_types::{
-    BadText, LineFault, LineState, Name, NoMemory, TextFault, end_of, name_of, read_lines,
-    strip_word,
+    BadText, LineFault, LineState, Name, NoMemory, end_of, name_of, read_lines, strip_word,
 };
 use std::alloc::Global;
 use v6_options::{Duid, IaKind};
@@ -378,7 +377,7 @@ impl LineState for LeaseState {
 }
 
 /// The lease that the text spells, or its first bad line. Exactly the texts of leases within the bounds are read.
-pub fn read_lease6(alloc: Global, text: &[u8]) -> Result<Lease6, TextFault<BadText>>
+pub fn read_lease6(alloc: Global, text: &[u8]) -> Result<Lease6, LeaseFault>
     ensures found { IfOk result (λ lease. IsSpelled SpellsLease6 text.now (lease6_content lease)) }
     ensures bad { IfErr result (λ fault. FirstFault SpellsLease6 AnyCause text.now fault) }
 {

@@ -19,5 +19,5 @@ pub use lease::{
     copied_values, is_host_address,
 };
 pub use printing::{append_values, print4};
-pub use reading::read_lease4;
+pub use reading::{LeaseFault, read_lease4};
 pub use typed::lease_is_typed;

@@ -356,8 +356,11 @@ impl LineState for LeaseState {
     }
 }
 
+/// Why a text is no lease: its first bad line, or want of memory.
+pub type LeaseFault = TextFault<BadText>;
+
 /// The lease that the text spells, or its first bad line. Exactly the texts of leases within the bounds are read.
-pub fn read_lease4(alloc: Global, text: &[u8]) -> Result<Lease4, TextFault<BadText>>
+pub fn read_lease4(alloc: Global, text: &[u8]) -> Result<Lease4, LeaseFault>
     ensures found { IfOk result (λ lease. IsSpelled SpellsLease4 text.now (lease_content lease)) }
     ensures bad { IfErr result (λ fault. FirstFault SpellsLease4 AnyCause text.now fault) }
 {
