@@ -1,11 +1,9 @@
 -- Words ask for one thing.
-use Rattle.std.proofs.Common.{ℕ, ◌≡◌, false, true, List, [], ◌∷◌, Option, None, codes, refl, sym, ap, subst, ⊎_elim, ◌∙◌}
+use Rattle.std.proofs.Common.{ℕ, ◌≡◌, false, true, List, [], ◌∷◌, codes, refl, sym, ap, ⊎_elim, ◌∙◌}
 use Rattle.std.specs.Prelude.{bytes_eq}
 use Rattle.net_types.specs.declared.interface.IfSpec.{IfSpec}
 use Rattle.live_words.specs.LiveWords.{AsksLive}
-use Rattle.dhcpcd.specs.declared.words.Work.{Work}
-use Rattle.dhcpcd.specs.Asked.{AsksFor}
-use Rattle.dhcpcd.specs.Words.{AskReplay, AskCheck, AskLive, AskMake, AsksMake}
+use Rattle.dhcpcd.specs.Words.{AskReplay, AskCheck, AskLive, AskMake, AsksMake, AskWork}
 
 first_word : List (List ℕ) → List ℕ
 first_word [] = []
@@ -46,6 +44,5 @@ not_live_make words live make = apart words (codes "live") (codes "make") refl r
 pub ruleset asked_apart = (not_both, not_replay_live, not_check_live, not_replay_make, not_check_make, not_live_make)
 
 -- words that ask for no work
-pub none_asked : (words : List (List ℕ)) (result : Option Work) → result ≡ None → (AskReplay words → ⊥) → (AskCheck words → ⊥) → ((rounds : ℕ) → AsksMake words rounds → ⊥) → ((specs : List IfSpec) → AsksLive words specs → ⊥) → AsksFor words result
-none_asked words result none replay check make live =
-    subst (AsksFor words) (sym none) (λ asks. ⊎_elim replay (λ more. ⊎_elim check (λ others. ⊎_elim (λ asked. live asked.0 asked.1) (λ asked. make asked.0 asked.1) others) more) asks)
+pub none_asked : (words : List (List ℕ)) → (AskReplay words → ⊥) → (AskCheck words → ⊥) → ((rounds : ℕ) → AsksMake words rounds → ⊥) → ((specs : List IfSpec) → AsksLive words specs → ⊥) → AskWork words → ⊥
+none_asked words replay check make live asks = ⊎_elim replay (λ more. ⊎_elim check (λ others. ⊎_elim (λ asked. live asked.0 asked.1) (λ asked. make asked.0 asked.1) others) more) asks

@@ -1,7 +1,9 @@
 -- What the words of the program ask for.
 use Rattle.std.specs.Prelude.{ℕ, ◌≡◌, ◌≤◌, ◌⊎◌, List, [], ◌∷◌, codes, decimal}
 use Rattle.net_types.specs.declared.interface.IfSpec.{IfSpec}
-use Rattle.live_words.specs.LiveWords.{AsksLive}
+use Rattle.live_words.specs.LiveWords.{AsksLive, BeginsLive}
+use Rattle.dhcpcd.specs.declared.status.Status.{Status}
+use Rattle.dhcpcd.specs.declared.status.Status.TheVariants as status
 
 -- the words are `replay` alone
 abbrev pub AskReplay : List (List ℕ) → Type 0
@@ -27,3 +29,9 @@ AskMake words = (rounds : ℕ) × AsksMake words rounds
 -- the words are of one of these forms
 abbrev pub AskWork : List (List ℕ) → Type 0
 AskWork words = AskReplay words ⊎ (AskCheck words ⊎ (AskLive words ⊎ AskMake words))
+
+-- what words of none of these forms are answered; only those that begin with `live` may want memory
+abbrev pub IsUsage : List (List ℕ) → Status → Type 0
+IsUsage words status.Usage = Unit {0}
+IsUsage words status.NoMemory = BeginsLive words
+IsUsage words other = ⊥

@@ -6,7 +6,7 @@ ghost use Rattle.dhcpcd.specs.Input.{ReadsWithin, input_told};
 ghost use Rattle.dhcpcd.specs.Living.{IsAnsweredLive, CompletesLife, HasLinkCause, around};
 ghost use Rattle.dhcpcd.specs.Statuses.{HasStatusCause, IsAnswer, Completes};
 ghost use Rattle.dhcpcd.specs.Making.{IsMadeAnswer};
-ghost use Rattle.dhcpcd.specs.Words.{AskCheck, AskReplay, AskLive, AskMake, AsksMake, AskWork};
+ghost use Rattle.dhcpcd.specs.Words.{AskCheck, AskReplay, AskLive, AskMake, AsksMake, AskWork, IsUsage};
 
 use crate::checking::check;
 use crate::living::live;
@@ -16,14 +16,14 @@ use crate::status::Status;
 use crate::words::{Work, work_of};
 use daemon::Outside;
 use std::alloc::Global;
-use world::{Sink, Source};
+use world::{NoMemory, Sink, Source};
 
 /// Does what the words after the program's name ask for. `replay` reads a script of at most 16,777,216 bytes from the input,
 /// and writes its transcript. `check` reads a configuration as long, and writes its notices and `ok`. `live` reads such a configuration
 /// and lives one life over the devices, for at most so many wakes, and writes its transcript. `make` lives a script of its own in
 /// memory, for so many rounds, and writes how many lines of each kind its transcript has; it reads nothing. Other words are
-/// `Usage`, and touch nothing. Where the input can't be read, is too long or is refused, nothing is written and no device is asked; after
-/// another end a front of the output stands written. No hook's child may run yet.
+/// `Usage`, or `NoMemory` where they begin with `live`, and touch nothing. Where the input can't be read, is too long or is refused,
+/// nothing is written and no device is asked; after another end a front of the output stands written. No hook's child may run yet.
 #[tactic(auto, using(crate::proofs::AskedApart::asked_apart, crate::proofs::MakeAnswers::make_beside))]
 pub fn run<I: Source, O: Sink, W: Outside>(
     alloc: Global,
@@ -40,7 +40,8 @@ pub fn run<I: Source, O: Sink, W: Outside>(
         → IsAnsweredLive (map string_bytes words.now) result turns (I.left input.old)
         (around (O.written out.old) (O.written out.new) (W.seen devices.old) (W.seen devices.new)) }
     ensures made { (rounds : ℕ) → AsksMake (map string_bytes words.now) rounds → IsMadeAnswer result rounds (O.written out.old) (O.written out.new) }
-    ensures usage { (AskWork (map string_bytes words.now) → ⊥) → result ≡ Status.Usage }
+    ensures usage { (AskWork (map string_bytes words.now) → ⊥) → IsUsage (map string_bytes words.now) result }
+    ensures formless { result ≡ Status.Usage → AskWork (map string_bytes words.now) → ⊥ }
     ensures unread { (AskWork (map string_bytes words.now) → ⊥) → (I.reads input.new ≡ I.reads input.old) × (I.left input.new ≡ I.left input.old) }
     ensures make_unread { AskMake (map string_bytes words.now) → (I.reads input.new ≡ I.reads input.old) × (I.left input.new ≡ I.left input.old) }
     ensures unwritten { (AskWork (map string_bytes words.now) → ⊥) → O.written out.new ≡ O.written out.old }
@@ -70,11 +71,12 @@ pub fn run<I: Source, O: Sink, W: Outside>(
         (input_told (I.left input.old) (I.taken input.old) (I.reads input.old))
         (input_told (I.left input.new) (I.taken input.new) (I.reads input.new)) }
 {
-    match work_of(words) {
-        Some(Work::Replay) => replay(alloc, input, out),
-        Some(Work::Check) => check(alloc, input, out),
-        Some(Work::Live(specs)) => live(alloc, specs.as_slice(), input, out, devices, turns),
-        Some(Work::Make(rounds)) => make(alloc, rounds, out),
-        None => Status::Usage,
+    match work_of(alloc, words) {
+        Ok(Some(Work::Replay)) => replay(alloc, input, out),
+        Ok(Some(Work::Check)) => check(alloc, input, out),
+        Ok(Some(Work::Live(specs))) => live(alloc, specs.as_slice(), input, out, devices, turns),
+        Ok(Some(Work::Make(rounds))) => make(alloc, rounds, out),
+        Ok(None) => Status::Usage,
+        Err(NoMemory) => Status::NoMemory,
     }
 }

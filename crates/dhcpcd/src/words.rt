@@ -1,12 +1,15 @@
 //! What the words after the program's name ask for.
-ghost use Rattle.std.specs.Prelude.{◌≡◌, [], ◌∷◌, true, map};
+ghost use Rattle.std.specs.Prelude.{◌≡◌, [], ◌∷◌, true, map, IfOk, IfErr};
 ghost use Rattle.std.specs.String.{string_bytes};
+ghost use Rattle.live_words.specs.LiveWords.{BeginsLive, IsLiveRead};
 ghost use Rattle.dhcpcd.specs.Asked.{AsksFor};
 ghost use Rattle.dhcpcd.specs.MakeReading.{IsMakeRead, make_at, rounds_at};
 
-use live_words::{Interfaces, live_words};
+use live_words::{Interfaces, LiveWords, read_live};
 use made_script::MOST_ROUNDS;
 use net_types::number_of;
+use std::alloc::Global;
+use world::NoMemory;
 
 /// A work of the top call.
 #[derive(Drop)]
@@ -74,18 +77,33 @@ fn make_rounds(words: &[String]) -> Option<u64>
     make_of(words)
 }
 
-/// The work that words ask for.
-pub fn work_of(words: &[String]) -> Option<Work>
-    ensures { AsksFor (map string_bytes words.now) result }
+/// The interfaces that the words of `live` name, or none where the words aren't of its form.
+fn live_interfaces(alloc: Global, words: &[String]) -> Result<Option<Interfaces>, NoMemory>
+    ensures read { IfOk result (IsLiveRead (map string_bytes words.now)) }
+    ensures wants { IfErr result (λ _. BeginsLive (map string_bytes words.now)) }
+{
+    match read_live(alloc, words)? {
+        Some(LiveWords { interfaces, .. }) => Ok(Some(interfaces)),
+        None => Ok(None),
+    }
+}
+
+/// The work that words ask for. Only words that begin with `live` may want memory.
+pub fn work_of(alloc: Global, words: &[String]) -> Result<Option<Work>, NoMemory>
+    ensures asked { IfOk result (AsksFor (map string_bytes words.now)) }
+    ensures wants { IfErr result (λ _. BeginsLive (map string_bytes words.now)) }
 {
     if is_alone(words, "replay") {
-        return Some(Work::Replay);
+        return Ok(Some(Work::Replay));
     }
     if is_alone(words, "check") {
-        return Some(Work::Check);
+        return Ok(Some(Work::Check));
     }
     if let Some(rounds) = make_rounds(words) {
-        return Some(Work::Make(rounds));
+        return Ok(Some(Work::Make(rounds)));
     }
-    Some(Work::Live(live_words(words)?))
+    match live_interfaces(alloc, words)? {
+        Some(interfaces) => Ok(Some(Work::Live(interfaces))),
+        None => Ok(None),
+    }
 }

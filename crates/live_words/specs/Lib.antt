@@ -1,2 +1,3 @@
 pub mod LiveWords
+pub mod LiveCommand
 pub mod LiveReading

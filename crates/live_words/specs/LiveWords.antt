@@ -4,6 +4,7 @@ use Rattle.net_types.specs.declared.interface.IfSpec.{IfSpec}
 use Rattle.net_types.specs.AddressText.{mac_text}
 use Rattle.net_types.specs.NameText.{name_text}
 use Rattle.script_model.specs.Scripts.{FitInterfaces}
+use Rattle.live_words.specs.declared.reading.LiveWords.{LiveWords}
 
 -- a port is a decimal number without leading zeros or sign
 abbrev pub IsPort : ℕ → Type 0
@@ -42,3 +43,11 @@ pub record AsksLive (words : List (List ℕ)) (specs : List IfSpec) : Type 0 whe
 abbrev pub IsLiveRead : List (List ℕ) → Option (List IfSpec) → Type 0
 IsLiveRead words (Some specs) = AsksLive words specs
 IsLiveRead words None = (specs : List IfSpec) → AsksLive words specs → ⊥
+
+-- these are the very words
+abbrev pub SaysLive : List (List ℕ) → LiveWords → Type 0
+SaysLive words live =
+    words ≡ codes "live" ∷ decimal live.ports.own ∷ decimal live.ports.peer ∷ live.folder.now ∷ live.script.now ∷ map iface_word live.interfaces
+
+abbrev pub BeginsLive : List (List ℕ) → Type 0
+BeginsLive words = (others : List (List ℕ)) × (words ≡ codes "live" ∷ others)

@@ -1,12 +1,11 @@
 //! The words that name interfaces, read.
 ghost use Rattle.std.specs.Prelude.{◌≡◌, ◌≤◌, length, map, option_map};
-ghost use Rattle.std.specs.String.{string_bytes};
 ghost use Rattle.net_types.specs.Cutting.{field_at};
 ghost use Rattle.net_types.specs.NameText.{name_at};
 ghost use Rattle.live_words.specs.LiveWords.{equals_sign};
 ghost use Rattle.live_words.specs.LiveReading.{named_at, specs_at, ifaces_at};
 
-use crate::listed::{Interfaces, MOST_INTERFACES};
+use crate::listed::Interfaces;
 use iface_lists::all_unlike;
 use net_types::{IfIndex, IfSpec, Mac, Name, mac_of, name_of, split_at_byte};
 
@@ -30,9 +29,9 @@ fn named_of(word: &[u8]) -> Option<(Name, Mac)>
 }
 
 /// The interfaces that the words spell, numbered from 1.
-fn specs_of(words: &[String]) -> Option<Interfaces>
+fn specs_of(words: &[&str]) -> Option<Interfaces>
     requires { length words.now ≤ 64 }
-    ensures { result ≡ specs_at 1 (map string_bytes words.now) }
+    ensures { result ≡ specs_at 1 (map (λ word. word.now) words.now) }
 {
     let mut specs = Interfaces::new();
     let mut number = 1;
@@ -45,14 +44,12 @@ fn specs_of(words: &[String]) -> Option<Interfaces>
     Some(specs)
 }
 
-/// The interfaces that the words spell: 1 to 64 of them, with unlike names and hardware addresses.
+/// The interfaces that the words spell, with unlike names and hardware addresses.
 #[tactic(auto, unfolding(crate::specs::LiveReading::ifaces_at))]
-pub fn ifaces_of(words: &[String]) -> Option<Interfaces>
-    ensures { result ≡ ifaces_at (map string_bytes words.now) }
+pub fn ifaces_of(words: &[&str]) -> Option<Interfaces>
+    requires { length words.now ≤ 64 }
+    ensures { result ≡ ifaces_at (map (λ word. word.now) words.now) }
 {
-    if words.is_empty() || words.len() > MOST_INTERFACES {
-        return None;
-    }
     let specs = specs_of(words)?;
     if all_unlike(specs.as_slice()) {
         Some(specs)

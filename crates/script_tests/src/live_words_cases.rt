@@ -2,13 +2,13 @@ use live_words::*;
 use net_types::{IfIndex, IfSpec, Mac, name_of};
 use std::test::*;
 
-/// What the words name, each parted from the next by a blank.
-fn named(rt: HostRuntime, line: &str) -> Result<Option<Interfaces>, Fail> {
+/// The words of a line, each parted from the next by a blank.
+fn words_of(rt: HostRuntime, line: &str) -> Result<Vec<String>, Fail> {
     let mut words = Vec::new(rt.alloc());
     for word in line.split(' ') {
         words.push(String::from_str(rt.alloc(), word)?)?;
     }
-    Ok(live_words(&words))
+    Ok(words)
 }
 
 /// An interface whose hardware address ends so.
@@ -25,9 +25,18 @@ fn spec(number: u32, name: &[u8], last: u8) -> Result<IfSpec, Fail> {
 #[test]
 fn words_of_live(rt: HostRuntime) -> Result<(), Fail> {
     let line = "live 6801 6802 host hook eth0=02:00:00:00:00:01 wlan0=02:00:00:00:00:02";
-    let found = named(rt, line)?.ok_or("these are words of live")?;
+    let words = words_of(rt, line)?;
+    let found = read_live(rt.alloc(), &words)?.ok_or("these are words of live")?;
+    let ports = Ports {
+        own: 6801,
+        peer: 6802,
+    };
+    assert_eq!(rt;
+        (found.ports, found.folder, found.script),
+        (ports, "host", "hook")
+    );
     let expected = [spec(1, b"eth0", 1)?, spec(2, b"wlan0", 2)?];
-    assert_eq!(rt; found.as_slice(), expected.as_slice());
+    assert_eq!(rt; found.interfaces.as_slice(), expected.as_slice());
     Ok(())
 }
 
@@ -37,14 +46,20 @@ fn other_words(rt: HostRuntime) -> Result<(), Fail> {
         // one port for both sides, and one with a zero in front
         "live 6801 6801 host hook eth0=02:00:00:00:00:01",
         "live 6801 06802 host hook eth0=02:00:00:00:00:01",
-        // a folder that looks like an option
+        // what looks like an option, and the end of the options
         "live 6801 6802 -host hook eth0=02:00:00:00:00:01",
+        "live --help",
+        "live -- 6801 6802 host hook eth0=02:00:00:00:00:01",
+        "live 6801 6802 host hook eth0=02:00:00:00:00:01 --",
+        // a script that is empty
+        "live 6801 6802 host  eth0=02:00:00:00:00:01",
         // no interface, and one address twice
         "live 6801 6802 host hook",
         "live 6801 6802 host hook eth0=02:00:00:00:00:01 eth1=02:00:00:00:00:01",
     ];
     for line in lines {
-        assert!(rt; named(rt, line)?.is_none(), "at {line}");
+        let words = words_of(rt, line)?;
+        assert!(rt; read_live(rt.alloc(), &words)?.is_none(), "at {line}");
     }
     Ok(())
 }

@@ -5,12 +5,11 @@ use Rattle.dhcpcd.specs.MakeReading.{IsMakeRead}
 use Rattle.dhcpcd.proofs.AskedApart.{true_false, none_asked}
 use Rattle.dhcpcd.proofs.words.work_of.Goals as goal
 
-pub returns-in_err-live_words : goal.returns-in_err-live_words
-returns-in_err-live_words c =
+pub returns-in-None-clause-asked : goal.returns-in-None-clause-asked
+returns-in-None-clause-asked c =
     let words : List (List ℕ) = map string_bytes c.args.words.now in
-    let unread : c.live_words.result ≡ None = search rules in
+    let unread : c.in_ok-interfaces.field-0 ≡ None = search rules in
     let unmade : c.make_rounds.result ≡ None = search rules in
-    let none : c.from_residual.result ≡ None = search rules in
-    none_asked words c.from_residual.result none (λ asks. true_false (sym (c.is_alone.ensures.no asks) ∙ c.if-is_alone.false)) (λ asks. true_false (sym (c.is_alone-2.ensures.no asks) ∙ c.if-is_alone-2.false))
+    none_asked words (λ asks. true_false (sym (c.is_alone.ensures.no asks) ∙ c.if-is_alone.false)) (λ asks. true_false (sym (c.is_alone-2.ensures.no asks) ∙ c.if-is_alone-2.false))
     (subst (IsMakeRead words) unmade c.make_rounds.ensures)
-    (subst (IsLiveRead words) unread c.live_words.ensures)
+    (subst (IsLiveRead words) unread c.in_ok-interfaces.ensures.read)
