@@ -5,7 +5,6 @@
 mod devices;
 mod questions;
 mod saying;
-mod streams;
 mod telling;
 
 ghost use Rattle.std.specs.Prelude.{◌≡◌};
@@ -13,12 +12,12 @@ ghost use Rattle.dhcpcd_prog.specs.Endings.{unread};
 
 use devices::devices;
 use dhcpcd::{Status, run};
+use edges::{StdSink, StdSource};
 use questions::{Question, asked};
 use saying::say;
 use std::env;
 use std::io::ErrorKind;
 use std::process::ExitCode;
-use streams::{StdSink, StdSource};
 use telling::{HELP, VERSION, tell};
 
 /// The words after the program's name.

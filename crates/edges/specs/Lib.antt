@@ -2,4 +2,5 @@ pub mod Counts
 pub mod Paths
 pub mod Ports
 pub mod Datagrams
+pub mod Salts
 pub mod Waiting

@@ -6,9 +6,9 @@ ghost use Rattle.world.specs.LinkCalls.{frame_len};
 
 use crate::datagrams::{FRAME_LIMIT, HEAD, frame_datagram, taken};
 use crate::faults::Faults;
+use crate::salts::Salts;
 use net_types::{IfIndex, number_of};
-use rand_core::{Rng, SeedableRng};
-use rand_xoshiro::SplitMix64;
+use rand_core::Rng;
 use std::io::ErrorKind;
 use std::net::{Ipv4Addr, Net, SocketAddr, SocketAddrV4, UdpSocket};
 use std::rt::Clock;
@@ -75,7 +75,7 @@ struct Wire<R: Net + Clock + AllocGlobal + Drop> {
     port: u16,
     peer: u16,
     socket: Option<UdpSocket>,
-    salts: SplitMix64,
+    salts: Salts,
 }
 
 impl<R: Net + Clock + AllocGlobal + Drop> Wire<R> {
@@ -104,7 +104,7 @@ impl<R: Net + Clock + AllocGlobal + Drop> Wire<R> {
     fn begin(&mut self) -> Result<Begin, Failed> {
         self.bind()?;
         let at = moment(&self.rt)?;
-        self.salts = SplitMix64::seed_from_u64(at);
+        self.salts = Salts::begun_by(at);
         Ok(Begin {
             at,
             salt: self.salts.next_u64(),
@@ -192,7 +192,7 @@ impl<R: Net + Clock + AllocGlobal + Drop> LoopLink<R> {
                 port: port_of(port),
                 peer: port_of(peer),
                 socket: None,
-                salts: SplitMix64::seed_from_u64(0),
+                salts: Salts::begun_by(0),
             },
             faults: Faults::none(),
             send_faults: Faults::none(),

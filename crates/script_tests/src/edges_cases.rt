@@ -2,8 +2,9 @@
 
 ghost use Rattle.std.specs.Prelude.{◌≡◌, true};
 
-use edges::{ChildHooks, CommandHost, FolderStore, LoopLink};
+use edges::{ChildHooks, CommandHost, FolderStore, LoopLink, Salts, StdSink, StdSource};
 use net_types::{IfIndex, Ip4, Net, Net4};
+use rand_core::Rng;
 use std::alloc::{AllocError, Global};
 use std::fs::Permissions;
 use std::net::{Ipv4Addr, UdpSocket};
@@ -12,7 +13,8 @@ use std::process::Abort;
 use std::time::{Duration, SystemTime, UNIX_EPOCH};
 use std::{env, fs, process, thread};
 use world::{
-    DeviceAnswer, Event, HookJob, HookVar, Hooks, Host, HostRow, Link, Poll, Reason, Store,
+    DeviceAnswer, Event, HookJob, HookVar, Hooks, Host, HostRow, Link, Poll, Reason, Sink, Source,
+    Store,
 };
 
 /// A new folder for a test.
@@ -212,4 +214,43 @@ fn datagrams_are_events(rt: HostRuntime) {
         .expect(&rt, "a send");
     peer.recv(&mut buf).expect(&rt, "a datagram");
     assert!(rt; buf.starts_with(b"\x01\x02back"));
+}
+
+/// The words that SplitMix64's reference code gives from 1234567 on.
+const SALTS: [u64; 5] = [
+    6_457_827_717_110_365_317,
+    3_203_168_211_198_807_973,
+    9_817_491_932_198_370_423,
+    4_593_380_528_125_082_431,
+    16_408_922_859_458_223_821,
+];
+
+#[test]
+fn salts_are_those_of_the_reference(rt: HostRuntime) {
+    let mut salts = Salts::begun_by(1_234_567);
+    for salt in SALTS {
+        assert_eq!(rt; salts.next_u64(), salt);
+    }
+    // half a word is its high half, and bytes are those of a word, the low ones first
+    let mut halves = Salts::begun_by(1_234_567);
+    assert_eq!(rt; u64::from(halves.next_u32()), SALTS[0] >> 32);
+    let mut bytes = [0; 6];
+    halves.fill_bytes(&mut bytes);
+    assert!(rt; SALTS[1].to_le_bytes().starts_with(&bytes));
+}
+
+/// A test has no input.
+#[test]
+fn the_standard_input_ends(rt: HostRuntime) {
+    let mut source = StdSource::new(rt.stdin());
+    let mut buf = [7; 4];
+    assert_eq!(rt; source.read(&mut []), Ok(0));
+    assert_eq!(rt; source.read(&mut buf), Ok(0));
+    assert_eq!(rt; buf, [7; 4]);
+}
+
+#[test]
+fn the_standard_output_takes_bytes(rt: HostRuntime) {
+    let mut sink = StdSink::new(rt.stdout());
+    assert_eq!(rt; [sink.write(b""), sink.write(b"text\n")], [DONE, DONE]);
 }

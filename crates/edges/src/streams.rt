@@ -1,6 +1,7 @@
 ghost use Rattle.std.specs.Prelude.{◌≡◌, false, None, Ok};
 ghost use Rattle.world.specs.Streams.{taken_after};
 
+use crate::faults::Faults;
 use std::io::{Read, Write};
 use std::rt::{Stdin, Stdout};
 use world::{DeviceAnswer, Failed, Sink, Source};
@@ -9,16 +10,17 @@ use world::{DeviceAnswer, Failed, Sink, Source};
 #[derive(Drop)]
 pub struct StdSource {
     stdin: Stdin,
-    faults: u64,
+    faults: Faults,
     reads: u64,
     taken: u64,
 }
 
 impl StdSource {
+    /// The standard input, of which nothing was read.
     pub fn new(stdin: Stdin) -> StdSource {
         StdSource {
             stdin,
-            faults: 0,
+            faults: Faults::none(),
             reads: 0,
             taken: 0,
         }
@@ -35,7 +37,7 @@ impl StdSource {
 }
 
 impl Source for StdSource {
-    ghost faults = { λ source. source.faults };
+    ghost faults = { λ source. source.faults.count };
 
     ghost never_fails = { λ source. false };
 
@@ -49,47 +51,39 @@ impl Source for StdSource {
         self.reads = self.reads.saturating_add(1);
         match self.stdin.read(buf) {
             Ok(n) => Ok(self.count(n)),
-            Err(_) => match self.faults.checked_add(1) {
-                Some(faults) => {
-                    self.faults = faults;
-                    Err(Failed)
-                }
-                None => Ok(self.count(0)),
-            },
+            Err(_) => {
+                let n = self.faults.failed(0)?;
+                Ok(self.count(n))
+            }
         }
     }
 }
 
-/// The standard output. What is written isn't told. It has no room to count more than 2^64 - 1 failures, which don't come.
+/// The standard output. What is written isn't told.
 #[derive(Drop)]
 pub struct StdSink {
     stdout: Stdout,
-    faults: u64,
+    faults: Faults,
 }
 
 impl StdSink {
+    /// The standard output.
     pub fn new(stdout: Stdout) -> StdSink {
-        StdSink { stdout, faults: 0 }
+        StdSink {
+            stdout,
+            faults: Faults::none(),
+        }
     }
 }
 
 impl Sink for StdSink {
-    ghost faults = { λ sink. sink.faults };
+    ghost faults = { λ sink. sink.faults.count };
 
     ghost never_fails = { λ sink. false };
 
     ghost written = { λ sink. None };
 
     fn write(&mut self, bytes: &[u8]) -> Result<(), DeviceAnswer> {
-        match self.stdout.write_all(bytes) {
-            Ok(()) => Ok(()),
-            Err(_) => match self.faults.checked_add(1) {
-                Some(faults) => {
-                    self.faults = faults;
-                    Err(DeviceAnswer::Failed)
-                }
-                None => Err(DeviceAnswer::NoMemory),
-            },
-        }
+        self.faults.answered(self.stdout.write_all(bytes))
     }
 }
