@@ -6,3 +6,4 @@ pub mod Situations
 pub mod LeaseVariables
 pub mod Lease6Variables
 pub mod Jobs
+pub mod OptionOrder
