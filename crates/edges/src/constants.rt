@@ -4,6 +4,7 @@ ghost use Rattle.std.specs.Prelude.{◌≡◌};
 
 use crate::datagrams::{CARRIER, DUPLICATE, FRAME, FRAME_LIMIT, REBIND, RELEASE, STOP};
 use crate::links::{IDLE, LONGEST};
+use crate::salts::{FIRST, SECOND, STRIDE};
 
 /// Law: the kinds of the loopback link's datagrams, the bytes of a frame, and how long a wait lasts, in milliseconds.
 pub fn datagrams_are_these()
@@ -16,4 +17,11 @@ pub fn datagrams_are_these()
     ensures stop { STOP ≡ 6 }
     ensures idle { IDLE ≡ 60000 }
     ensures longest { LONGEST ≡ 4294967295 }
+{}
+
+/// Law: the numbers of SplitMix64.
+pub fn salts_are_these()
+    ensures stride { STRIDE ≡ 11400714819323198485 }
+    ensures first { FIRST ≡ 13787848793156543929 }
+    ensures second { SECOND ≡ 10723151780598845931 }
 {}

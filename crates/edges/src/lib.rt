@@ -18,7 +18,7 @@ mod streams;
 
 pub use children::ChildHooks;
 pub use commands::CommandHost;
-pub use constants::datagrams_are_these;
+pub use constants::{datagrams_are_these, salts_are_these};
 pub use folder::FolderStore;
 pub use links::LoopLink;
 pub use salts::Salts;

@@ -1,3 +1,5 @@
+//! The random words of a link.
+
 ghost use Rattle.std.specs.Prelude.{◌≡◌, ℕ};
 ghost use Rattle.rand_core.specs.Steps.{stream_of};
 ghost use Rattle.edges.specs.Salts.{salt_step, salt_steps};
@@ -7,13 +9,13 @@ use rand_core::{Rng, utils};
 use std::marker::Model;
 
 /// How far the state goes on for each word: the odd number next to 2^64 divided by the golden ratio.
-const STRIDE: u64 = 0x9e37_79b9_7f4a_7c15;
+pub(crate) const STRIDE: u64 = 0x9e37_79b9_7f4a_7c15;
 
 /// The factor of the first mixing.
-const FIRST: u64 = 0xbf58_476d_1ce4_e5b9;
+pub(crate) const FIRST: u64 = 0xbf58_476d_1ce4_e5b9;
 
 /// The factor of the second.
-const SECOND: u64 = 0x94d0_49bb_1331_11eb;
+pub(crate) const SECOND: u64 = 0x94d0_49bb_1331_11eb;
 
 /// The random words of a link, by SplitMix64 (Steele, Lea and Flood, "Fast splittable pseudorandom number generators", OOPSLA
 /// 2014, with the mixing of Stafford's thirteenth variant). A contract sees its state.

@@ -1,3 +1,5 @@
+//! The standard streams.
+
 ghost use Rattle.std.specs.Prelude.{◌≡◌, false, None, Ok};
 ghost use Rattle.world.specs.Streams.{taken_after};
 
