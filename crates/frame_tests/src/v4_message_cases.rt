@@ -1,6 +1,7 @@
 ghost use Rattle.std.specs.Prelude.{◌<◌, length};
 
 use net_types::{Ip4, Mac};
+use std::fmt::InlineText;
 use std::test::*;
 use v4_message::*;
 
@@ -115,4 +116,20 @@ fn writes_each_kind(rt: HostRuntime) -> Result<(), Fail> {
         message_with(&rt, [10, 0, 0, 50], &RELEASE)?.as_slice()
     );
     Ok(())
+}
+
+/// Each cause with its printed form.
+const CAUSES: [(Bad4, &str); 5] = [
+    (Bad4::Short, "Short"),
+    (Bad4::NotReply, "NotReply"),
+    (Bad4::NoCookie, "NoCookie"),
+    (Bad4::Malformed { place: 246 }, "Malformed"),
+    (Bad4::NoType, "NoType"),
+];
+
+#[test]
+fn causes_are_printed_by_name(rt: HostRuntime) {
+    for (cause, name) in CAUSES {
+        assert_eq!(rt; InlineText::<64>::of(cause).as_str(), name);
+    }
 }
