@@ -2,6 +2,7 @@ use conf_text::{Conf, ConfAnswer, ConfCause, ConfFault, managed, notices, read_c
 use net_types::{IfIndex, IfSpec, Mac, Name};
 use settings::{Identifier, IfConf};
 use std::alloc::Global;
+use std::fmt::InlineText;
 use std::test::*;
 use v6_options::IaKind;
 
@@ -276,4 +277,30 @@ fn shares_of_a_prefix(rt: HostRuntime) -> Result<(), Fail> {
         }
     }
     Ok(())
+}
+
+/// Each cause with its printed form.
+const CAUSES: [(ConfCause, &str); 4] = [
+    (ConfCause::NotText, "NotText"),
+    (ConfCause::BadArgument, "BadArgument"),
+    (ConfCause::Repeated, "Repeated"),
+    (ConfCause::TooMany, "TooMany"),
+];
+
+#[test]
+fn causes_are_printed_by_name(rt: HostRuntime) {
+    for (cause, name) in CAUSES {
+        assert_eq!(rt; InlineText::<64>::of(cause).as_str(), name);
+        // the line on standard error, but for the program's name
+        let fault = ConfFault { line: 12, cause };
+        let printed = InlineText::<64>::of(fault);
+        assert_eq!(rt;
+            printed.as_str().strip_prefix("configuration line 12: "),
+            Some(name)
+        );
+        let answer = InlineText::<64>::of(ConfAnswer::Bad(fault));
+        assert_eq!(rt; answer.as_str(), printed.as_str());
+    }
+    let printed = InlineText::<64>::of(ConfAnswer::NoMemory);
+    assert_eq!(rt; printed.as_str(), "NoMemory");
 }

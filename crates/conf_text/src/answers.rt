@@ -4,22 +4,28 @@ ghost use Rattle.conf_text.specs.Numbering.{line_number};
 ghost use Rattle.conf_text.specs.declared.answers.ConfAnswer.TheVariants.{NoMemory as no_memory};
 
 use net_types::NoMemory;
+use thiserror::Error;
 
 /// What is wrong with a line.
-#[derive(Clone, Copy, Debug, PartialEq, Eq)]
+#[derive(Clone, Copy, Debug, PartialEq, Eq, Error)]
 pub enum ConfCause {
     /// It isn't text: UTF-8 whose only control characters are tabs.
+    #[error("NotText")]
     NotText,
     /// Its directive lacks an argument that it needs, or has one out of its form.
+    #[error("BadArgument")]
     BadArgument,
     /// An identity association of this kind and IAID stands already.
+    #[error("Repeated")]
     Repeated,
     /// It says more than a configuration may.
+    #[error("TooMany")]
     TooMany,
 }
 
 /// The first line at which something is wrong.
-#[derive(Clone, Copy, Debug, PartialEq, Eq)]
+#[derive(Clone, Copy, Debug, PartialEq, Eq, Error)]
+#[error("configuration line {line}: {cause}")]
 pub struct ConfFault {
     /// The line, from 1.
     pub line: u32,
@@ -28,11 +34,13 @@ pub struct ConfFault {
 }
 
 /// Why there is no configuration.
-#[derive(Clone, Copy, Debug, PartialEq, Eq)]
+#[derive(Clone, Copy, Debug, PartialEq, Eq, Error)]
 pub enum ConfAnswer {
     /// The text is none.
+    #[error(transparent)]
     Bad(ConfFault),
     /// Memory ran out.
+    #[error("NoMemory")]
     NoMemory,
 }
 

@@ -1,7 +1,8 @@
 ghost use Rattle.std.specs.Prelude.{None};
 
-use lease_file::{clear_asides, read_files, remove, save};
+use lease_file::{SaveFault, SaveStep, clear_asides, read_files, remove, save};
 use std::alloc::Global;
+use std::fmt::InlineText;
 use std::test::Fail;
 use world::{DeviceAnswer, Store};
 
@@ -68,4 +69,14 @@ fn each_call_succeeds(rt: HostRuntime) -> Result<(), Fail> {
     );
     assert_eq!(rt; remove(&mut store, "resolv.conf"), Ok(()));
     Ok(())
+}
+
+#[test]
+fn faults_are_printed_by_name(rt: HostRuntime) {
+    for (fault, name) in [
+        (SaveFault::Failed(SaveStep::Sync), "Failed"),
+        (SaveFault::NoMemory, "NoMemory"),
+    ] {
+        assert_eq!(rt; InlineText::<64>::of(fault).as_str(), name);
+    }
 }

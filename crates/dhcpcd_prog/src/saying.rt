@@ -1,6 +1,4 @@
-use conf_text::ConfFault;
 use dhcpcd::Status;
-use replay_text::ScriptFault;
 use std::io::Result;
 
 fn line(rt: &HostRuntime, status: Status) -> Result<()> {
@@ -9,12 +7,8 @@ fn line(rt: &HostRuntime, status: Status) -> Result<()> {
         Status::Usage => eprintln!(rt;
             "dhcpcd: usage: replay / check / live PORT PEER DIR SCRIPT IFACE.. / make N"
         ),
-        Status::Script(ScriptFault { line, cause }) => {
-            eprintln!(rt; "dhcpcd: script line {line}: {cause:?}")
-        }
-        Status::Conf(ConfFault { line, cause }) => {
-            eprintln!(rt; "dhcpcd: configuration line {line}: {cause:?}")
-        }
+        Status::Script(fault) => eprintln!(rt; "dhcpcd: {fault}"),
+        Status::Conf(fault) => eprintln!(rt; "dhcpcd: {fault}"),
         Status::ReadFault => eprintln!(rt; "dhcpcd: read failed"),
         Status::WriteFault => eprintln!(rt; "dhcpcd: write failed"),
         Status::LinkFault => eprintln!(rt; "dhcpcd: link failed"),

@@ -1,6 +1,7 @@
 ghost use Rattle.std.specs.Prelude.{◌<◌, length};
 
 use net_types::{Ip4, Mac};
+use std::fmt::InlineText;
 use std::test::*;
 use v4_message::*;
 use v4_options::{code, value};
@@ -235,4 +236,20 @@ fn servers_in_two_areas(rt: HostRuntime) -> Result<(), Fail> {
         Some(Bad4::Malformed { place: 246 })
     );
     Ok(())
+}
+
+/// Each cause with its printed form.
+const CAUSES: [(Bad4, &str); 5] = [
+    (Bad4::Short, "Short"),
+    (Bad4::NotReply, "NotReply"),
+    (Bad4::NoCookie, "NoCookie"),
+    (Bad4::Malformed { place: 246 }, "Malformed"),
+    (Bad4::NoType, "NoType"),
+];
+
+#[test]
+fn causes_are_printed_by_name(rt: HostRuntime) {
+    for (cause, name) in CAUSES {
+        assert_eq!(rt; InlineText::<64>::of(cause).as_str(), name);
+    }
 }

@@ -1,6 +1,7 @@
 ghost use Rattle.std.specs.Prelude.{◌≤◌, length, IfOk};
 
 use net_types::{Ip6, Net6};
+use std::fmt::InlineText;
 use std::test::*;
 use v6_message::*;
 use v6_options::{Duid, IaKind, Status, dns6_of, search6_of};
@@ -190,4 +191,18 @@ fn writes_a_decline(rt: HostRuntime) -> Result<(), Fail> {
     // To a client it is no server's message.
     assert_eq!(rt; read6(&bytes).err(), Some(Bad6::OtherType));
     Ok(())
+}
+
+/// Each cause with its printed form.
+const CAUSES: [(Bad6, &str); 3] = [
+    (Bad6::Short, "Short"),
+    (Bad6::Malformed { place: 4 }, "Malformed"),
+    (Bad6::OtherType, "OtherType"),
+];
+
+#[test]
+fn causes_are_printed_by_name(rt: HostRuntime) {
+    for (cause, name) in CAUSES {
+        assert_eq!(rt; InlineText::<64>::of(cause).as_str(), name);
+    }
 }

@@ -2,6 +2,7 @@ ghost use Rattle.std.specs.Prelude.{◌≡◌};
 ghost use Rattle.lease_file.specs.declared.faults.SaveFault.TheVariants as fault;
 
 use net_types::NoMemory;
+use thiserror::Error;
 
 /// A call of the store.
 #[derive(Clone, Copy, Debug, PartialEq, Eq)]
@@ -15,9 +16,11 @@ pub enum SaveStep {
 }
 
 /// Why the files could not be kept: a call of the store failed, or memory ran out.
-#[derive(Clone, Copy, Debug, PartialEq, Eq)]
+#[derive(Clone, Copy, Debug, PartialEq, Eq, Error)]
 pub enum SaveFault {
+    #[error("Failed")]
     Failed(SaveStep),
+    #[error("NoMemory")]
     NoMemory,
 }
 

@@ -2,6 +2,7 @@ ghost use Rattle.std.specs.Prelude.{◌≡◌};
 
 use net_types::{Ip6, Name, Net6};
 use prefix_share::{Share, ShareCause, ShareFault, plan, subnet};
+use std::fmt::InlineText;
 use std::test::*;
 
 /// A share of eth1 where a prefix of this length is asked for.
@@ -87,4 +88,21 @@ fn first_fault(rt: HostRuntime) {
         plan(&[first, longer, twice]),
         fault(2, ShareCause::MixedLength)
     );
+}
+
+/// Each cause by its name.
+const CAUSES: [(ShareCause, &str); 3] = [
+    (ShareCause::SameSla, "SameSla"),
+    (ShareCause::TooLarge, "TooLarge"),
+    (ShareCause::MixedLength, "MixedLength"),
+];
+
+#[test]
+fn causes_are_printed_by_name(rt: HostRuntime) {
+    for (cause, name) in CAUSES {
+        assert_eq!(rt; InlineText::<64>::of(cause).as_str(), name);
+        let fault = ShareFault { share: 2, cause };
+        let printed = InlineText::<64>::of(fault);
+        assert_eq!(rt; printed.as_str().strip_prefix("share 2: "), Some(name));
+    }
 }

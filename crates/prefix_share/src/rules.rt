@@ -4,20 +4,25 @@ ghost use Rattle.prefix_share.specs.Rules.{IsFirstFault, broken_by, is_plan, mix
 
 use crate::share::Share;
 use crate::subnets::has_room;
+use thiserror::Error;
 
 /// Why a share can't stand in its line.
-#[derive(Clone, Copy, Debug, PartialEq, Eq)]
+#[derive(Clone, Copy, Debug, PartialEq, Eq, Error)]
 pub enum ShareCause {
     /// An earlier share has the same SLA id.
+    #[error("SameSla")]
     SameSla,
     /// The prefix that is asked for has no subnet of this length and SLA id.
+    #[error("TooLarge")]
     TooLarge,
     /// An earlier share has another length.
+    #[error("MixedLength")]
     MixedLength,
 }
 
 /// The first share that breaks a rule.
-#[derive(Clone, Copy, Debug, PartialEq, Eq)]
+#[derive(Clone, Copy, Debug, PartialEq, Eq, Error)]
+#[error("share {share}: {cause}")]
 pub struct ShareFault {
     /// Its place in the line, from 1.
     pub share: usize,

@@ -2,6 +2,7 @@ use net_types::{IfIndex, Ip4, Ip6, Net, Net4};
 use replay_text::ScriptCause::{Form, NotText, Order, Word};
 use replay_text::*;
 use script_model::{CrashKind, FailDevice, FailLine};
+use std::fmt::InlineText;
 use std::test::*;
 use world::{Event, HostRow, Poll, Via};
 
@@ -220,4 +221,30 @@ fn lives_over_one_store(rt: HostRuntime) -> Result<(), Fail> {
         assert_eq!(rt; (life.turns.len(), life.crash), expected);
     }
     Ok(())
+}
+
+/// Each cause with its printed form.
+const CAUSES: [(ScriptCause, &str); 4] = [
+    (NotText, "NotText"),
+    (Word, "Word"),
+    (Order, "Order"),
+    (Form, "Form"),
+];
+
+#[test]
+fn causes_are_printed_by_name(rt: HostRuntime) {
+    for (cause, name) in CAUSES {
+        assert_eq!(rt; InlineText::<64>::of(cause).as_str(), name);
+        // the line on standard error, but for the program's name
+        let fault = ScriptFault { line: 12, cause };
+        let printed = InlineText::<64>::of(fault);
+        assert_eq!(rt;
+            printed.as_str().strip_prefix("script line 12: "),
+            Some(name)
+        );
+        let answer = InlineText::<64>::of(ScriptAnswer::Bad(fault));
+        assert_eq!(rt; answer.as_str(), printed.as_str());
+    }
+    let printed = InlineText::<64>::of(ScriptAnswer::NoMemory);
+    assert_eq!(rt; printed.as_str(), "NoMemory");
 }

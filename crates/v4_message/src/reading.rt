@@ -13,20 +13,26 @@ use crate::field::{
 };
 use crate::kind::{MessageKind, kind_with};
 use net_types::{Ip4, Mac, field, ip4_field, mac_field, u32_field};
+use thiserror::Error;
 use v4_options::{Areas, Malformed, OptionView, byte_at, code, options_of};
 
 /// Why bytes aren't a server's message: the first of these that holds.
-#[derive(Clone, Copy, Debug, PartialEq, Eq)]
+#[derive(Clone, Copy, Debug, PartialEq, Eq, Error)]
 pub enum Bad4 {
     /// There are fewer bytes than the fixed fields take.
+    #[error("Short")]
     Short,
     /// It isn't a reply to an Ethernet client.
+    #[error("NotReply")]
     NotReply,
     /// The magic cookie is missing (RFC 2131, section 3).
+    #[error("NoCookie")]
     NoCookie,
     /// An area is cut within an option, the first of which begins at this byte.
+    #[error("Malformed")]
     Malformed { place: usize },
     /// The message type isn't one byte, the number of a type (RFC 2132, section 9.6).
+    #[error("NoType")]
     NoType,
 }
 

@@ -14,6 +14,7 @@ use crate::kind::{ServerKind6, server_kind_of};
 use byteorder::{BigEndian, ByteOrder};
 use net_types::NoMemory;
 use std::alloc::Global;
+use thiserror::Error;
 use v6_options::{IaSaid, Status, check_options, code, first_value, ia_views, status_of};
 
 /// Where the options begin.
@@ -24,14 +25,17 @@ use v6_options::{IaSaid, Status, check_options, code, first_value, ia_views, sta
 const OPTIONS: usize = 4;
 
 /// Why bytes aren't a server's message: the first of these that holds.
-#[derive(Clone, Copy, Debug, PartialEq, Eq)]
+#[derive(Clone, Copy, Debug, PartialEq, Eq, Error)]
 pub enum Bad6 {
     /// There are fewer bytes than a type and a transaction ID take.
+    #[error("Short")]
     Short,
     /// The first option, at any depth, that runs past what holds it, has no room for its fixed fields or a prefix of more
     /// than 128 bits stands at this byte.
+    #[error("Malformed")]
     Malformed { place: usize },
     /// The type is neither ADVERTISE nor REPLY.
+    #[error("OtherType")]
     OtherType,
 }
 
