@@ -1,7 +1,7 @@
 use net_types::Name;
 
 /// What an interface is to get of a delegated prefix.
-#[derive(Clone, Copy, Debug, PartialEq, Eq)]
+#[derive(Clone, Copy, PartialEq, Eq)]
 pub struct Share {
     /// The interface.
     pub name: Name,

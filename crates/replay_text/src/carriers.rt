@@ -9,7 +9,7 @@ use std::alloc::Global;
 use world::Begin;
 
 /// An interface in a list.
-#[derive(Clone, Copy, Debug, PartialEq, Eq, Drop)]
+#[derive(Clone, Copy, PartialEq, Eq, Drop)]
 pub struct Listed {
     pub iface: IfIndex,
 }

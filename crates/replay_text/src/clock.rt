@@ -8,7 +8,7 @@ use world::{Event, Wake};
 const TIME_AFTER_STOP: u64 = 5000;
 
 /// What a life knows of moments between two turns.
-#[derive(Clone, Copy, Debug, PartialEq, Eq)]
+#[derive(Clone, Copy, PartialEq, Eq)]
 pub struct Clock {
     /// The moment of the last turn.
     pub now: u64,

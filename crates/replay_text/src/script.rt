@@ -5,7 +5,7 @@ use thiserror::Error;
 use world::{Begin, HostRow, Poll, Wake};
 
 /// A file that the store holds at first.
-#[derive(Debug, Drop)]
+#[derive(Drop)]
 pub struct FileLine {
     /// 1 to 64 letters, digits, `.`, `_` and `-`.
     pub name: String,
@@ -13,7 +13,7 @@ pub struct FileLine {
 }
 
 /// A wake with the bytes of its frame.
-#[derive(Debug, Drop)]
+#[derive(Drop)]
 pub struct TurnLine {
     pub wake: Wake,
     pub bytes: Vec<u8>,
@@ -29,7 +29,7 @@ pub struct CrashLine {
 }
 
 /// A life: how it begins, what comes in its turns, and how the store crashes when they are over.
-#[derive(Debug, Drop)]
+#[derive(Drop)]
 pub struct LifeLines {
     pub begin: Begin,
     pub turns: Vec<TurnLine>,
@@ -38,7 +38,7 @@ pub struct LifeLines {
 }
 
 /// What a script says.
-#[derive(Debug, Drop)]
+#[derive(Drop)]
 pub struct Script {
     /// The lines of the configuration, each with its line feed.
     pub conf: Vec<u8>,

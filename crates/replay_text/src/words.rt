@@ -7,7 +7,7 @@ ghost use Rattle.replay_text.specs.Words.{is_word_end, whole_word, word_at, is_t
 use net_types::strip_word;
 
 /// What a line is, by its first word.
-#[derive(Clone, Copy, Debug, PartialEq, Eq)]
+#[derive(Clone, Copy, PartialEq, Eq)]
 pub enum Word {
     /// The first line of a script.
     Head,

@@ -37,7 +37,7 @@ pub enum Bad4 {
 }
 
 /// A server's message.
-#[derive(Clone, Copy, Debug)]
+#[derive(Clone, Copy)]
 pub struct Msg4<'a> {
     pub kind: MessageKind,
     pub xid: u32,

@@ -28,7 +28,7 @@ pub enum Kind4 {
 }
 
 /// What a client says of itself in each message, each at most 255 bytes.
-#[derive(Debug, Drop)]
+#[derive(Drop)]
 pub struct Ask4 {
     /// Option 61.
     pub client_id: Vec<u8>,
@@ -41,7 +41,7 @@ pub struct Ask4 {
 }
 
 /// A message of a client.
-#[derive(Clone, Copy, Debug, PartialEq, Eq)]
+#[derive(Clone, Copy, PartialEq, Eq)]
 pub struct Said4 {
     pub kind: Kind4,
     pub xid: u32,

@@ -40,7 +40,7 @@ pub enum Bad6 {
 }
 
 /// A server's message. Of each option the first counts.
-#[derive(Clone, Copy, Debug)]
+#[derive(Clone, Copy)]
 pub struct Msg6<'a> {
     pub kind: ServerKind6,
     /// Below 2^24.

@@ -7,7 +7,7 @@ use net_types::Net6;
 use v6_options::{Duid, IaKind};
 
 /// An IA of a client's message with the addresses (nets of length 128) or prefixes that it names: at most four.
-#[derive(Debug, Drop)]
+#[derive(Drop)]
 pub struct IaAsked {
     pub kind: IaKind,
     pub iaid: u32,
@@ -16,7 +16,7 @@ pub struct IaAsked {
 }
 
 /// A message of a client. It has at most six IAs.
-#[derive(Debug, Drop)]
+#[derive(Drop)]
 pub struct Said6 {
     pub kind: Kind6,
     /// Below 2^24.
