@@ -23,7 +23,7 @@ use client_model::{BY_DUID, ETHERNET, Iface};
 use frame_link::ArpView;
 use lease_text::Lease4;
 use machine::Machine;
-use net_types::{IfIndex, Mac, NoMemory};
+use net_types::{IfIndex, Mac, NoMemory, u32_octets};
 use settings::{Identifier, IfConf, Managed};
 use std::alloc::{AllocError, Global};
 use v4_client::{
@@ -57,7 +57,7 @@ fn duid_identifier(alloc: Global, index: IfIndex, duid: &Duid) -> Result<Vec<u8>
 {
     let mut identifier = Vec::new(alloc);
     identifier.push(BY_DUID)?;
-    identifier.extend_from_slice(&index.number.to_be_bytes())?;
+    identifier.extend_from_slice(&u32_octets(index.number))?;
     identifier.extend_from_slice(duid.as_slice())?;
     Ok(identifier)
 }

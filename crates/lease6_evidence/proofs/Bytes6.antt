@@ -1,11 +1,11 @@
 -- What is heard in a frame of bytes: the numbers of the items that count are within the types that hold them.
 use Rattle.std.proofs.Common.{ℕ, zero, suc, ◌-◌, ◌<◌, ◌^◌, Bool, ◌&&◌, List, [], ◌∷◌, take, drop, Option, Some, None, IfSome, find, length, nat_le, nat_lt, arith}
-use Rattle.std.specs.Int.{w32, w128, from_be_bytes}
 use Rattle.std.specs.List.{AllByRecursion, cons_option, filter_map}
 use Rattle.std.specs.Option.{option_and_then, option_map}
 use Rattle.std.specs.Prelude.{◌==◌}
 use Rattle.net_types.proofs.CaseLaws.{gated, split}
 use Rattle.net_types.proofs.Checksum.{drop_bytes, take_bytes}
+use Rattle.net_types.proofs.WireNumbers.{four_bytes_fit, sixteen_bytes_fit}
 use Rattle.net_types.specs.Marks.{AreBytes}
 use Rattle.net_types.specs.AddressText.{FitsIp6}
 use Rattle.net_types.specs.declared.address.Ip6.{Ip6}
@@ -35,17 +35,11 @@ use Rattle.v6_client.specs.Reading.{cleared, ia_for, is_read, is_readable, read_
 
 -- ---- numbers
 
-word32 : (b : List ℕ) → AreBytes b → from_be_bytes w32 b < 2 ^ 32
-word32 b h = omega (arith, h 0, h 1, h 2, h 3)
-
-word128 : (b : List ℕ) → AreBytes b → from_be_bytes w128 b < 2 ^ 128
-word128 b h = omega (arith, h 0, h 1, h 2, h 3, h 4, h 5, h 6, h 7, h 8, h 9, h 10, h 11, h 12, h 13, h 14, h 15)
-
 number_fits : (at : ℕ) (value : List ℕ) → AreBytes value → number_in at value < 2 ^ 32
-number_fits at value h = word32 (field at 4 value) (take_bytes 4 (drop at value) (drop_bytes at value h))
+number_fits at value h = four_bytes_fit (field at 4 value) (take_bytes 4 (drop at value) (drop_bytes at value h))
 
 ip_fits : (at : ℕ) (value : List ℕ) → AreBytes value → FitsIp6 (ip6_in at value)
-ip_fits at value h = word128 (field at 16 value) (take_bytes 16 (drop at value) (drop_bytes at value h))
+ip_fits at value h = sixteen_bytes_fit (field at 16 value) (take_bytes 16 (drop at value) (drop_bytes at value h))
 
 -- ---- options
 

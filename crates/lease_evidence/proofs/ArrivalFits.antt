@@ -1,15 +1,14 @@
 -- What is heard in a frame of bytes: the hardware address and the server's address fit their fields.
-use Rattle.std.proofs.Common.{◌≡◌, ℕ, zero, suc, ◌<◌, ◌≤◌, ◌^◌, false, List, [], ◌∷◌, length, take, drop, Option, Some, None, IfSome, arith, nat_lt, nat_le, if◌then◌else◌}
-use Rattle.std.proofs.lemmas.Bool.{eqb-true}
+use Rattle.std.proofs.Common.{◌≡◌, ℕ, zero, suc, ◌<◌, ◌≤◌, false, List, [], ◌∷◌, length, take, drop, Option, Some, None, IfSome, arith, nat_lt, nat_le, if◌then◌else◌}
 use Rattle.std.proofs.lemmas.Bool.Decides.{nat_tests}
 use Rattle.std.proofs.lemmas.List.{length-take-le, length-drop}
-use Rattle.std.specs.Int.{w32, from_be_bytes}
 use Rattle.std.specs.List.{AllByRecursion, flat_map}
 use Rattle.std.specs.Option.{option_map, option_and_then}
 use Rattle.std.specs.Prelude.{◌==◌, ◌&&◌}
 use Rattle.net_types.proofs.AllLaws.{all_join}
 use Rattle.net_types.proofs.CaseLaws.{split, gated}
 use Rattle.net_types.proofs.Checksum.{rest_bytes}
+use Rattle.net_types.proofs.WireNumbers.{four_bytes_fit}
 use Rattle.net_types.specs.Marks.{AreBytes}
 use Rattle.net_types.specs.declared.address.Ip4.{Ip4}
 use Rattle.net_types.specs.declared.address.Mac.{Mac}
@@ -52,18 +51,10 @@ small_take zero bytes h = tt
 small_take (suc n) [] h = tt
 small_take (suc n) (b ∷ bytes) h = (h.0, small_take n bytes h.1)
 
-four : (value : List ℕ) → length value ≡ 4 → Small value → from_be_bytes w32 value < 2 ^ 32
-four [] len h = absurd cc
-four (a ∷ []) len h = absurd (omega arith)
-four (a ∷ b ∷ []) len h = absurd (omega arith)
-four (a ∷ b ∷ c ∷ []) len h = absurd (omega arith)
-four (a ∷ b ∷ c ∷ d ∷ []) len h =
-    let a_fits : a < 256 = h.0 in
-    let b_fits : b < 256 = h.1.0 in
-    let c_fits : c < 256 = h.1.1.0 in
-    let d_fits : d < 256 = h.1.1.1.0 in
-    omega arith
-four (a ∷ b ∷ c ∷ d ∷ e ∷ rest) len h = absurd (omega arith)
+are_bytes : (bytes : List ℕ) → Small bytes → AreBytes bytes
+are_bytes [] h i = omega arith
+are_bytes (b ∷ bytes) h zero = h.0
+are_bytes (b ∷ bytes) h (suc i) = are_bytes bytes h.1 i
 
 -- ---- options
 
@@ -119,7 +110,7 @@ joined_small (p ∷ pieces) h = all_join _ p (flat_map (λ piece. piece) pieces)
 
 address_fits : (value : Option (List ℕ)) → IfSome value Small → IfSome (option_and_then addr_in value) FitsIp4
 address_fits None h = tt
-address_fits (Some value) h = split (length value == 4) (λ e. rw e (four value (eqb-true (length value) 4 e) h)) (λ e. rw e tt)
+address_fits (Some value) h = split (length value == 4) (λ e. rw e (four_bytes_fit value (are_bytes value h))) (λ e. rw e tt)
 
 -- the address that an option gives
 option_fits : (code : ℕ) (instances : List Instance) → Values instances → IfSome (address_at code instances) FitsIp4

@@ -1,12 +1,12 @@
 -- What interfaces tell the resolver is lines, where the values of their leases are bytes.
-use Rattle.std.proofs.Common.{ℕ, zero, suc, ◌%◌, ◌/◌, ◌<◌, ◌^◌, Bool, ◌&&◌, List, [], ◌∷◌, drop, find, length, map, take, Option, Some, None, IfSome, arith, eqb, ltb}
-use Rattle.std.specs.Int.{from_be_bytes, w128, w32}
+use Rattle.std.proofs.Common.{ℕ, zero, suc, ◌%◌, ◌/◌, Bool, ◌&&◌, List, [], ◌∷◌, drop, find, length, map, take, Option, Some, None, IfSome, eqb, ltb}
 use Rattle.std.specs.List.{AllByRecursion}
 use Rattle.std.specs.Option.{option_and_then}
 use Rattle.std.specs.Prelude.{◌==◌, option_map, unwrap_or}
 use Rattle.net_types.proofs.AllLaws.{all_join}
 use Rattle.net_types.proofs.CaseLaws.{gated}
 use Rattle.net_types.proofs.Checksum.{drop_bytes, take_bytes}
+use Rattle.net_types.proofs.WireNumbers.{four_bytes_fit, sixteen_bytes_fit}
 use Rattle.net_types.specs.AddressText.{FitsIp4, FitsIp6}
 use Rattle.net_types.specs.Marks.{AreBytes}
 use Rattle.net_types.specs.declared.address.Ip4.{Ip4}
@@ -34,12 +34,6 @@ use Rattle.safe_texts.proofs.KeptOctets.{HasOctets, OctetValue, OctetValues}
 
 -- ---- numbers out of bytes
 
-word32 : (b : List ℕ) → AreBytes b → from_be_bytes w32 b < 2 ^ 32
-word32 b h = omega (arith, h 0, h 1, h 2, h 3)
-
-word128 : (b : List ℕ) → AreBytes b → from_be_bytes w128 b < 2 ^ 128
-word128 b h = omega (arith, h 0, h 1, h 2, h 3, h 4, h 5, h 6, h 7, h 8, h 9, h 10, h 11, h 12, h 13, h 14, h 15)
-
 abbrev Are4 : List Ip4 → Type 0
 Are4 servers = AllByRecursion FitsIp4 servers
 
@@ -53,14 +47,14 @@ addresses_fit (a ∷ []) h = tt
 addresses_fit (a ∷ b ∷ []) h = tt
 addresses_fit (a ∷ b ∷ c ∷ []) h = tt
 addresses_fit (a ∷ b ∷ c ∷ d ∷ rest) h =
-    (word32 (a ∷ b ∷ c ∷ d ∷ []) (take_bytes 4 (a ∷ b ∷ c ∷ d ∷ rest) h), addresses_fit rest (drop_bytes 4 (a ∷ b ∷ c ∷ d ∷ rest) h))
+    (four_bytes_fit (a ∷ b ∷ c ∷ d ∷ []) (take_bytes 4 (a ∷ b ∷ c ∷ d ∷ rest) h), addresses_fit rest (drop_bytes 4 (a ∷ b ∷ c ∷ d ∷ rest) h))
 
 addrs_fit : (value : List ℕ) → AreBytes value → IfSome (addrs_in value) Are4
 addrs_fit value h = gated (λ (o : Option (List Ip4)). IfSome o Are4) (ltb 0 (length value) && eqb (length value % 4) 0) (Some (addresses value)) None (addresses_fit value h) tt
 
 counted_fit : (count : ℕ) (value : List ℕ) → AreBytes value → Are6 (addresses_in count value)
 counted_fit zero value h = tt
-counted_fit (suc count) value h = (word128 (take 16 (drop 0 value)) (take_bytes 16 (drop 0 value) (drop_bytes 0 value h)), counted_fit count (drop 16 value) (drop_bytes 16 value h))
+counted_fit (suc count) value h = (sixteen_bytes_fit (take 16 (drop 0 value)) (take_bytes 16 (drop 0 value) (drop_bytes 0 value h)), counted_fit count (drop 16 value) (drop_bytes 16 value h))
 
 dns6_fit : (value : List ℕ) → AreBytes value → IfSome (dns6_in value) Are6
 dns6_fit value h =

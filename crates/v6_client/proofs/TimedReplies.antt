@@ -3,6 +3,8 @@ use Rattle.std.proofs.Common.{ℕ, zero, suc, ◌*◌, ◌^◌, ◌<◌, Bool, L
 use Rattle.std.specs.List.{AllByRecursion, filter_map}
 use Rattle.std.specs.Option.{option_and_then}
 use Rattle.net_types.proofs.CaseLaws.{gated}
+use Rattle.net_types.proofs.Checksum.{drop_bytes, take_bytes}
+use Rattle.net_types.proofs.WireNumbers.{four_bytes_fit}
 use Rattle.v6_options.specs.declared.area.Front.{Front}
 use Rattle.v6_options.specs.declared.area.Front.TheVariants.{End, Bad, Whole}
 use Rattle.v6_options.specs.declared.ia.IaKind.{IaKind}
@@ -55,14 +57,9 @@ byte_at [] i all = omega arith
 byte_at (byte ∷ bytes) zero all = all.0
 byte_at (byte ∷ bytes) (suc i) all = byte_at bytes i all.1
 
-worth : (a b c d : ℕ) → a < 256 → b < 256 → c < 256 → d < 256 → number_in 0 (a ∷ b ∷ c ∷ d ∷ []) < 2 ^ 32
-worth a b c d a_fits b_fits c_fits d_fits = omega (arith, a_fits, b_fits, c_fits, d_fits)
-
 number_short : (at : ℕ) (bytes : List ℕ) → AllBytes bytes → number_in at bytes < 2 ^ 32
 number_short at bytes all =
-    let four : AllBytes (field at 4 bytes) = take_all IsByte 4 (drop at bytes) (drop_all IsByte at bytes all) in
-    worth _ _ _ _ (byte_at (field at 4 bytes) 0 four) (byte_at (field at 4 bytes) 1 four) (byte_at (field at 4 bytes) 2 four)
-    (byte_at (field at 4 bytes) 3 four)
+    four_bytes_fit (field at 4 bytes) (take_bytes 4 (drop at bytes) (drop_bytes at bytes (λ i. byte_at bytes i all)))
 
 abbrev HasBytes : Instance → Type 0
 HasBytes instance = AllBytes instance.1
