@@ -5,7 +5,7 @@ ghost use Rattle.conf_directives.specs.Names.{directive_at, heading_at, named};
 use v6_options::IaKind;
 
 /// A line that begins a block.
-#[derive(Clone, Copy, Debug, PartialEq, Eq)]
+#[derive(Clone, Copy)]
 pub enum HeadingName {
     /// `interface`: what follows holds for one interface.
     Interface,
@@ -16,7 +16,7 @@ pub enum HeadingName {
 }
 
 /// A directive of one word. Further words on its line are ignored.
-#[derive(Clone, Copy, Debug, PartialEq, Eq)]
+#[derive(Clone, Copy, Debug)]
 pub enum FlagName {
     /// `ipv4only`: DHCPv6 doesn't run.
     Ipv4Only,
@@ -39,7 +39,7 @@ pub enum FlagName {
 }
 
 /// A directive of a number of seconds.
-#[derive(Clone, Copy, Debug, PartialEq, Eq)]
+#[derive(Clone, Copy, Debug)]
 pub enum SecondsName {
     /// `timeout`: for how long a lease is waited for before a link-local address is chosen.
     Timeout,
@@ -48,7 +48,7 @@ pub enum SecondsName {
 }
 
 /// A directive of options, by their names or codes.
-#[derive(Clone, Copy, Debug, PartialEq, Eq)]
+#[derive(Clone, Copy, Debug)]
 pub enum CodeList {
     /// `option`: they are asked for.
     Asked,
@@ -59,7 +59,7 @@ pub enum CodeList {
 }
 
 /// A directive of interfaces, by their names or how these begin.
-#[derive(Clone, Copy, Debug, PartialEq, Eq)]
+#[derive(Clone, Copy, Debug)]
 pub enum InterfaceList {
     /// `allowinterfaces`: no others are managed.
     Allowed,
@@ -68,7 +68,7 @@ pub enum InterfaceList {
 }
 
 /// A directive whose arguments are one value or a list, each of a given form.
-#[derive(Clone, Copy, Debug, PartialEq, Eq)]
+#[derive(Clone, Copy)]
 pub enum ValueName {
     Seconds(SecondsName),
     /// `metric`: that of the interface's routes.
@@ -88,7 +88,7 @@ pub enum ValueName {
 }
 
 /// A directive, by its first word.
-#[derive(Clone, Copy, Debug, PartialEq, Eq)]
+#[derive(Clone, Copy)]
 pub enum DirectiveName {
     Flag(FlagName),
     /// `duid`: the client is told apart by its DUID (RFC 4361). Further words are ignored.

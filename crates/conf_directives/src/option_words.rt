@@ -16,7 +16,7 @@ use std::alloc::{AllocError, Global};
 use v4_options::code;
 
 /// What a word says in a list of options.
-#[derive(Clone, Copy, Debug, PartialEq, Eq)]
+#[derive(Clone, Copy)]
 pub(crate) enum OptionWord {
     /// The option of this code.
     Taken(u8),

@@ -24,7 +24,7 @@ pub const LEAST_HINT: u8 = 8;
 const ID_LIMIT: u64 = 1 << 32;
 
 /// What a line of prefixes asks for.
-#[derive(Clone, Copy, Debug, PartialEq, Eq)]
+#[derive(Clone, Copy)]
 pub(crate) struct Asked {
     iaid: u32,
     /// The length of the prefix in bits, or 0.

@@ -17,7 +17,7 @@ use net_types::{NoMemory, net6_of, split_at_byte};
 use std::alloc::Global;
 
 /// Which value a key is of.
-#[derive(Clone, Copy, Debug, PartialEq, Eq)]
+#[derive(Clone, Copy)]
 pub(crate) enum StaticName {
     Address,
     Routers,

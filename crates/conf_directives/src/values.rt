@@ -77,7 +77,7 @@ pub struct Env {
 }
 
 /// Which interfaces a word names.
-#[derive(Clone, Copy, Debug, PartialEq, Eq)]
+#[derive(Clone, Copy, Debug)]
 pub enum Pattern {
     /// The one of this name.
     Exactly(Name),
@@ -108,7 +108,7 @@ pub enum Directive {
 }
 
 /// What a line says.
-#[derive(Debug, Drop)]
+#[derive(Drop)]
 pub struct LineSaid<'a> {
     /// None where the line is only noticed.
     pub directive: Option<Directive>,

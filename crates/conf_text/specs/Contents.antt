@@ -5,7 +5,7 @@ use Rattle.conf_directives.specs.Contents.{identifier_content, codes_content, ia
 use Rattle.conf_text.specs.declared.statics.Statics.{Statics}
 use Rattle.conf_text.specs.declared.scope.Scope.{Scope}
 use Rattle.conf_text.specs.declared.conf.Notice.{Notice}
-use Rattle.conf_text.specs.declared.conf.Block.{Block}
+use Rattle.conf_text.specs.declared.block_name.BlockName.{BlockName}
 use Rattle.conf_text.specs.declared.conf.Conf.{Conf}
 use Rattle.conf_text.specs.Scopes.{StaticsContent, ScopeContent}
 use Rattle.conf_text.specs.Configurations.{NoticeContent, BlockContent, Configuration}
@@ -44,13 +44,14 @@ scope_content scope = record {
 abbrev pub notice_content : Notice → NoticeContent
 notice_content notice = record { line = notice.line; word = string_bytes notice.word }
 
-abbrev pub block_content : Block → BlockContent
-block_content block = record { name = block.name; scope = scope_content block.scope }
+-- an entry of the blocks
+abbrev pub block_content : BlockName × Scope → BlockContent
+block_content block = record { name = block.0.name; scope = scope_content block.1 }
 
 abbrev pub configuration : Conf → Configuration
 configuration conf = record {
   global = scope_content conf.global;
-  blocks = map block_content conf.blocks.items;
+  blocks = map block_content conf.blocks.entries;
   allowed = conf.allowed.items;
   denied = conf.denied.items;
   script = option_map string_bytes conf.script;

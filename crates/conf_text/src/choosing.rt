@@ -1,13 +1,13 @@
 //! Which interfaces are managed, and what is said of an interface.
-ghost use Rattle.std.specs.Prelude.{◌≡◌, find, map, option_map};
+ghost use Rattle.std.specs.Prelude.{◌≡◌};
 ghost use Rattle.std.specs.List.{list_any};
 ghost use Rattle.std.specs.Option.{option_copied};
 ghost use Rattle.conf_text.specs.Choosing.{first_said, is_managed, is_meant, scope_for, spec_named};
-ghost use Rattle.conf_text.specs.Contents.{block_content, configuration};
-ghost use Rattle.conf_text.specs.Places.{is_named};
+ghost use Rattle.conf_text.specs.Contents.{configuration};
 
-use crate::conf::{Block, Conf};
-use crate::reader::is_named;
+use crate::block_name::is_named;
+use crate::blocks::said_of;
+use crate::conf::Conf;
 use conf_directives::Pattern;
 use net_types::{IfSpec, Name};
 
@@ -35,19 +35,6 @@ pub fn is_managed(conf: &Conf, name: &Name) -> bool
     !is_among(name, &conf.denied) && (conf.allowed.is_empty() || is_among(name, &conf.allowed))
 }
 
-fn found<'a>(blocks: &'a [Block], name: &Name) -> Option<&'a Block>
-    ensures { option_copied result ≡ find (λ block. is_named name.now block.name) blocks.now }
-{
-    blocks.iter().find(|block| is_named(name, &block.name))
-}
-
-/// The blocks of an interface, where it has some.
-pub fn block_of<'a>(blocks: &'a [Block], name: &Name) -> Option<&'a Block>
-    ensures { option_map block_content (option_copied result) ≡ find (λ block. is_named name.now block.name) (map block_content blocks.now) }
-{
-    found(blocks, name)
-}
-
 /// The interface of this name.
 pub fn spec_named<'a>(ifaces: &'a [IfSpec], name: &Name) -> Option<&'a IfSpec>
     ensures { option_copied result ≡ spec_named ifaces.now name.now }
@@ -59,8 +46,8 @@ pub fn spec_named<'a>(ifaces: &'a [IfSpec], name: &Name) -> Option<&'a IfSpec>
 pub fn metric_said(conf: &Conf, name: &Name) -> Option<u32>
     ensures { result ≡ first_said (scope_for (configuration conf.now).blocks name.now).metric (configuration conf.now).global.metric }
 {
-    match block_of(&conf.blocks, name) {
-        Some(block) => block.scope.metric.or(conf.global.metric),
+    match said_of(&conf.blocks, name) {
+        Some(block) => block.metric.or(conf.global.metric),
         None => conf.global.metric,
     }
 }

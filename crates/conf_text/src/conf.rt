@@ -2,53 +2,37 @@
 ghost use Rattle.std.specs.Prelude.{◌≡◌, ◌∷◌, ◌++◌, [], map, OnOk};
 ghost use Rattle.conf_directives.specs.Contents.{directive_content};
 ghost use Rattle.conf_text.specs.Configurations.{configured, notice_of};
-ghost use Rattle.conf_text.specs.Contents.{block_content, configuration, notice_content, scope_content};
-ghost use Rattle.conf_text.specs.Scopes.{scope_of};
+ghost use Rattle.conf_text.specs.Contents.{configuration, notice_content, scope_content};
 ghost use Rattle.conf_text.specs.Settings.{turns_hooks_off};
 ghost use Rattle.conf_text.specs.Steps.{FitsWords, conf_counts, global_with, notices_with};
 
 use crate::answers::line_number;
+use crate::blocks::Blocks;
 use crate::counting::Counts;
 use crate::scope::Scope;
 use conf_directives::{Directive, InterfaceList, Pattern};
-use net_types::{Name, NoMemory};
+use indexmap::IndexMap;
+use net_types::NoMemory;
 use std::alloc::Global;
 
 /// The path that turns hooks off.
 pub(crate) const NO_HOOKS: &str = "/dev/null";
 
 /// A word of a configuration that does nothing.
-#[derive(Debug, Drop)]
+#[derive(Drop)]
 pub struct Notice {
     /// Its line, from 1.
     pub line: u32,
     pub word: String,
 }
 
-/// What the blocks of an interface say.
-#[derive(Debug, Drop)]
-pub struct Block {
-    pub name: Name,
-    pub scope: Scope,
-}
-
-impl Block {
-    /// Nothing is said.
-    pub fn empty(alloc: Global, name: Name) -> Block
-        ensures { block_content result ≡ record { name = name; scope = scope_of [] } }
-    {
-        let scope = Scope::empty(alloc);
-        Block { name, scope }
-    }
-}
-
 /// A configuration without a fault.
-#[derive(Debug, Drop)]
+#[derive(Drop)]
 pub struct Conf {
     /// What stands in front of all blocks.
     pub(crate) global: Scope,
     /// One for each interface that has blocks.
-    pub(crate) blocks: Vec<Block>,
+    pub(crate) blocks: Blocks,
     /// Words of `allowinterfaces` and `denyinterfaces`.
     pub(crate) allowed: Vec<Pattern>,
     pub(crate) denied: Vec<Pattern>,
@@ -99,7 +83,7 @@ impl Conf {
     {
         Conf {
             global: Scope::empty(alloc),
-            blocks: Vec::new(alloc),
+            blocks: IndexMap::new(alloc),
             allowed: Vec::new(alloc),
             denied: Vec::new(alloc),
             script: None,

@@ -20,7 +20,7 @@ pub const MOST_SHARES: usize = 32;
 pub const MOST_MEMBERS: usize = 16;
 
 /// How much of each kind lines say.
-#[derive(Clone, Copy, Debug, PartialEq, Eq)]
+#[derive(Clone, Copy)]
 pub struct Counts {
     /// Words of `option`, `nooption` and `require`, those that are only noticed included.
     pub asked: usize,

@@ -6,7 +6,7 @@ ghost use Rattle.conf_text.specs.Steps.{with_flag};
 use conf_directives::FlagName;
 
 /// Which of them are on.
-#[derive(Clone, Copy, Debug, PartialEq, Eq)]
+#[derive(Clone, Copy)]
 pub struct Flags {
     pub ipv4only: bool,
     pub ipv6only: bool,

@@ -6,6 +6,8 @@
 
 mod answers;
 mod associations;
+mod block_name;
+mod blocks;
 mod choosing;
 mod conf;
 mod constants;

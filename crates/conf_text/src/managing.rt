@@ -10,7 +10,8 @@ ghost use Rattle.conf_text.specs.Settings.{dhcp4_in_force, dhcp6_in_force, first
 ghost use Rattle.conf_text.specs.Settings.{managed_of, managed_with, settings_for, settings_of};
 
 use crate::associations::{Found, associations_of};
-use crate::choosing::{block_of, is_managed};
+use crate::blocks::said_of;
+use crate::choosing::is_managed;
 use crate::conf::Conf;
 use crate::hooks::hooks_in_force;
 use crate::lists::{going_on, list_of};
@@ -139,9 +140,8 @@ fn settings_for(
 ) -> Result<IfConf, NoMemory>
     ensures { IfOk result (λ settings. settings ≡ settings_for (configuration conf.now) ifaces.now spec.now) }
 {
-    match block_of(&conf.blocks, &spec.name) {
+    match said_of(&conf.blocks, &spec.name) {
         Some(block) => {
-            let block = &block.scope;
             in_force_among(
                 alloc,
                 &Subject {

@@ -1,18 +1,20 @@
 //! A configuration that is read line by line.
-ghost use Rattle.std.specs.Prelude.{◌≡◌, map, option_map, position, slice_get, IfErr, IfSome, None, OnOk, Ok, Some};
+ghost use Rattle.std.specs.Prelude.{◌≡◌, option_map, IfErr, None, OnOk, Ok, Some};
 ghost use Rattle.std.specs.Option.{option_copied};
 ghost use Rattle.conf_directives.specs.Contents.{directive_content};
 ghost use Rattle.conf_directives.specs.Names.{heading_at};
 ghost use Rattle.conf_words.specs.Directives.{shown_line};
-ghost use Rattle.conf_text.specs.Contents.{block_content, configuration, scope_content};
+ghost use Rattle.conf_text.specs.Contents.{configuration, scope_content};
 ghost use Rattle.conf_text.specs.Places.{is_named};
 ghost use Rattle.conf_text.specs.Standings.{is_global_alone};
-ghost use Rattle.conf_text.specs.Steps.{AnswersWith, FitsNow, FitsWords, TakesLine, TakesSaid, begin_reading, block_now, block_with, cause_between};
-ghost use Rattle.conf_text.specs.Steps.{cause_now, directive_step, enter, first_place, read_so_far, say_at, say_now, skip, take_step, with_block};
+ghost use Rattle.conf_text.specs.Steps.{AnswersWith, FitsNow, TakesLine, TakesSaid, begin_reading, block_now, cause_between};
+ghost use Rattle.conf_text.specs.Steps.{cause_now, directive_step, enter, first_place, read_so_far, say_now, skip, take_step, with_block};
 
 use crate::answers::{ConfAnswer, ConfCause, fault_at};
-use crate::conf::{Block, Conf};
+use crate::blocks::{begin, place_of, said_at, say_at};
+use crate::conf::Conf;
 use crate::counting::{Counts, MOST_BLOCKS, is_repeated, is_too_much};
+use crate::scope::Scope;
 use conf_directives::{
     Directive, DirectiveName, HeadingName, IaLine, LineSaid, ValueName, directive_named,
     directive_said, heading_named, interface_said,
@@ -22,7 +24,7 @@ use net_types::{Name, NoMemory};
 use std::alloc::Global;
 
 /// Where lines stand.
-#[derive(Clone, Copy, Debug, PartialEq, Eq)]
+#[derive(Clone, Copy)]
 pub enum Spot {
     /// In front of all blocks.
     Global,
@@ -33,29 +35,10 @@ pub enum Spot {
 }
 
 /// What was read so far, and where the next line stands.
-#[derive(Debug, Drop)]
+#[derive(Drop)]
 pub struct Reader {
     pub conf: Conf,
     pub spot: Spot,
-}
-
-#[tactic(auto, unfolding(net_types::specs::NameText::name_text))]
-pub fn is_named(name: &Name, other: &Name) -> bool
-    ensures { result ≡ is_named name.now other.now }
-{
-    other.as_bytes() == name.as_bytes()
-}
-
-fn position_of(blocks: &[Block], name: &Name) -> Option<usize>
-    ensures { result ≡ position (λ block. is_named name.now block.name) blocks.now }
-{
-    blocks.iter().position(|block| is_named(name, &block.name))
-}
-
-fn place_of(blocks: &[Block], name: &Name) -> Option<usize>
-    ensures { result ≡ first_place (λ block. is_named name.now block.name) (map block_content blocks.now) }
-{
-    position_of(blocks, name)
 }
 
 /// Whether a directive may stand in front of all blocks alone.
@@ -65,26 +48,6 @@ fn is_global_alone(name: Option<DirectiveName>) -> bool
     match name {
         Some(DirectiveName::Value(ValueName::Interfaces(_) | ValueName::Script)) => true,
         _ => false,
-    }
-}
-
-fn say_in(block: &mut Block, directive: Directive) -> Result<(), NoMemory>
-    requires { FitsWords (scope_content block.old.scope) (directive_content directive) }
-    ensures { OnOk result (block_content block.new ≡ block_with (directive_content directive) (block_content block.old)) }
-{
-    block.scope.say(directive)
-}
-
-/// Takes what one line more of a block says.
-#[tactic(auto, using(crate::proofs::BlockLaws::said_within, crate::proofs::BlockLaws::said_past))]
-fn say_at(blocks: &mut [Block], place: usize, directive: Directive) -> Result<(), NoMemory>
-    requires { IfSome (slice_get (map block_content blocks.old) place) (λ block. FitsWords block.scope (directive_content directive)) }
-    ensures { OnOk result (map block_content blocks.new ≡ say_at place (directive_content directive) (map block_content blocks.old)) }
-{
-    if place < blocks.len() {
-        say_in(&mut blocks[place], directive)
-    } else {
-        Ok(())
     }
 }
 
@@ -118,10 +81,11 @@ impl Reader {
 
     /// Begins the first block of an interface.
     fn add_block(&mut self, alloc: Global, name: Name) -> Result<(), NoMemory>
+        requires { first_place (λ block. is_named name block.name) (configuration self.old.conf).blocks ≡ None }
         ensures { OnOk result (read_so_far self.new ≡ with_block name (read_so_far self.old)) }
     {
         let place = self.conf.blocks.len();
-        self.conf.blocks.push(Block::empty(alloc, name))?;
+        begin(alloc, &mut self.conf.blocks, name)?;
         self.spot = Spot::Block(place);
         Ok(())
     }
@@ -142,11 +106,12 @@ impl Reader {
         Ok(())
     }
 
-    fn block(&self) -> Option<&Block>
-        ensures { option_map block_content (option_copied result) ≡ block_now (read_so_far self.now) }
+    /// What the block says where lines stand.
+    fn block(&self) -> Option<&Scope>
+        ensures { option_map scope_content (option_copied result) ≡ option_map (λ block. block.scope) (block_now (read_so_far self.now)) }
     {
         match self.spot {
-            Spot::Block(place) => self.conf.blocks.get(place),
+            Spot::Block(place) => said_at(&self.conf.blocks, place),
             Spot::Global | Spot::Skipped => None,
         }
     }
@@ -169,8 +134,8 @@ impl Reader {
         let global = self.conf.counts();
         match self.block() {
             Some(block) => {
-                let ias = (self.conf.global.ias.as_slice(), block.scope.ias.as_slice());
-                cause_of(ias, (&global, &block.scope.counts()), directive)
+                let ias = (self.conf.global.ias.as_slice(), block.ias.as_slice());
+                cause_of(ias, (&global, &block.counts()), directive)
             }
             None => {
                 let none: &[IaLine] = &[];

@@ -14,7 +14,7 @@ use std::alloc::Global;
 
 /// What the lines in front of all blocks say, or those in the blocks of one interface: of single values what the last line
 /// says, of lists all of it.
-#[derive(Debug, Drop)]
+#[derive(Drop)]
 pub struct Scope {
     pub flags: Flags,
     /// In seconds.

@@ -5,9 +5,9 @@ ghost use Rattle.conf_text.specs.Contents.{configuration};
 ghost use Rattle.conf_text.specs.Shares.{given_by, outlet_by, outlet_of, share_of, shares_taken, sla_of, taken_with};
 ghost use Rattle.conf_text.specs.SharesTaken.{PlannedAreTaken, TakenArePlanned};
 
+use crate::block_name::is_named;
 use crate::choosing::{is_managed, metric_said, spec_named};
 use crate::conf::Conf;
-use crate::reader::is_named;
 use crate::subject::Subject;
 use conf_directives::ShareLine;
 use net_types::{IfSpec, Name, NoMemory};

@@ -9,7 +9,7 @@ use conf_directives::StaticValue;
 use net_types::{Ip4, Net4, Net6};
 
 /// What `static` lines give an interface. Each is what the last line of its key says.
-#[derive(Debug, Drop)]
+#[derive(Drop)]
 pub struct Statics {
     pub address: Option<Net4>,
     pub routers: Option<Vec<Ip4>>,

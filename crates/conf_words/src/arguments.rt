@@ -8,7 +8,7 @@ use net_types::{NoMemory, split_at_byte};
 use std::alloc::Global;
 
 /// How an argument is written.
-#[derive(Clone, Copy, Debug, PartialEq, Eq)]
+#[derive(Clone, Copy, PartialEq, Eq)]
 pub enum Form {
     /// As it is.
     Plain,
@@ -17,7 +17,7 @@ pub enum Form {
 }
 
 /// An argument of a directive.
-#[derive(Clone, Copy, Debug, PartialEq, Eq)]
+#[derive(Clone, Copy, PartialEq, Eq)]
 pub struct Argument<'a> {
     pub form: Form,
     /// Its bytes, without the quotes round them.

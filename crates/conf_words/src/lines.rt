@@ -8,7 +8,7 @@ use crate::cutting::{cut_word, past_blanks};
 use net_types::split_at_byte;
 
 /// A line that isn't skipped.
-#[derive(Clone, Copy, Debug, PartialEq, Eq)]
+#[derive(Clone, Copy, PartialEq, Eq)]
 pub struct Line<'a> {
     /// Its number in the text, from 1.
     pub number: usize,

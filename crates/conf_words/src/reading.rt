@@ -10,7 +10,7 @@ use net_types::NoMemory;
 use std::alloc::Global;
 
 /// What is read of a text.
-#[derive(Debug, Drop)]
+#[derive(Drop)]
 pub struct Reading<'a> {
     /// The lines that aren't skipped, up to the first one that isn't text.
     pub lines: Vec<Line<'a>>,

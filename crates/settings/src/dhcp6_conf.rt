@@ -8,7 +8,7 @@ use std::marker::Model;
 use v6_options::IaKind;
 
 /// An identity association that is asked for (RFC 8415, section 12): `ia_na` or `ia_pd`.
-#[derive(Clone, Copy, Debug, PartialEq, Eq)]
+#[derive(Clone, Copy)]
 pub struct IaConf {
     pub kind: IaKind,
     pub iaid: u32,
@@ -17,7 +17,7 @@ pub struct IaConf {
 }
 
 /// What another interface gets of the prefixes of an `ia_pd` (RFC 3633, section 12.1).
-#[derive(Clone, Copy, Debug, PartialEq, Eq)]
+#[derive(Clone, Copy)]
 pub struct ShareConf {
     /// The IAID of the `ia_pd`.
     pub iaid: u32,

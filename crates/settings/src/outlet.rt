@@ -1,7 +1,7 @@
 use net_types::IfIndex;
 
 /// By where the rows of an interface lead: the interface, and the metric of its routes.
-#[derive(Clone, Copy, Debug, PartialEq, Eq)]
+#[derive(Clone, Copy)]
 pub struct Outlet {
     pub iface: IfIndex,
     pub metric: u32,
