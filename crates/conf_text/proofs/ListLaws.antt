@@ -1,5 +1,5 @@
 -- Lists that grow by one at their end, and searches of them.
-use Rattle.std.proofs.Common.{◌≡◌, ℕ, suc, ◌+◌, ◌<◌, ◌≤◌, nat_lt, Bool, true, false, not, ◌||◌, cond, List, [], ◌∷◌, ◌++◌, length, map, find, filter_map, Option, Some, None, option_map, refl, sym, ap, ◌∙◌, arith}
+use Rattle.std.proofs.Common.{◌≡◌, ℕ, suc, ◌+◌, ◌<◌, ◌≤◌, nat_lt, Bool, true, false, not, ◌||◌, cond, List, [], ◌∷◌, ◌++◌, length, map, filter_map, Option, Some, None, option_map, refl, sym, ap, ◌∙◌, arith}
 use Rattle.std.specs.List.{cons_option, flat_map, last_or, list_any, position, prefix_len}
 use Rattle.std.specs.Option.{option_or}
 use Rattle.std.proofs.lemmas.Bool.{le-ltb, lt-ltb, ltb-false, ltb-true}
@@ -37,14 +37,6 @@ lists_found {X = X} f cs c = with_found f (flat_map (λ (ys : List X). ys)) list
 
 -- ---- searches
 
-cond_map : {X Y : Type 0} (g : X → Y) (b : Bool) (x : X) (one : Option Y) (other : Option X) → one ≡ option_map g other → cond b (Some (g x)) one ≡ option_map g (cond b (Some x) other)
-cond_map g true x one other same = refl
-cond_map g false x one other same = same
-
-pub found_in_map : {X Y : Type 0} (p : Y → Bool) (g : X → Y) (xs : List X) → find p (map g xs) ≡ option_map g (find (λ x. p (g x)) xs)
-found_in_map p g [] = refl
-found_in_map p g (x ∷ xs) = cond_map g (p (g x)) x _ _ (found_in_map p g xs)
-
 pub any_in_map : {X Y : Type 0} (p : Y → Bool) (g : X → Y) (xs : List X) → list_any p (map g xs) ≡ list_any (λ x. p (g x)) xs
 any_in_map p g [] = refl
 any_in_map p g (x ∷ xs) = ap (λ b. p (g x) || b) (any_in_map p g xs)
@@ -80,6 +72,3 @@ position_is p (x ∷ xs) = place_step (p x) (prefix_len (λ y. not (p y)) xs) (l
 pub first_place_map : {X Y : Type 0} (p : Y → Bool) (g : X → Y) (xs : List X) → first_place p (map g xs) ≡ first_place (λ x. p (g x)) xs
 first_place_map p g [] = refl
 first_place_map p g (x ∷ xs) = ap (λ o. cond (p (g x)) (Some 0) (option_map suc o)) (first_place_map p g xs)
-
-pub placed_in_map : {X Y : Type 0} (p : Y → Bool) (g : X → Y) (xs : List X) → position (λ x. p (g x)) xs ≡ first_place p (map g xs)
-placed_in_map p g xs = position_is (λ x. p (g x)) xs ∙ sym (first_place_map p g xs)
