@@ -7,7 +7,7 @@ use net_types::IfIndex;
 use std::alloc::AllocError;
 
 /// What a turn of an interface may have changed of what is kept of it and of what goes into files.
-#[derive(Clone, Copy, Debug, PartialEq, Eq)]
+#[derive(Clone, Copy, PartialEq, Eq)]
 pub enum Changes {
     Nothing,
     /// The leases that it keeps.
@@ -41,7 +41,7 @@ impl Changes {
 }
 
 /// Whether the interfaces tell the resolver what they told before.
-#[derive(Clone, Copy, Debug, PartialEq, Eq)]
+#[derive(Clone, Copy, PartialEq, Eq)]
 pub enum Resolver {
     Same,
     Other,
@@ -70,7 +70,7 @@ impl Resolver {
 }
 
 /// What a turn touched of what goes into files.
-#[derive(Debug, Drop)]
+#[derive(Drop)]
 pub struct Touched {
     /// The interfaces that may keep another lease than before. All others keep what they kept.
     pub ifaces: Vec<IfIndex>,

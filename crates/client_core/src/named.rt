@@ -8,7 +8,7 @@ use crate::places::Places;
 const INDICES: usize = 65;
 
 /// Which places the interfaces of each index have.
-#[derive(Clone, Copy, Debug)]
+#[derive(Clone, Copy)]
 pub struct Named {
     pub table: [Places; INDICES],
 }

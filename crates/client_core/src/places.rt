@@ -5,7 +5,7 @@ ghost use Rattle.client_core.specs.Places.{has, no_places};
 pub const PLACES: usize = 64;
 
 /// A set of places of interfaces: bit `p` is place `p`. Those from 64 on are in every set.
-#[derive(Clone, Copy, Debug, PartialEq, Eq)]
+#[derive(Clone, Copy, PartialEq, Eq)]
 pub struct Places {
     pub bits: u64,
 }

@@ -32,7 +32,12 @@ fn is_among<K: Ord, L: Ledger>(keys: &[K], place: &mut usize, key: &K, steps: &m
 
 /// Fills a vector that has room for all keys with those that others lack, in order: that takes no memory. It takes a step for each
 /// key of either list at most.
-pub fn beyond_into<K: Ord + Copy, L: Ledger>(keys: &[K], others: &[K], found: &mut Vec<K>, steps: &mut Steps<L>)
+pub fn beyond_into<K: Ord + Copy, L: Ledger>(
+    keys: &[K],
+    others: &[K],
+    found: &mut Vec<K>,
+    steps: &mut Steps<L>,
+)
     requires keys { IsStrictlySortedBy K.cmp keys.now }
     requires others { IsStrictlySortedBy K.cmp others.now }
     requires room { length keys.now ≤ vec_capacity found.old }

@@ -18,14 +18,14 @@ use v6_message::Said6;
 use world::HookJob;
 
 /// A frame that is offered on an interface.
-#[derive(Debug, Drop)]
+#[derive(Drop)]
 pub struct Sending {
     pub iface: IfIndex,
     pub bytes: Vec<u8>,
 }
 
 /// What an interface tells hooks (dhcpcd-run-hooks(8)).
-#[derive(Debug, Drop)]
+#[derive(Drop)]
 pub enum Told {
     /// A job of its own.
     Own(HookJob),
