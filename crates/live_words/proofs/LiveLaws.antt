@@ -1,5 +1,5 @@
 -- The words of `live`: what is read is what they say, and what they say is read.
-use Rattle.std.proofs.Common.{◌≡◌, ℕ, true, false, ◌&&◌, not, cond, List, [], ◌∷◌, length, map, option_and_then, option_map, Option, Some, None, IfSome, refl, sym, ap, subst, ◌∙◌, codes, leb}
+use Rattle.std.proofs.Common.{◌≡◌, ◌≢◌, ℕ, true, false, ◌&&◌, not, cond, List, [], ◌∷◌, length, map, option_and_then, option_map, Option, Some, None, IfSome, refl, sym, ap, subst, ◌∙◌, codes, leb}
 use Rattle.std.specs.Fmt.{decimal}
 use Rattle.std.specs.List.{list_any}
 use Rattle.std.proofs.lemmas.Bool.{and_parts, and_from, not-true, or_from, leb-true, le-leb}
@@ -8,7 +8,7 @@ use Rattle.std.proofs.lemmas.Slice.Eq.{bytes_eq-Decides}
 use Rattle.net_types.specs.declared.interface.IfSpec.{IfSpec}
 use Rattle.net_types.proofs.ReadsLaws.{guard_passed, passed, some_same}
 use Rattle.live_words.specs.declared.reading.LiveWords.{LiveWords}
-use Rattle.live_words.specs.LiveWords.{iface_word, AsksLive, IsLiveRead, SaysLive}
+use Rattle.live_words.specs.LiveWords.{IsPort, iface_word, AsksLive, IsLiveRead, SaysLive}
 use Rattle.live_words.specs.LiveReading.{Places, Said, are_places, ifaces_at, is_live, is_option, is_some_text, live_at, places_at, port_at, ports_at, said_at, said_of}
 use Rattle.live_words.proofs.PortLaws.{path_sound, path_whole, port_plain, ports_sound, ports_whole}
 use Rattle.live_words.proofs.IfaceLaws.{ifaces_plain, ifaces_sound, ifaces_whole}
@@ -38,15 +38,19 @@ at_places (work ∷ port ∷ peer ∷ folder ∷ script ∷ words) places e =
       fit = passes.1;
     }
 
-said_text : Said → List (List ℕ)
-said_text said = codes "live" ∷ decimal said.ports.own ∷ decimal said.ports.peer ∷ said.folder ∷ said.script ∷ map iface_word said.specs
+-- the words are the text of what is said, and the ports are unlike
+record SaysSaid (words : List (List ℕ)) (said : Said) : Type 0 where
+  pub says : words ≡ codes "live" ∷ decimal said.ports.own ∷ decimal said.ports.peer ∷ said.folder ∷ said.script ∷ map iface_word said.specs
+  pub port_is : IsPort said.ports.own
+  pub peer_is : IsPort said.ports.peer
+  pub unlike : said.ports.own ≢ said.ports.peer
 
 -- the words ask for what is said, and are its text
 abbrev AsksSaid : List (List ℕ) → Said → Type 0
-AsksSaid words said = AsksLive words said.specs × (words ≡ said_text said)
+AsksSaid words said = AsksLive words said.specs × SaysSaid words said
 
 said_sound : (words : List (List ℕ)) (places : Places) (said : Said) → is_live words ≡ true → list_any is_option words ≡ false → AtPlaces words places → said_at places ≡ Some said → AsksSaid words said
-unfolding said_at said_text
+unfolding said_at
 said_sound words places said live plain has e =
     let one = passed (ports_at (port_at places.port) (port_at places.peer)) _ said e in
     let two = passed (ifaces_at places.interfaces) _ said one.gives in
@@ -78,7 +82,7 @@ said_sound words places said live plain has e =
         some = ifaces.some;
         fit = ifaces.fit;
       },
-      text,
+      record { says = text; port_is = ports.port_is; peer_is = ports.peer_is; unlike = ports.unlike },
     )
 
 live_sound : (words : List (List ℕ)) (said : Said) → live_at words ≡ Some said → AsksSaid words said
@@ -140,6 +144,7 @@ live_read words (Some live) e = (live_sound words (said_of live) (sym e)).0
 live_read words None e = λ specs asks. let both : None ≡ Some (whole words specs asks) = e ∙ live_whole words specs asks in cc
 
 pub live_says : (words : List (List ℕ)) (found : Option LiveWords) → option_map said_of found ≡ live_at words → IfSome found (SaysLive words)
-unfolding said_text
-live_says words (Some live) e = (live_sound words (said_of live) (sym e)).1
+live_says words (Some live) e =
+    let said = (live_sound words (said_of live) (sym e)).1 in
+    record { says = said.says; port_is = said.port_is; peer_is = said.peer_is; unlike = said.unlike }
 live_says words None e = tt

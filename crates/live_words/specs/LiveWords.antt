@@ -44,10 +44,12 @@ abbrev pub IsLiveRead : List (List ℕ) → Option (List IfSpec) → Type 0
 IsLiveRead words (Some specs) = AsksLive words specs
 IsLiveRead words None = (specs : List IfSpec) → AsksLive words specs → ⊥
 
--- these are the very words
-abbrev pub SaysLive : List (List ℕ) → LiveWords → Type 0
-SaysLive words live =
-    words ≡ codes "live" ∷ decimal live.ports.own ∷ decimal live.ports.peer ∷ live.folder.now ∷ live.script.now ∷ map iface_word live.interfaces
+-- these are the very words, and the ports are unlike
+pub record SaysLive (words : List (List ℕ)) (live : LiveWords) : Type 0 where
+  pub says : words ≡ codes "live" ∷ decimal live.ports.own ∷ decimal live.ports.peer ∷ live.folder.now ∷ live.script.now ∷ map iface_word live.interfaces
+  pub port_is : IsPort live.ports.own
+  pub peer_is : IsPort live.ports.peer
+  pub unlike : live.ports.own ≢ live.ports.peer
 
 abbrev pub BeginsLive : List (List ℕ) → Type 0
 BeginsLive words = (others : List (List ℕ)) × (words ≡ codes "live" ∷ others)
