@@ -8,7 +8,7 @@ ghost use Rattle.client_core.specs.Leading.{Alters};
 
 use crate::iface_rows::push_iface;
 use client_model::Iface;
-use host_tables::{Diff, HostRows, Steps, Tables};
+use host_tables::{Diff, HostRows, Plain, Steps, Tables};
 use net_types::NoMemory;
 use std::alloc::Global;
 
@@ -57,6 +57,6 @@ pub fn renew_rows(
     if tables.brought(place).is_same(&rows) {
         return Ok(None);
     }
-    let diff = tables.change(place, rows, &mut Steps::new())?;
+    let diff = tables.change(place, rows, &mut Steps::new(Plain))?;
     Ok(Some(diff))
 }

@@ -3,11 +3,12 @@ ghost use Rattle.std.specs.Prelude.{ℕ, ◌+◌, ◌^◌, ◌<◌, ◌≤◌, l
 ghost use Rattle.std.specs.List.Sorted.{IsStrictlySortedBy};
 ghost use Rattle.counted_search.specs.Ordered.{BeginsAt, IsAboveAll, IsFirstFrom};
 
+use crate::ledger::Ledger;
 use crate::search::find;
 use crate::steps::Steps;
 
 /// Where the keys begin that aren't below this one.
-fn beginning<K: Ord>(keys: &[K], key: &K, steps: &mut Steps) -> usize
+fn beginning<K: Ord, L: Ledger>(keys: &[K], key: &K, steps: &mut Steps<L>) -> usize
     requires { IsStrictlySortedBy K.cmp keys.now }
     ensures begins { BeginsAt K.cmp keys.now key.now result }
     ensures grows { steps.old ≤ steps.new }
@@ -20,7 +21,11 @@ fn beginning<K: Ord>(keys: &[K], key: &K, steps: &mut Steps) -> usize
 }
 
 /// The first of the keys that isn't below this one.
-pub fn first_from<'a, K: Ord>(keys: &'a [K], key: &K, steps: &mut Steps) -> Option<&'a K>
+pub fn first_from<'a, K: Ord, L: Ledger>(
+    keys: &'a [K],
+    key: &K,
+    steps: &mut Steps<L>,
+) -> Option<&'a K>
     requires { IsStrictlySortedBy K.cmp keys.now }
     ensures none { IfNone result (IsAboveAll K.cmp keys.now key.now) }
     ensures first { IfSome result (λ first. IsFirstFrom K.cmp keys.now key.now first.now) }

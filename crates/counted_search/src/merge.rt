@@ -5,12 +5,13 @@ ghost use Rattle.std.specs.List.Sorted.{IsStrictlySortedBy};
 ghost use Rattle.std.specs.Vec.{vec_capacity};
 ghost use Rattle.counted_search.specs.Ordered.{has_key};
 
+use crate::ledger::Ledger;
 use crate::steps::Steps;
 use std::alloc::{AllocError, Global};
 use std::cmp::Ordering;
 
 /// Whether a key is among those from a place on. The place goes past those that are below it.
-fn is_among<K: Ord>(keys: &[K], place: &mut usize, key: &K, steps: &mut Steps) -> bool
+fn is_among<K: Ord, L: Ledger>(keys: &[K], place: &mut usize, key: &K, steps: &mut Steps<L>) -> bool
     requires ordered { IsStrictlySortedBy K.cmp keys.now }
     requires within { place.old ≤ length keys.now }
     ensures answer { result ≡ has_key K.cmp (drop place.old keys.now) key.now }
@@ -20,8 +21,7 @@ fn is_among<K: Ord>(keys: &[K], place: &mut usize, key: &K, steps: &mut Steps) -
     ensures steps { steps.new + place.old ≤ steps.old + place.new + 1 }
 {
     'below: while *place < keys.len() {
-        steps.tick();
-        match keys[*place].cmp(key) {
+        match steps.compare(&keys[*place], key) {
             Ordering::Less => *place += 1,
             Ordering::Equal => return true,
             Ordering::Greater => return false,
@@ -32,7 +32,12 @@ fn is_among<K: Ord>(keys: &[K], place: &mut usize, key: &K, steps: &mut Steps) -
 
 /// Fills a vector that has room for all keys with those that others lack, in order: that takes no memory. It takes a step for each
 /// key of either list at most.
-pub fn beyond_into<K: Ord + Copy>(keys: &[K], others: &[K], found: &mut Vec<K>, steps: &mut Steps)
+pub fn beyond_into<K: Ord + Copy, L: Ledger>(
+    keys: &[K],
+    others: &[K],
+    found: &mut Vec<K>,
+    steps: &mut Steps<L>,
+)
     requires keys { IsStrictlySortedBy K.cmp keys.now }
     requires others { IsStrictlySortedBy K.cmp others.now }
     requires room { length keys.now ≤ vec_capacity found.old }
@@ -52,11 +57,11 @@ pub fn beyond_into<K: Ord + Copy>(keys: &[K], others: &[K], found: &mut Vec<K>, 
 }
 
 /// The keys that others lack, in order. It takes a step for each key of either list at most.
-pub fn beyond<K: Ord + Copy>(
+pub fn beyond<K: Ord + Copy, L: Ledger>(
     alloc: Global,
     keys: &[K],
     others: &[K],
-    steps: &mut Steps,
+    steps: &mut Steps<L>,
 ) -> Result<Vec<K>, AllocError>
     requires keys { IsStrictlySortedBy K.cmp keys.now }
     requires others { IsStrictlySortedBy K.cmp others.now }

@@ -1,42 +1,46 @@
 //! How many comparisons were made.
-ghost use Rattle.std.specs.Prelude.{◌≡◌, ◌+◌, ◌≤◌, min};
+ghost use Rattle.std.specs.Prelude.{◌≡◌, ◌+◌, ◌≤◌};
 
+use crate::ledger::Ledger;
+use std::cmp::Ordering;
 use std::marker::Model;
 
-/// A count of steps, each the comparison of two keys. It stays at 2^64 - 1 once it is there.
+/// A count of steps, each the comparison of two keys: the number that a ledger has. Over `Plain` it takes no bytes.
 #[derive(Drop)]
-pub struct Steps {
-    count: u64,
+pub struct Steps<L: Ledger> {
+    ledger: L,
 }
 
-impl Model for Steps {
+impl<L: Ledger> Model for Steps<L> {
     ghost use Rattle.std.specs.Prelude.{ℕ};
 
     ghost Value = { ℕ };
 
-    ghost view = { λ steps. steps.count };
+    ghost view = { λ steps. L.count steps.ledger };
 }
 
-impl Steps {
-    /// No step was made.
-    pub fn new() -> Steps
-        ensures { result ≡ 0 }
+impl<L: Ledger> Steps<L> {
+    /// The steps that the ledger has.
+    pub fn new(ledger: L) -> Steps<L>
+        ensures { result ≡ L.count ledger }
     {
-        Steps { count: 0 }
+        Steps { ledger }
     }
 
-    /// Counts one more step.
-    pub fn tick(&mut self)
-        ensures counted { self.new ≡ min (self.old + 1) u64.MAX }
+    /// Compares two keys, which is one step.
+    pub fn compare<K: Ord>(&mut self, one: &K, other: &K) -> Ordering
+        ensures order { result ≡ K.cmp one.now other.now }
         ensures grows { self.old ≤ self.new }
+        ensures one { self.new ≤ self.old + 1 }
     {
-        self.count = self.count.saturating_add(1);
+        self.ledger.tick();
+        one.cmp(other)
     }
 
-    /// The steps so far.
-    pub fn count(&self) -> u64
-        ensures { result ≡ self.now }
+    /// The ledger, with the steps so far.
+    pub fn ledger(&self) -> &L
+        ensures { L.count result.now ≡ self.now }
     {
-        self.count
+        &self.ledger
     }
 }

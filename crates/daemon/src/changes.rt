@@ -5,7 +5,7 @@ ghost use Rattle.client_core.specs.Leading.{Leads};
 ghost use Rattle.daemon.specs.Tables.{changes_by};
 
 use client_core::Diff;
-use counted_search::{Steps, beyond};
+use counted_search::{Plain, Steps, beyond};
 use host_model::HostChange;
 use std::alloc::{AllocError, Global};
 use world::HostRow;
@@ -44,7 +44,7 @@ pub fn diff_between(
     requires wanted { InRowOrder wanted.now }
     ensures { IfOk result (λ diff. Leads diff known.now wanted.now) }
 {
-    let mut steps = Steps::new();
+    let mut steps = Steps::new(Plain);
     let gone = beyond(alloc, known, wanted, &mut steps)?;
     let come = beyond(alloc, wanted, known, &mut steps)?;
     Ok(Diff { gone, come })

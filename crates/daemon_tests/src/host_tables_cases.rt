@@ -1,6 +1,6 @@
 ghost use Rattle.world.specs.Rows.{IsInterface, IsRow};
 
-use host_tables::{Diffs, HostRows, Steps, Tables};
+use host_tables::{Counted, Diffs, HostRows, Plain, Steps, Tables};
 use net_types::{IfIndex, Ip4, Net, Net4};
 use std::alloc::{AllocError, Global};
 use std::test::Fail;
@@ -47,7 +47,7 @@ fn a_shared_route_goes_over_to_the_next_interface(rt: HostRuntime) -> Result<(),
     tables.push(rows_of(rt.alloc(), BY_TWO)?)?;
     assert!(rt; tables.wanted().contains(&BY_ONE));
     assert_eq!(rt; tables.wanted().len(), 1);
-    tables.change(0, HostRows::new(rt.alloc()), &mut Steps::new())?;
+    tables.change(0, HostRows::new(rt.alloc()), &mut Steps::new(Plain))?;
     assert!(rt; tables.wanted().contains(&BY_TWO));
     assert_eq!(rt; tables.wanted().len(), 1);
     Ok(())
@@ -61,9 +61,9 @@ fn a_row_stays_that_another_place_brings(rt: HostRuntime) -> Result<(), Fail> {
     let mut tables = Tables::new(rt.alloc());
     tables.push(one)?;
     tables.push(rows_of(rt.alloc(), BY_ONE)?)?;
-    tables.change(1, HostRows::new(rt.alloc()), &mut Steps::new())?;
+    tables.change(1, HostRows::new(rt.alloc()), &mut Steps::new(Plain))?;
     assert!(rt; tables.wanted().contains(&BY_ONE));
-    tables.change(0, HostRows::new(rt.alloc()), &mut Steps::new())?;
+    tables.change(0, HostRows::new(rt.alloc()), &mut Steps::new(Plain))?;
     assert!(rt; tables.wanted().is_empty());
     Ok(())
 }
@@ -92,17 +92,17 @@ fn a_change_of_one_row_among_many_takes_few_steps(rt: HostRuntime) -> Result<(),
         tables.push(rows_of(rt.alloc(), own_address(iface))?)?;
     }
     tables.push(rows_of(rt.alloc(), own_address(64))?)?;
-    let mut steps = Steps::new();
+    let mut steps = Steps::new(Counted { steps: 0 });
     let diff = tables.change(0, rows_of(rt.alloc(), BY_ONE)?, &mut steps)?;
     assert_eq!(rt; diff.gone.as_slice(), [own_address(1)].as_slice());
     assert_eq!(rt; diff.come.as_slice(), [BY_ONE].as_slice());
-    assert!(rt; steps.count() <= 8 * 3 * 9);
+    assert!(rt; steps.ledger().steps <= 8 * 3 * 9);
     Ok(())
 }
 
 #[test]
 fn one_change_after_another_is_told_as_one(rt: HostRuntime) -> Result<(), Fail> {
-    let mut steps = Steps::new();
+    let mut steps = Steps::new(Plain);
     let mut tables = Tables::new(rt.alloc());
     tables.push(HostRows::new(rt.alloc()))?;
     let first = tables.change(0, rows_of(rt.alloc(), BY_ONE)?, &mut steps)?;
@@ -118,7 +118,7 @@ fn one_change_after_another_is_told_as_one(rt: HostRuntime) -> Result<(), Fail> 
 
 #[test]
 fn of_a_row_that_comes_back_nothing_is_told(rt: HostRuntime) -> Result<(), Fail> {
-    let mut steps = Steps::new();
+    let mut steps = Steps::new(Plain);
     let mut tables = Tables::new(rt.alloc());
     tables.push(rows_of(rt.alloc(), BY_ONE)?)?;
     let first = tables.change(0, rows_of(rt.alloc(), BY_TWO)?, &mut steps)?;

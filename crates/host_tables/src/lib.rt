@@ -8,7 +8,7 @@ mod standing;
 mod tables;
 mod union;
 
-pub use counted_search::Steps;
+pub use counted_search::{Counted, Ledger, Plain, Steps};
 pub use diffs::Diffs;
 pub use host_rows::HostRows;
 pub use tables::Tables;

@@ -10,11 +10,11 @@ ghost use Rattle.host_tables.specs.Costs.{HasRoom, IsEmpty};
 ghost use Rattle.host_tables.specs.Unions.{AddsHeads, AreHeads};
 
 use crate::bringing::{Bringing, target};
-use counted_search::{Steps, first_from, put_in};
+use counted_search::{Ledger, Steps, first_from, put_in};
 use world::HostRow;
 
 /// The row that stands for the target of this one: the first of those that are brought.
-fn head(brought: &[Bringing], row: HostRow, steps: &mut Steps) -> Option<HostRow>
+fn head<L: Ledger>(brought: &[Bringing], row: HostRow, steps: &mut Steps<L>) -> Option<HostRow>
     requires { InBringingOrder brought.now }
     ensures stands { (q : HostRow) → stands_at row (rows_in brought.now) q ≡ is_it result q }
     ensures grows { steps.old ≤ steps.new }
@@ -38,7 +38,12 @@ fn head(brought: &[Bringing], row: HostRow, steps: &mut Steps) -> Option<HostRow
 }
 
 /// Adds what stands for the target of this row.
-fn add_head(brought: &[Bringing], row: HostRow, heads: &mut Vec<HostRow>, steps: &mut Steps)
+fn add_head<L: Ledger>(
+    brought: &[Bringing],
+    row: HostRow,
+    heads: &mut Vec<HostRow>,
+    steps: &mut Steps<L>,
+)
     requires brought { InBringingOrder brought.now }
     requires in_order { InRowOrder heads.old.items }
     requires room { vec_len heads.old < vec_capacity heads.old }
@@ -55,7 +60,12 @@ fn add_head(brought: &[Bringing], row: HostRow, heads: &mut Vec<HostRow>, steps:
 }
 
 /// Adds what stands for the targets of these rows.
-fn add_heads(brought: &[Bringing], rows: &[HostRow], heads: &mut Vec<HostRow>, steps: &mut Steps)
+fn add_heads<L: Ledger>(
+    brought: &[Bringing],
+    rows: &[HostRow],
+    heads: &mut Vec<HostRow>,
+    steps: &mut Steps<L>,
+)
     requires brought { InBringingOrder brought.now }
     requires in_order { InRowOrder heads.old.items }
     requires room { HasRoom (length rows.now) heads.old }
@@ -72,12 +82,12 @@ fn add_heads(brought: &[Bringing], rows: &[HostRow], heads: &mut Vec<HostRow>, s
 
 /// Fills an empty vector with what stands for the targets of the rows before and after.
 #[tactic(auto, using(counted_search::proofs::Edits::sorted_none))]
-pub fn heads_into(
+pub fn heads_into<L: Ledger>(
     brought: &[Bringing],
     before: &[HostRow],
     after: &[HostRow],
     heads: &mut Vec<HostRow>,
-    steps: &mut Steps,
+    steps: &mut Steps<L>,
 )
     requires brought { InBringingOrder brought.now }
     requires empty { IsEmpty heads.old }

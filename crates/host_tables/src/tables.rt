@@ -8,7 +8,7 @@ ghost use Rattle.host_tables.specs.Unions.{Differ};
 
 use crate::host_rows::HostRows;
 use crate::union::{Diff, Union};
-use counted_search::Steps;
+use counted_search::{Ledger, Plain, Steps};
 use net_types::NoMemory;
 use std::alloc::Global;
 use std::marker::Model;
@@ -53,9 +53,13 @@ impl Tables {
     {
         self.places.reserve(1)?;
         let place = self.places.len();
-        let _diff = self
-            .union
-            .exchange(self.alloc, place, &[], rows.as_slice(), &mut Steps::new())?;
+        let _diff = self.union.exchange(
+            self.alloc,
+            place,
+            &[],
+            rows.as_slice(),
+            &mut Steps::new(Plain),
+        )?;
         // There is room, so this can't fail.
         let _ = self.places.push(rows);
         Ok(())
@@ -63,11 +67,11 @@ impl Tables {
 
     /// Puts these rows in the place of those that this place brings, and answers what that makes of the wanted rows. The steps that
     /// it takes grow with the number of these rows and of those before, and not with all. Where memory runs out all is as it was.
-    pub fn change(
+    pub fn change<L: Ledger>(
         &mut self,
         place: usize,
         rows: HostRows,
-        steps: &mut Steps,
+        steps: &mut Steps<L>,
     ) -> Result<Diff, NoMemory>
         requires { place < length self.old }
         ensures changed { OnOk result (self.new ≡ slice_set self.old place rows) }

@@ -9,7 +9,7 @@ ghost use Rattle.host_tables.specs.Unions.{AddsRows, Brings, Exchanges, KeepsRow
 
 use crate::bringing::Bringing;
 use crate::standing::heads_into;
-use counted_search::{Steps, beyond_into, put_in};
+use counted_search::{Ledger, Steps, beyond_into, put_in};
 use std::alloc::{AllocError, Global};
 use world::HostRow;
 
@@ -39,7 +39,7 @@ struct Room {
 }
 
 /// Takes these rows out.
-fn remove_all(all: &mut Vec<HostRow>, rows: &[HostRow], steps: &mut Steps)
+fn remove_all<L: Ledger>(all: &mut Vec<HostRow>, rows: &[HostRow], steps: &mut Steps<L>)
     requires { InRowOrder all.old.items }
     ensures removes { RemovesRows rows.now all.old.items all.new.items }
     ensures len { vec_len all.new ≤ vec_len all.old }
@@ -53,7 +53,7 @@ fn remove_all(all: &mut Vec<HostRow>, rows: &[HostRow], steps: &mut Steps)
 }
 
 /// Puts these rows in.
-fn add_all(all: &mut Vec<HostRow>, rows: &[HostRow], steps: &mut Steps)
+fn add_all<L: Ledger>(all: &mut Vec<HostRow>, rows: &[HostRow], steps: &mut Steps<L>)
     requires in_order { InRowOrder all.old.items }
     requires room { HasRoom (length rows.now) all.old }
     ensures adds { AddsRows rows.now all.old.items all.new.items }
@@ -94,7 +94,7 @@ impl Union {
     }
 
     /// The place no longer brings these rows.
-    fn take_out(&mut self, place: usize, rows: &[HostRow], steps: &mut Steps)
+    fn take_out<L: Ledger>(&mut self, place: usize, rows: &[HostRow], steps: &mut Steps<L>)
         requires { InBringingOrder self.old.brought.items }
         ensures takes_out { TakesOut place rows.now self.old self.new }
         ensures len { vec_len self.new.brought ≤ vec_len self.old.brought }
@@ -108,7 +108,7 @@ impl Union {
     }
 
     /// The place brings these rows.
-    fn bring(&mut self, place: usize, rows: &[HostRow], steps: &mut Steps)
+    fn bring<L: Ledger>(&mut self, place: usize, rows: &[HostRow], steps: &mut Steps<L>)
         requires in_order { InBringingOrder self.old.brought.items }
         requires room { vec_len self.old.brought + length rows.now ≤ vec_capacity self.old.brought }
         ensures brings { Brings place rows.now self.old self.new }
@@ -122,13 +122,13 @@ impl Union {
     }
 
     /// The place brings other rows than before, with all memory at hand.
-    fn exchange_in(
+    fn exchange_in<L: Ledger>(
         &mut self,
         room: Room,
         place: usize,
         before: &[HostRow],
         after: &[HostRow],
-        steps: &mut Steps,
+        steps: &mut Steps<L>,
     ) -> Diff
         requires brought { InBringingOrder self.old.brought.items }
         requires wanted { InRowOrder self.old.wanted.items }
@@ -155,13 +155,13 @@ impl Union {
     }
 
     /// The place brings other rows than before. All memory is taken first: where there is none, all is as it was.
-    pub fn exchange(
+    pub fn exchange<L: Ledger>(
         &mut self,
         alloc: Global,
         place: usize,
         before: &[HostRow],
         after: &[HostRow],
-        steps: &mut Steps,
+        steps: &mut Steps<L>,
     ) -> Result<Diff, AllocError>
         requires brought { InBringingOrder self.old.brought.items }
         requires wanted { InRowOrder self.old.wanted.items }

@@ -4,6 +4,8 @@
 #[cfg(test)]
 mod arp_acd_cases;
 #[cfg(test)]
+mod compared;
+#[cfg(test)]
 mod counted_search_cases;
 #[cfg(test)]
 mod hook_child_cases;

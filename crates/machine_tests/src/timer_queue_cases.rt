@@ -2,7 +2,7 @@ ghost use Rattle.std.specs.Prelude.{◌≡◌};
 
 use machine::TimedMachine;
 use std::test::Fail;
-use timer_queue::{KEYS, Key, Queue, Steps};
+use timer_queue::{Counted, KEYS, Key, Plain, Queue, Steps};
 
 fn key(iface: u32, machine: TimedMachine) -> Key
     ensures { result.iface ≡ iface }
@@ -13,7 +13,7 @@ fn key(iface: u32, machine: TimedMachine) -> Key
 #[test]
 fn the_earliest_moment_is_next(rt: HostRuntime) -> Result<(), Fail> {
     let mut queue = Queue::new(rt.alloc())?;
-    let mut steps = Steps::new();
+    let mut steps = Steps::new(Plain);
     assert_eq!(rt; queue.next_due(), None);
     queue.set(key(2, TimedMachine::Dhcp6), 70, &mut steps);
     queue.set(key(63, TimedMachine::Dhcp4), 50, &mut steps);
@@ -29,7 +29,7 @@ fn the_earliest_moment_is_next(rt: HostRuntime) -> Result<(), Fail> {
 #[test]
 fn due_keys_come_in_the_order_of_keys(rt: HostRuntime) -> Result<(), Fail> {
     let mut queue = Queue::new(rt.alloc())?;
-    let mut steps = Steps::new();
+    let mut steps = Steps::new(Plain);
     let mut due = Vec::with_capacity(rt.alloc(), KEYS)?;
     queue.set(key(3, TimedMachine::Dhcp6), 10, &mut steps);
     queue.set(key(3, TimedMachine::Dhcp4), 20, &mut steps);
@@ -57,9 +57,9 @@ fn a_full_queue_changes_in_few_steps(rt: HostRuntime) -> Result<(), Fail> {
                 TimedMachine::Dhcp4,
                 TimedMachine::LinkLocal,
             ] {
-                let mut steps = Steps::new();
+                let mut steps = Steps::new(Counted { steps: 0 });
                 queue.set(key(iface, machine), u64::from(iface % 7 + turn), &mut steps);
-                assert!(rt; steps.count() <= 16);
+                assert!(rt; steps.ledger().steps <= 16);
             }
         }
     }

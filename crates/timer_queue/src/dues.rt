@@ -9,7 +9,7 @@ ghost use Rattle.timer_queue.specs.Keys.{place_of};
 use crate::key::Key;
 use crate::places::{PLACES, Places};
 use crate::queue::{KEYS, Queue};
-use counted_search::Steps;
+use counted_search::{Plain, Steps};
 use machine::TimedMachine;
 use net_types::NoMemory;
 use std::alloc::Global;
@@ -64,8 +64,8 @@ fn put_one(queue: &mut Queue, iface: u32, machine: TimedMachine, due: Option<u64
 {
     let key = Key { iface, machine };
     match due {
-        Some(at) => queue.set(key, at, &mut Steps::new()),
-        None => queue.clear(key, &mut Steps::new()),
+        Some(at) => queue.set(key, at, &mut Steps::new(Plain)),
+        None => queue.clear(key, &mut Steps::new(Plain)),
     }
 }
 

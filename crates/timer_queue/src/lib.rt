@@ -8,7 +8,7 @@ mod places;
 mod queue;
 mod timer;
 
-pub use counted_search::Steps;
+pub use counted_search::{Counted, Ledger, Plain, Steps};
 pub use dues::{Dues, MachineDues};
 pub use key::Key;
 pub use named::Named;

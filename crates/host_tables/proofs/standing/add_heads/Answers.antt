@@ -8,7 +8,7 @@ use Rattle.host_tables.proofs.RowByRow.{heads_more}
 use Rattle.host_tables.proofs.standing.add_heads.Goals as goal
 
 pub loop-row-preserved : goal.loop-row-preserved
-loop-row-preserved c =
+loop-row-preserved g c =
     let i = c.loop-row.invariant in let head = c.add_head.ensures in
     record {
       has = λ q. heads_more c.args.rows.now (rows_in c.args.brought.now) c.loop-row.row-index _ q _ _ _ c.loop-row-test.true (i.has q) (head.has q);
@@ -20,7 +20,7 @@ loop-row-preserved c =
     }
 
 pub returns-clause-adds : goal.returns-clause-adds
-returns-clause-adds c = record {
+returns-clause-adds g c = record {
   has = λ q. c.loop-row.invariant.has q
       ∙ ap (λ (rows : List HostRow). has_row c.args.heads.now.items q || stands_for rows (rows_in c.args.brought.now) q) (take_all c.loop-row.row-index c.args.rows.now c.loop-row-test.false);
   in_order = c.loop-row.invariant.in_order;

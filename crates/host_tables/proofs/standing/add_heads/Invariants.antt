@@ -7,7 +7,7 @@ use Rattle.host_tables.specs.Bringings.{rows_in, stands_for}
 use Rattle.host_tables.proofs.standing.add_heads.Given as goal
 
 abbrev pub invariant-loop-row : goal.invariant-loop-row
-invariant-loop-row l = record {
+invariant-loop-row g l = record {
   has : (q : HostRow) → has_row l.heads.items q ≡ (has_row l.initial.heads.items q || stands_for (take l.row-index l.rows) (rows_in l.brought) q);
   in_order : InRowOrder l.heads.items;
   len : vec_len l.heads ≤ vec_len l.initial.heads + l.row-index;

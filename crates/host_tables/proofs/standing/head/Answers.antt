@@ -10,12 +10,12 @@ use Rattle.host_tables.proofs.Heads.{none_stands, other_stands, first_stands}
 use Rattle.host_tables.proofs.standing.head.Goals as goal
 
 pub returns-in-None-clause-stands : goal.returns-in-None-clause-stands
-returns-in-None-clause-stands c =
+returns-in-None-clause-stands g c =
     none_stands c.args.brought.now c.args.row
     (λ k low. c.in-None.ensures.none k (subst (λ (t : HostRow). IsLeBy bringing_cmp (record { row = t; place = 0 }) k) (sym c.target-target_row.ensures) low))
 
 pub returns-then-eq-clause-stands : goal.returns-then-eq-clause-stands
-returns-then-eq-clause-stands c =
+returns-then-eq-clause-stands g c =
     let k : Bringing = c.in-Some.first.now in
     let first : IsFirstFrom bringing_cmp c.args.brought.now (record { row = target_of c.args.row; place = 0 }) k =
     subst (λ (t : HostRow). IsFirstFrom bringing_cmp c.args.brought.now (record { row = t; place = 0 }) k) c.target-target_row.ensures c.in-Some.ensures.first in
@@ -24,7 +24,7 @@ returns-then-eq-clause-stands c =
     ∙ ap (λ (t : HostRow). is_eq (row_cmp c.target.result t)) (sym c.target-target_row.ensures) ∙ sym c.eq.ensures ∙ c.if-eq.true)
 
 pub returns-else-eq-clause-stands : goal.returns-else-eq-clause-stands
-returns-else-eq-clause-stands c =
+returns-else-eq-clause-stands g c =
     let k : Bringing = c.in-Some.first.now in
     let first : IsFirstFrom bringing_cmp c.args.brought.now (record { row = target_of c.args.row; place = 0 }) k =
     subst (λ (t : HostRow). IsFirstFrom bringing_cmp c.args.brought.now (record { row = t; place = 0 }) k) c.target-target_row.ensures c.in-Some.ensures.first in

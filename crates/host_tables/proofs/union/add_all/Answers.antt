@@ -7,7 +7,7 @@ use Rattle.host_tables.proofs.RowByRow.{added_more}
 use Rattle.host_tables.proofs.union.add_all.Goals as goal
 
 pub loop-row-preserved : goal.loop-row-preserved
-loop-row-preserved c =
+loop-row-preserved g c =
     let i = c.loop-row.invariant in let put = c.put_in.ensures in
     record {
       has = λ q. added_more c.args.rows.now c.loop-row.row-index _ q _ _ _ c.loop-row-test.true (i.has q) (put.has q);
@@ -19,7 +19,7 @@ loop-row-preserved c =
     }
 
 pub returns-clause-adds : goal.returns-clause-adds
-returns-clause-adds c = record {
+returns-clause-adds g c = record {
   has = λ q. c.loop-row.invariant.has q ∙ ap (λ (rows : List HostRow). has_row c.args.all.now.items q || has_row rows q) (take_all c.loop-row.row-index c.args.rows.now c.loop-row-test.false);
   in_order = c.loop-row.invariant.in_order;
 }

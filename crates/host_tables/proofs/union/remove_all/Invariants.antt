@@ -6,7 +6,7 @@ use Rattle.host_model.specs.HostTable.{InRowOrder}
 use Rattle.host_tables.proofs.union.remove_all.Given as goal
 
 abbrev pub invariant-loop-row : goal.invariant-loop-row
-invariant-loop-row l = record {
+invariant-loop-row g l = record {
   has : (q : HostRow) → has_row l.all.items q ≡ (has_row l.initial.all.items q && not (has_row (take l.row-index l.rows) q));
   in_order : InRowOrder l.all.items;
   len : vec_len l.all ≤ vec_len l.initial.all;

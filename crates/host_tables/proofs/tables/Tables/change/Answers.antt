@@ -9,7 +9,7 @@ use Rattle.host_tables.proofs.WantedRows.{set_fit}
 use Rattle.host_tables.proofs.tables.Tables.change.Goals as goal
 
 pub invariant_of-self-2 : goal.invariant_of-self-2
-invariant_of-self-2 c =
+invariant_of-self-2 g c =
     let places : List (List HostRow) = c.self.inside.places.items in
     let here : c.args.place < length places = subst (λ (all : List (List HostRow)). c.args.place < length all) (sym c.self.view_is) c.requires in
     let before : c.as_slice-before.result.now ≡ get_or places c.args.place [] = c.as_slice-before.ensures.rows ∙ c.index.ensures ∙ get_or_default places c.args.place c.index.result.now [] here in (
@@ -19,7 +19,7 @@ invariant_of-self-2 c =
     )
 
 pub returns-clause-steps : goal.returns-clause-steps
-returns-clause-steps c =
+returns-clause-steps g c =
     let places : List (List HostRow) = c.self.inside.places.items in
     let here : c.args.place < length places = subst (λ (all : List (List HostRow)). c.args.place < length all) (sym c.self.view_is) c.requires in
     let before : c.as_slice-before.result.now ≡ get_or places c.args.place [] = c.as_slice-before.ensures.rows ∙ c.index.ensures ∙ get_or_default places c.args.place c.index.result.now [] here in
@@ -27,7 +27,7 @@ returns-clause-steps c =
     c.exchange.ensures.steps
 
 pub returns-in_err-diff-clause-steps : goal.returns-in_err-diff-clause-steps
-returns-in_err-diff-clause-steps c =
+returns-in_err-diff-clause-steps g c =
     let places : List (List HostRow) = c.self.inside.places.items in
     let here : c.args.place < length places = subst (λ (all : List (List HostRow)). c.args.place < length all) (sym c.self.view_is) c.requires in
     let before : c.as_slice-before.result.now ≡ get_or places c.args.place [] = c.as_slice-before.ensures.rows ∙ c.index.ensures ∙ get_or_default places c.args.place c.index.result.now [] here in

@@ -10,7 +10,7 @@ use Rattle.host_tables.proofs.Heads.{bringing_at}
 use Rattle.host_tables.proofs.union.Union.bring.Goals as goal
 
 pub loop-row-preserved : goal.loop-row-preserved
-loop-row-preserved c =
+loop-row-preserved g c =
     let i = c.loop-row.invariant in let put = c.put_in.ensures in
     record {
       wanted = i.wanted;
@@ -24,7 +24,7 @@ loop-row-preserved c =
     }
 
 pub returns-clause-brings : goal.returns-clause-brings
-returns-clause-brings c = record {
+returns-clause-brings g c = record {
   wanted = c.loop-row.invariant.wanted;
   brought = λ q at. c.loop-row.invariant.brought q at
       ∙ ap (λ (rows : List HostRow). has_bringing c.args.self.now.brought.items q at || ((at == c.args.place) && has_row rows q)) (take_all c.loop-row.row-index c.args.rows.now c.loop-row-test.false);

@@ -11,7 +11,7 @@ use Rattle.host_tables.proofs.Exchanges.{exchanged}
 use Rattle.host_tables.proofs.union.Union.exchange_in.Goals as goal
 
 pub add_all-requires-clause-room : goal.add_all-requires-clause-room
-add_all-requires-clause-room c =
+add_all-requires-clause-room g c =
     let m = length c.args.before.now in let k = length c.args.after.now in
     let few : length c.deref-8.result.now ≤ length c.deref-5.result.now =
     subst (λ (rows : List HostRow). length rows ≤ length c.deref-5.result.now) (sym (c.deref-8.ensures.value ∙ c.beyond_into-2.ensures.found)) (fewer_left _ c.deref-5.result.now) in
@@ -19,7 +19,7 @@ add_all-requires-clause-room c =
     omega (arith, few, ap (λ (all : Vec HostRow). vec_len all) same, ap (λ (all : Vec HostRow). vec_capacity all) same, ap length c.deref-5.ensures.value, c.heads_into-2.new.heads.ok.0, c.heads_into-2.ensures.len, c.requires.room.wanted, c.remove_all.ensures.len, c.remove_all.ensures.capacity)
 
 pub returns-clause-exchanges : goal.returns-clause-exchanges
-returns-clause-exchanges c =
+returns-clause-exchanges g c =
     let before = c.args.before.now in let after = c.args.after.now in
     let gone = c.beyond_into.new.found in let come = c.beyond_into-2.new.found in
     exchanged c.args.place before after c.args.self.now c.take_out.new.self c.bring.new.self c.heads_into.new.heads c.heads_into-2.new.heads c.remove_all.new.all c.add_all.new.all
@@ -36,7 +36,7 @@ returns-clause-exchanges c =
     })
 
 pub returns-clause-steps : goal.returns-clause-steps
-returns-clause-steps c = λ d few.
+returns-clause-steps g c = λ d few.
     let m = length c.args.before.now in let k = length c.args.after.now in
     let stood : length c.deref-3.result.now ≤ m + k = omega (arith, ap length c.deref-3.ensures.value, c.heads_into.new.heads.ok.0, c.heads_into.ensures.len) in
     let others : length c.deref-6.result.now ≤ m + k = omega (arith, ap length c.deref-6.ensures.value, c.heads_into.new.heads.ok.0, c.heads_into.ensures.len) in

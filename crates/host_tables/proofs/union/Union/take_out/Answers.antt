@@ -10,7 +10,7 @@ use Rattle.host_tables.proofs.Heads.{bringing_at}
 use Rattle.host_tables.proofs.union.Union.take_out.Goals as goal
 
 pub loop-row-preserved : goal.loop-row-preserved
-loop-row-preserved c =
+loop-row-preserved g c =
     let i = c.loop-row.invariant in let took = c.take_out.ensures in
     record {
       wanted = i.wanted;
@@ -24,7 +24,7 @@ loop-row-preserved c =
     }
 
 pub returns-clause-takes_out : goal.returns-clause-takes_out
-returns-clause-takes_out c = record {
+returns-clause-takes_out g c = record {
   wanted = c.loop-row.invariant.wanted;
   brought = λ q at. c.loop-row.invariant.brought q at
       ∙ ap (λ (rows : List HostRow). has_bringing c.args.self.now.brought.items q at && not ((at == c.args.place) && has_row rows q)) (take_all c.loop-row.row-index c.args.rows.now c.loop-row-test.false);
