@@ -6,17 +6,16 @@ use Rattle.std.proofs.lemmas.Bool.Decides.{nat_tests}
 use Rattle.std.proofs.lemmas.List.{get_or-take, length-map}
 use Rattle.net_types.specs.declared.address.Mac.{Mac}
 use Rattle.machine.specs.Moment.{is_due}
-use Rattle.timer_queue.specs.declared.dues.MachineDues.{MachineDues}
 use Rattle.machine.specs.declared.timed.TimedMachine.{TimedMachine}
 use Rattle.machine.specs.declared.timed.TimedMachine.TheVariants as machine
-use Rattle.timer_queue.specs.declared.places.Places.{Places}
-use Rattle.timer_queue.specs.Dues.{due_of, is_taken, never}
+use Rattle.client_core.specs.declared.places.Places.{Places}
+use Rattle.client_core.specs.Due.{MachineDues, dues_of, is_taken, never}
 use Rattle.timer_queue.specs.Moments.{has_come}
-use Rattle.timer_queue.specs.Names.{named_as}
-use Rattle.timer_queue.specs.Places.{has}
-use Rattle.timer_queue.proofs.Naming.{named_at}
-use Rattle.timer_queue.proofs.Sets.{has_far}
-use Rattle.timer_queue.proofs.Waiting.{untaken}
+use Rattle.client_core.specs.Names.{named_as}
+use Rattle.client_core.specs.Places.{has}
+use Rattle.client_core.proofs.Naming.{named_at}
+use Rattle.client_core.proofs.Sets.{has_far}
+use Rattle.client_core.proofs.Waiting.{untaken}
 use Rattle.world.specs.declared.wakes.Event.{Event}
 use Rattle.world.specs.declared.wakes.Event.TheVariants.{Frame, Carrier, Duplicate, Release, Rebind, Stop, Quiet, End}
 use Rattle.script_model.specs.IfaceSets.{is_in}
@@ -28,7 +27,6 @@ use Rattle.client_model.specs.Interfaces.{iface_due, machine_due, machine_ticked
 use Rattle.client_model.specs.IfaceTurns.{Turn, input_step, taken}
 use Rattle.iface_core.proofs.Following.{not_due}
 use Rattle.client_core.specs.declared.kept.Kept.{Kept}
-use Rattle.client_core.specs.Due.{dues_of}
 use Rattle.client_core.specs.Renewing.{Takes}
 use Rattle.client_core.specs.Resting.{IsAtRest, StaysAtRest, is_called, is_met}
 use Rattle.client_core.specs.Running.{IsRunning}
@@ -115,7 +113,7 @@ later_both (Some a) (Some b) at first second = grind (arith, nat_tests, first, s
 -- an interface that isn't asked in a turn
 pub record IsIdle (turn : Turn) (iface : Iface) : Type 0 where
   pub rests : IsAtRest turn iface
-  pub due : (machine : TimedMachine) → has_come (due_of machine (dues_of iface)) turn.at ≡ false
+  pub due : (machine : TimedMachine) → has_come (dues_of iface machine) turn.at ≡ false
 
 module _ (turn : Turn) (ifaces : List Iface) (kept after : Kept) (places : Places) (running : IsRunning ifaces kept) (takes : Takes turn places kept after) where
   pub is_near : (place : ℕ) → has places place ≡ false → place < 64
@@ -133,18 +131,17 @@ module _ (turn : Turn) (ifaces : List Iface) (kept after : Kept) (places : Place
     near = is_near place out
 
     -- its moments haven't come
-    none_come : (machine : TimedMachine) → has_come (due_of machine (dues_of iface)) turn.at ≡ false
+    none_come : (machine : TimedMachine) → has_come (dues_of iface machine) turn.at ≡ false
     none_come machine =
-        ap (λ (dues : MachineDues). has_come (due_of machine dues) turn.at)
+        ap (λ (dues : MachineDues). has_come (dues machine) turn.at)
         (sym (get_or-take 64 (map dues_of ifaces) place never near ∙ map_at dues_of ifaces place d never lt))
         ∙ untaken turn.at (map dues_of ifaces) kept.dues place running.due (unmet (is_taken turn.at kept.dues place) (has places place) (takes.due place near) out) machine
 
     not_due_now : is_due (iface_due iface) turn.at ≡ false
     not_due_now =
-        let dues : MachineDues = dues_of iface in
-        later_both (earlier dues.dhcp4 dues.link_local) dues.dhcp6 turn.at
-        (later_both dues.dhcp4 dues.link_local turn.at (come_due dues.dhcp4 turn.at ∙ none_come machine.Dhcp4) (come_due dues.link_local turn.at ∙ none_come machine.LinkLocal))
-        (come_due dues.dhcp6 turn.at ∙ none_come machine.Dhcp6)
+        later_both (earlier (machine_due machine.Dhcp4 iface) (machine_due machine.LinkLocal iface)) (machine_due machine.Dhcp6 iface) turn.at
+        (later_both (machine_due machine.Dhcp4 iface) (machine_due machine.LinkLocal iface) turn.at (come_due (machine_due machine.Dhcp4 iface) turn.at ∙ none_come machine.Dhcp4) (come_due (machine_due machine.LinkLocal iface) turn.at ∙ none_come machine.LinkLocal))
+        (come_due (machine_due machine.Dhcp6 iface) turn.at ∙ none_come machine.Dhcp6)
 
     -- nothing comes to it from outside
     named_here : has (named_as kept.named (index_of iface)) place ≡ true

@@ -8,20 +8,18 @@ use Rattle.std.proofs.Math.Nat.{min-eq_left, min-eq_right, min-le_left}
 use Rattle.client_model.specs.declared.interfaces.Iface.{Iface}
 use Rattle.client_model.specs.Clients.{client_due, earlier}
 use Rattle.client_model.specs.IfaceSteps.{index_of}
-use Rattle.client_model.specs.Interfaces.{iface_due}
-use Rattle.timer_queue.specs.declared.dues.MachineDues.{MachineDues}
-use Rattle.timer_queue.specs.declared.named.Named.{Named}
-use Rattle.timer_queue.specs.declared.key.Key.{Key}
+use Rattle.client_model.specs.Interfaces.{iface_due, machine_due}
+use Rattle.client_core.specs.declared.named.Named.{Named}
 use Rattle.machine.specs.declared.timed.TimedMachine.{TimedMachine}
 use Rattle.machine.specs.declared.timed.TimedMachine.TheVariants.{Dhcp4, LinkLocal, Dhcp6}
-use Rattle.timer_queue.specs.Dues.{AreMoments, PutsMoments, due_of, never}
-use Rattle.timer_queue.specs.Keys.{key_cmp}
+use Rattle.client_core.specs.Due.{AreMoments, MachineDues, PutsMoments, dues_of, machine_in, never, number_of, place_in}
+use Rattle.std.specs.Ordering.{nat_cmp}
 use Rattle.timer_queue.specs.Moments.{Moments, IsEarliest}
-use Rattle.timer_queue.specs.Names.{AreNamed, named_as}
-use Rattle.timer_queue.specs.Places.{has}
-use Rattle.timer_queue.proofs.Naming.{named_more}
-use Rattle.timer_queue.proofs.Waiting.{moments_more, never_due}
-use Rattle.client_core.specs.Due.{dues_of}
+use Rattle.client_core.specs.Names.{AreNamed, named_as}
+use Rattle.client_core.specs.Places.{has}
+use Rattle.client_core.proofs.Naming.{named_more}
+use Rattle.client_core.proofs.Numbers.{placed, ranked}
+use Rattle.client_core.proofs.Waiting.{moments_more, never_due}
 
 -- ---- the earlier of two moments
 
@@ -74,31 +72,27 @@ earliest_apart (x ∷ xs) ys = ap (earlier (iface_due x)) (earliest_apart xs ys)
 
 -- ---- the moments of one interface
 
-iface_least : (d : ℕ) (iface : Iface) → ((machine : TimedMachine) → AtLeast d (due_of machine (dues_of iface))) → AtLeast d (iface_due iface)
+iface_least : (d : ℕ) (iface : Iface) → ((machine : TimedMachine) → AtLeast d (dues_of iface machine)) → AtLeast d (iface_due iface)
 iface_least d iface all =
-    let dues : MachineDues = dues_of iface in
-    both_least d (earlier dues.dhcp4 dues.link_local) dues.dhcp6 (both_least d dues.dhcp4 dues.link_local (all Dhcp4) (all LinkLocal)) (all Dhcp6)
+    both_least d (earlier (machine_due Dhcp4 iface) (machine_due LinkLocal iface)) (machine_due Dhcp6 iface) (both_least d (machine_due Dhcp4 iface) (machine_due LinkLocal iface) (all Dhcp4) (all LinkLocal)) (all Dhcp6)
 
-iface_reached : (d : ℕ) (iface : Iface) (machine : TimedMachine) → due_of machine (dues_of iface) ≡ Some d
-    → ((other : TimedMachine) → AtLeast d (due_of other (dues_of iface))) → iface_due iface ≡ Some d
+iface_reached : (d : ℕ) (iface : Iface) (machine : TimedMachine) → dues_of iface machine ≡ Some d
+    → ((other : TimedMachine) → AtLeast d (dues_of iface other)) → iface_due iface ≡ Some d
 iface_reached d iface Dhcp4 is all =
-    let dues : MachineDues = dues_of iface in
-    first_least d (earlier dues.dhcp4 dues.link_local) dues.dhcp6 (first_least d dues.dhcp4 dues.link_local is (all LinkLocal)) (all Dhcp6)
+    first_least d (earlier (machine_due Dhcp4 iface) (machine_due LinkLocal iface)) (machine_due Dhcp6 iface) (first_least d (machine_due Dhcp4 iface) (machine_due LinkLocal iface) is (all LinkLocal)) (all Dhcp6)
 iface_reached d iface LinkLocal is all =
-    let dues : MachineDues = dues_of iface in
-    first_least d (earlier dues.dhcp4 dues.link_local) dues.dhcp6 (second_least d dues.dhcp4 dues.link_local (all Dhcp4) is) (all Dhcp6)
+    first_least d (earlier (machine_due Dhcp4 iface) (machine_due LinkLocal iface)) (machine_due Dhcp6 iface) (second_least d (machine_due Dhcp4 iface) (machine_due LinkLocal iface) (all Dhcp4) is) (all Dhcp6)
 iface_reached d iface Dhcp6 is all =
-    let dues : MachineDues = dues_of iface in
-    second_least d (earlier dues.dhcp4 dues.link_local) dues.dhcp6 (both_least d dues.dhcp4 dues.link_local (all Dhcp4) (all LinkLocal)) is
+    second_least d (earlier (machine_due Dhcp4 iface) (machine_due LinkLocal iface)) (machine_due Dhcp6 iface) (both_least d (machine_due Dhcp4 iface) (machine_due LinkLocal iface) (all Dhcp4) (all LinkLocal)) is
 
-iface_never : (iface : Iface) → ((machine : TimedMachine) → due_of machine (dues_of iface) ≡ None) → iface_due iface ≡ None
+iface_never : (iface : Iface) → ((machine : TimedMachine) → dues_of iface machine ≡ None) → iface_due iface ≡ None
 iface_never iface none = λ i. earlier (earlier (none Dhcp4 i) (none LinkLocal i)) (none Dhcp6 i)
 
 -- ---- the moments of all
 
 -- the moment of a machine of the interface at a place
 abbrev due_at : List Iface → ℕ → TimedMachine → Option ℕ
-due_at ifaces place machine = due_of machine (get_or (map dues_of ifaces) place never)
+due_at ifaces place machine = get_or (map dues_of ifaces) place never machine
 
 all_least : (d : ℕ) (ifaces : List Iface) → ((place : ℕ) (machine : TimedMachine) → AtLeast d (due_at ifaces place machine)) → AtLeast d (client_due ifaces)
 all_least d [] all = tt
@@ -120,18 +114,20 @@ all_never (iface ∷ ifaces) none = λ i. earlier (iface_never iface (none 0) i)
 -- ---- the queue has those of the first interfaces
 
 module _ (ifaces : List Iface) (moments : Moments) (are : AreMoments (map dues_of ifaces) moments) where
-  keyed : (key : Key) → finite.get moments key ≡ due_at (take 64 ifaces) key.iface key.machine
-  keyed key = are key ∙ ap (λ (all : List MachineDues). due_of key.machine (get_or all key.iface never)) (take-map dues_of 64 ifaces)
+  keyed : (key : ℕ) → finite.get moments key ≡ due_at (take 64 ifaces) (place_in key) (machine_in key)
+  keyed key = are key ∙ ap (λ (all : List MachineDues). get_or all (place_in key) never (machine_in key)) (take-map dues_of 64 ifaces)
+
+  numbered_at : (place : ℕ) (machine : TimedMachine) → finite.get moments (number_of place machine) ≡ due_at (take 64 ifaces) place machine
+  numbered_at place machine = keyed (number_of place machine) ∙ (λ i. due_at (take 64 ifaces) (placed place machine i) (ranked place machine i))
 
   queue_first : (first : Option ℕ) → MatchOption first (moments ≡ finite.empty) (IsEarliest moments) → first ≡ client_due (take 64 ifaces)
   queue_first None empty =
       sym (all_never (take 64 ifaces) (λ (place : ℕ) (machine : TimedMachine).
-      let key : Key = record { iface = place; machine = machine } in
-      sym (keyed key) ∙ ap (λ (m : Moments). finite.get m key) empty ∙ finite.get-empty key_cmp key))
+      let key : ℕ = number_of place machine in
+      sym (numbered_at place machine) ∙ ap (λ (m : Moments). finite.get m key) empty ∙ finite.get-empty nat_cmp key))
   queue_first (Some d) first =
-      sym (all_reached d (take 64 ifaces) first.key.iface first.key.machine (sym (keyed first.key) ∙ first.set) (λ (place : ℕ) (machine : TimedMachine).
-      let key : Key = record { iface = place; machine = machine } in
-      subst (AtLeast d) (keyed key) (first.least key)))
+      sym (all_reached d (take 64 ifaces) (place_in first.key) (machine_in first.key) (sym (keyed first.key) ∙ first.set) (λ (place : ℕ) (machine : TimedMachine).
+      subst (AtLeast d) (numbered_at place machine) (first.least (number_of place machine))))
 
   others_are : (n : ℕ) → n ≡ min 64 (length ifaces) → take (length ifaces - n) (drop n ifaces) ≡ drop 64 ifaces
   others_are n is =
@@ -151,15 +147,15 @@ module _ (ifaces : List Iface) (moments : Moments) (are : AreMoments (map dues_o
 
 -- ---- a queue of a further place
 
-pub due_more : (ifaces : List Iface) (place : ℕ) (d : Iface) (dues : MachineDues) (before now : Moments) → place < length ifaces
-    → AreMoments (map dues_of (take place ifaces)) before → dues ≡ dues_of (get_or ifaces place d) → PutsMoments place dues before now
+pub due_more : (ifaces : List Iface) (place : ℕ) (d iface : Iface) (before now : Moments) → place < length ifaces
+    → AreMoments (map dues_of (take place ifaces)) before → iface ≡ get_or ifaces place d → PutsMoments place (dues_of iface) before now
     → AreMoments (map dues_of (take (place + 1) ifaces)) now
-due_more ifaces place d dues before now lt are is puts =
+due_more ifaces place d iface before now lt are is puts =
     let long : length (map dues_of (take place ifaces)) ≡ place =
     length-map (take place ifaces) dues_of ∙ length-take-le place ifaces (omega arith) in
     subst (λ (all : List MachineDues). AreMoments all now)
-    (ap (λ (last : MachineDues). map dues_of (take place ifaces) ++ last ∷ []) is ∙ sym (map_more dues_of ifaces place d lt))
-    (moments_more (map dues_of (take place ifaces)) place dues before now long puts are)
+    (ap (λ (last : Iface). map dues_of (take place ifaces) ++ dues_of last ∷ []) is ∙ sym (map_more dues_of ifaces place d lt))
+    (moments_more (map dues_of (take place ifaces)) place (dues_of iface) before now long puts are)
 
 -- ---- the names of a further place
 

@@ -9,10 +9,15 @@ pub mod ItemRows
 pub mod JobsAlong
 pub mod Joined
 pub mod LeaseValues
+pub mod Naming
+pub mod Numbers
+pub mod Putting
 pub mod SaidFirst
 pub mod SameLists
 pub mod SameRows
+pub mod Sets
 pub mod ToldLaws
 pub mod TwoEach
 pub mod Untouched
+pub mod Waiting
 pub mod Walks

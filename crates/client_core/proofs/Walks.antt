@@ -8,15 +8,14 @@ use Rattle.world.specs.HookCalls.{Job}
 use Rattle.world.specs.declared.rows.HostRow.{HostRow}
 use Rattle.world.specs.RowOrder.{rows_beyond}
 use Rattle.settings.specs.Fitting.{FitsManaged}
-use Rattle.timer_queue.specs.declared.dues.MachineDues.{MachineDues}
 use Rattle.machine.specs.declared.timed.TimedMachine.{TimedMachine}
-use Rattle.timer_queue.specs.declared.named.Named.{Named}
-use Rattle.timer_queue.specs.declared.places.Places.{Places}
-use Rattle.timer_queue.specs.Dues.{due_of, never}
+use Rattle.client_core.specs.declared.named.Named.{Named}
+use Rattle.client_core.specs.declared.places.Places.{Places}
+use Rattle.client_core.specs.Due.{MachineDues, dues_of, never}
 use Rattle.timer_queue.specs.Moments.{has_come}
-use Rattle.timer_queue.specs.Names.{AreNamed}
-use Rattle.timer_queue.specs.Places.{has}
-use Rattle.timer_queue.proofs.Waiting.{Waits, waits_first, waits_last, waits_put, waits_skip}
+use Rattle.client_core.specs.Names.{AreNamed}
+use Rattle.client_core.specs.Places.{has}
+use Rattle.client_core.proofs.Waiting.{Waits, waits_first, waits_last, waits_put, waits_skip}
 use Rattle.resolver_text.specs.Parts.{PartContent, parts_content}
 use Rattle.host_tables.specs.declared.union.Diff.{Diff}
 use Rattle.host_tables.specs.Unions.{Differ, Sums}
@@ -37,7 +36,6 @@ use Rattle.client_core.specs.declared.effects.Resolver.TheVariants.{Same}
 use Rattle.client_core.specs.declared.kept.Kept.{Kept}
 use Rattle.client_core.specs.declared.kept.Renewed.{Renewed}
 use Rattle.client_core.specs.declared.turning.Walk.{Walk}
-use Rattle.client_core.specs.Due.{dues_of}
 use Rattle.client_core.specs.Leading.{Alters, Leads, LeadsOn}
 use Rattle.client_core.specs.Renewing.{HasPlace, IsAt, Renews, Takes}
 use Rattle.client_core.specs.Running.{IsRunning}
@@ -107,7 +105,7 @@ module _ (own : List Mac) (turn : Turn) (xs : List Iface) where
           tells = walked.tells;
           due = waits_skip turn.at place (map dues_of ys) kept.dues
               (λ (machine : TimedMachine).
-              ap (λ (dues : MachineDues). has_come (due_of machine dues) turn.at)
+              ap (λ (dues : MachineDues). has_come (dues machine) turn.at)
               (get_or-take 64 (map dues_of ys) place never near ∙ map_at dues_of ys place d never there ∙ ap dues_of next)
               ∙ idle.due machine)
               walked.due;

@@ -1,5 +1,7 @@
 pub mod Due
 pub mod Leading
+pub mod Names
+pub mod Places
 pub mod Renewing
 pub mod Resting
 pub mod Routing

@@ -1,16 +1,15 @@
 -- What is kept of an interface is taken for a turn, and brought up to date after it.
 use Rattle.std.specs.Prelude.{◌≡◌, ◌<◌, ℕ, ◌+◌, ◌*◌, true, [], length, slice_index_or, slice_set}
 use Rattle.resolver_text.specs.Parts.{parts_content}
-use Rattle.timer_queue.specs.Dues.{PutsMoments, is_taken}
+use Rattle.client_core.specs.Due.{PutsMoments, dues_of, is_taken}
 use Rattle.timer_queue.specs.Moments.{due_after}
-use Rattle.timer_queue.specs.Places.{has}
-use Rattle.timer_queue.specs.declared.places.Places.{Places}
+use Rattle.client_core.specs.Places.{has}
+use Rattle.client_core.specs.declared.places.Places.{Places}
 use Rattle.client_model.specs.declared.interfaces.Iface.{Iface}
 use Rattle.client_model.specs.IfaceTurns.{Turn}
 use Rattle.client_model.specs.WantedRows.{iface_rows}
 use Rattle.client_core.specs.declared.kept.Kept.{Kept}
 use Rattle.client_core.specs.declared.kept.Renewed.{Renewed}
-use Rattle.client_core.specs.Due.{dues_of}
 use Rattle.client_core.specs.Leading.{Alters}
 use Rattle.client_core.specs.Resting.{Finds, is_called}
 use Rattle.client_core.specs.ToldParts.{told_with}

@@ -2,10 +2,10 @@
 use Rattle.std.specs.Prelude.{◌≡◌, ℕ, ◌<◌, Bool, true, false, ◌==◌, ◌||◌, List, Option}
 use Rattle.net_types.specs.declared.address.Mac.{Mac}
 use Rattle.machine.specs.Moment.{is_due}
-use Rattle.timer_queue.specs.declared.named.Named.{Named}
-use Rattle.timer_queue.specs.declared.places.Places.{Places}
-use Rattle.timer_queue.specs.Names.{named_as}
-use Rattle.timer_queue.specs.Places.{has}
+use Rattle.client_core.specs.declared.named.Named.{Named}
+use Rattle.client_core.specs.declared.places.Places.{Places}
+use Rattle.client_core.specs.Names.{named_as}
+use Rattle.client_core.specs.Places.{has}
 use Rattle.world.specs.Rows.{IsInterface}
 use Rattle.world.specs.declared.wakes.Event.{Event}
 use Rattle.world.specs.declared.wakes.Event.TheVariants.{Frame, Carrier, Duplicate, Release, Rebind, Stop, Quiet, End}

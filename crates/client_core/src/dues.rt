@@ -2,26 +2,14 @@
 
 ghost use Rattle.std.specs.Prelude.{◌≡◌, map, IfOk};
 ghost use Rattle.client_model.specs.Clients.{client_due};
-ghost use Rattle.client_core.specs.Due.{dues_of};
-ghost use Rattle.timer_queue.specs.Dues.{AreMoments};
+ghost use Rattle.client_core.specs.Due.{AreMoments, dues_of};
 
+use crate::due_queue::Dues;
+use crate::places::PLACES;
 use client_model::Iface;
-use iface_core::{earlier_of, iface_due, machine_due};
-use machine::TimedMachine;
+use iface_core::{earlier_of, iface_due};
 use net_types::NoMemory;
 use std::alloc::Global;
-use timer_queue::{Dues, MachineDues, PLACES};
-
-/// When the machines of an interface are due.
-pub fn dues_of(iface: &Iface) -> MachineDues
-    ensures { result ≡ dues_of iface.now }
-{
-    MachineDues {
-        dhcp4: machine_due(iface, TimedMachine::Dhcp4),
-        link_local: machine_due(iface, TimedMachine::LinkLocal),
-        dhcp6: machine_due(iface, TimedMachine::Dhcp6),
-    }
-}
 
 /// The queue of the moments of these interfaces.
 pub fn queue_of(alloc: Global, ifaces: &[Iface]) -> Result<Dues, NoMemory>
@@ -29,7 +17,7 @@ pub fn queue_of(alloc: Global, ifaces: &[Iface]) -> Result<Dues, NoMemory>
 {
     let mut dues = Dues::new(alloc)?;
     'places: for place in 0..ifaces.len() {
-        dues.put(place, dues_of(&ifaces[place]));
+        dues.put(place, &ifaces[place]);
     }
     Ok(dues)
 }

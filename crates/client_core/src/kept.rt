@@ -8,11 +8,14 @@ ghost use Rattle.iface_core.specs.Inputs.{turn_of};
 ghost use Rattle.client_core.specs.Renewing.{HasPlace, IsAt, Renews, Takes};
 ghost use Rattle.client_core.specs.Running.{IsRunning};
 ghost use Rattle.client_core.specs.Touched.{may_show};
-ghost use Rattle.timer_queue.specs.Names.{AreNamed};
+ghost use Rattle.client_core.specs.Names.{AreNamed};
 
-use crate::dues::{dues_of, queue_of};
+use crate::due_queue::Dues;
+use crate::dues::queue_of;
 use crate::effects::{Changes, Resolver};
 use crate::iface_tables::{renew_rows, tables_of};
+use crate::named::Named;
+use crate::places::Places;
 use crate::resting::called_places;
 use crate::told_parts::{renew_parts, told_of};
 use client_model::Iface;
@@ -21,7 +24,6 @@ use iface_core::Turn;
 use net_types::NoMemory;
 use resolver_text::Part;
 use std::alloc::Global;
-use timer_queue::{Dues, Named, Places};
 
 /// What is kept of the interfaces, so that only what changes is made anew.
 #[derive(Drop)]
@@ -95,7 +97,7 @@ impl Kept {
         requires same { may_show changes ≡ false → IsAt place iface.now self.old }
         ensures { IfOk result (λ renewed. Renews place iface.now renewed self.old self.new) }
     {
-        self.dues.put(place, dues_of(iface));
+        self.dues.put(place, iface);
         let may_differ = changes.may_show();
         let rows = renew_rows(alloc, &mut self.tables, place, iface, may_differ)?;
         let resolver = renew_parts(alloc, &mut self.parts, place, iface, may_differ)?;

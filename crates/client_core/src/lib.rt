@@ -3,6 +3,7 @@
 
 mod address_rows;
 mod clients;
+mod due_queue;
 mod dues;
 mod effects;
 mod hook_jobs;
@@ -12,6 +13,8 @@ mod kept;
 mod kept_values;
 mod lease6_rows;
 mod lease_rows;
+mod named;
+mod places;
 mod resolver_parts;
 mod resting;
 mod same_parts;

@@ -5,9 +5,10 @@ ghost use Rattle.script_model.specs.IfaceSets.{is_in};
 ghost use Rattle.iface_core.specs.Inputs.{event_of, turn_of};
 ghost use Rattle.client_core.specs.Resting.{Finds, is_called, is_met};
 
+use crate::named::Named;
+use crate::places::Places;
 use iface_core::{Turn, TurnInput, contains};
 use net_types::IfIndex;
-use timer_queue::{Named, Places};
 
 /// The places of the interfaces to which an input brings something.
 fn met_places(named: &Named, input: TurnInput<'_>) -> Places

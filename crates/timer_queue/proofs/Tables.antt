@@ -1,20 +1,19 @@
 -- What timers and their table say of keys, and what a change of both makes of that.
-use Rattle.std.proofs.Common.{◌≡◌, ℕ, zero, suc, ◌+◌, ◌<◌, ◌≤◌, Bool, true, false, cond, eqb, not, ◌||◌, ◌&&◌, List, [], ◌∷◌, map, length, set, Option, Some, None, is_some, refl, sym, ap, subst, ◌∙◌, ⊎_elim, arith, eq-eqb}
+use Rattle.std.proofs.Common.{◌≡◌, ℕ, zero, suc, ◌+◌, ◌*◌, ◌<◌, ◌≤◌, Bool, true, false, cond, eqb, not, ◌||◌, ◌&&◌, List, [], ◌∷◌, map, length, set, Option, Some, None, is_some, refl, sym, ap, subst, ◌∙◌, ⊎_elim, arith, eq-eqb}
 use Rattle.std.specs.Prelude.{count_by}
 use Rattle.std.specs.List.Sorted.{IsStrictlySortedBy}
 use Rattle.std.specs.declared.cmp.Ordering.{Ordering}
 use Rattle.std.specs.declared.cmp.Ordering.TheVariants.{Less, Equal, Greater}
 use Rattle.std.specs.Ordering.{nat_cmp, eq_by_cmp, is_eq, ordering_then}
-use Rattle.std.specs.Cmp.{Equal-is, tied_itself}
+use Rattle.std.specs.Cmp.{Equal-is, tied_itself, nat_cmp_total}
 use Rattle.std.specs.FinMap.{find, get, insert, remove, IsAntisymmetric, nat_cmp-IsAntisymmetric, same_map, get-from_entries, get-remove, get-insert}
 use Rattle.std.proofs.lemmas.Bool.{cases_Bool, cases_lt, false≢true}
 use Rattle.std.proofs.lemmas.Bool.Decides.{nat_tests}
 use Rattle.std.proofs.lemmas.List.{get_or-set_same, get_or-set_other, get_or_past}
+use Rattle.std.proofs.lemmas.List.Folds.{sum_by-replicate}
 use Rattle.std.proofs.lemmas.List.Sums.{sum_by-set, sum_by-cons, count_by-le-length}
-use Rattle.std.proofs.Math.ListN.{length-set}
-use Rattle.timer_queue.specs.declared.key.Key.{Key}
+use Rattle.std.proofs.Math.ListN.{length-set, replicate}
 use Rattle.timer_queue.specs.declared.timer.Timer.{Timer}
-use Rattle.timer_queue.specs.Keys.{place_of, place_exact, key_cmp, key_cmp_total}
 use Rattle.timer_queue.specs.Timers.{timer_cmp, timer_cmp_total}
 use Rattle.counted_search.specs.Ordered.{has_key}
 use Rattle.timer_queue.specs.Moments.{Moments}
@@ -22,11 +21,11 @@ use Rattle.timer_queue.specs.Mirrors.{entry_of, moments_of, moment_at, is_moment
 
 -- ---- keys and timers that tie are one
 
-pub key_exact : IsAntisymmetric key_cmp
-key_exact a b e = place_exact a b (nat_cmp-IsAntisymmetric (place_of a) (place_of b) e)
+pub same_key : (a b : ℕ) → eq_by_cmp nat_cmp a b ≡ true → a ≡ b
+same_key a b e = nat_cmp-IsAntisymmetric a b ((Equal-is (nat_cmp a b)).0 e)
 
-pub same_key : (a b : Key) → eq_by_cmp key_cmp a b ≡ true → a ≡ b
-same_key a b e = key_exact a b ((Equal-is (key_cmp a b)).0 e)
+pub key_itself : (key : ℕ) → eq_by_cmp nat_cmp key key ≡ true
+key_itself key = ap is_eq (tied_itself nat_cmp_total key)
 
 then_equal : (a b : Ordering) → ordering_then a b ≡ Equal → (a ≡ Equal) × (b ≡ Equal)
 then_equal Less b e = cc
@@ -35,9 +34,9 @@ then_equal Greater b e = cc
 
 pub timer_exact : IsAntisymmetric timer_cmp
 timer_exact s t e =
-    let both = then_equal (nat_cmp t.due s.due) (key_cmp t.key s.key) e in
+    let both = then_equal (nat_cmp t.due s.due) (nat_cmp t.key s.key) e in
     let dues : s.due ≡ t.due = sym (nat_cmp-IsAntisymmetric t.due s.due both.0) in
-    let keys : s.key ≡ t.key = sym (key_exact t.key s.key both.1) in
+    let keys : s.key ≡ t.key = sym (nat_cmp-IsAntisymmetric t.key s.key both.1) in
     λ i. record { due = dues i; key = keys i }
 
 same_timer : (s t : Timer) → eq_by_cmp timer_cmp s t ≡ true → s ≡ t
@@ -52,29 +51,29 @@ or_true false = refl
 
 -- ---- what is found among timers
 
-find_has : (q : Key) (d : ℕ) (timers : List Timer) → find key_cmp q (map entry_of timers) ≡ Some d → has_key timer_cmp timers (record { due = d; key = q }) ≡ true
+find_has : (q : ℕ) (d : ℕ) (timers : List Timer) → find nat_cmp q (map entry_of timers) ≡ Some d → has_key timer_cmp timers (record { due = d; key = q }) ≡ true
 find_has q d [] e = cc
-find_has q d (t ∷ ts) e = by (find_has q d ts) (eq_by_cmp key_cmp q t.key) refl e
+find_has q d (t ∷ ts) e = by (find_has q d ts) (eq_by_cmp nat_cmp q t.key) refl e
   where
-    by : (find key_cmp q (map entry_of ts) ≡ Some d → has_key timer_cmp ts (record { due = d; key = q }) ≡ true) → (b : Bool) → eq_by_cmp key_cmp q t.key ≡ b → cond b (Some t.due) (find key_cmp q (map entry_of ts)) ≡ Some d → has_key timer_cmp (t ∷ ts) (record { due = d; key = q }) ≡ true
+    by : (find nat_cmp q (map entry_of ts) ≡ Some d → has_key timer_cmp ts (record { due = d; key = q }) ≡ true) → (b : Bool) → eq_by_cmp nat_cmp q t.key ≡ b → cond b (Some t.due) (find nat_cmp q (map entry_of ts)) ≡ Some d → has_key timer_cmp (t ∷ ts) (record { due = d; key = q }) ≡ true
     by later true same is =
         let dues : t.due ≡ d = cc in
         let keys : t.key ≡ q = sym (same_key q t.key same) in
         subst (λ (s : Timer). has_key timer_cmp (t ∷ ts) s ≡ true) (λ i. record { due = dues i; key = keys i }) (ap (λ b. b || has_key timer_cmp ts t) (itself t))
     by later false other is = ap (λ b. eq_by_cmp timer_cmp (record { due = d; key = q }) t || b) (later is) ∙ or_true _
 
-has_find : (s : Timer) (timers : List Timer) → has_key timer_cmp timers s ≡ true → is_some (find key_cmp s.key (map entry_of timers)) ≡ true
+has_find : (s : Timer) (timers : List Timer) → has_key timer_cmp timers s ≡ true → is_some (find nat_cmp s.key (map entry_of timers)) ≡ true
 has_find s [] h = absurd (false≢true h)
-has_find s (t ∷ ts) h = by (has_find s ts) (eq_by_cmp key_cmp s.key t.key) refl
+has_find s (t ∷ ts) h = by (has_find s ts) (eq_by_cmp nat_cmp s.key t.key) refl
   where
-    key_of : eq_by_cmp timer_cmp s t ≡ true → eq_by_cmp key_cmp s.key t.key ≡ true
-    key_of e = subst (λ (u : Timer). eq_by_cmp key_cmp s.key u.key ≡ true) (same_timer s t e) (ap is_eq (tied_itself key_cmp_total s.key))
+    key_of : eq_by_cmp timer_cmp s t ≡ true → eq_by_cmp nat_cmp s.key t.key ≡ true
+    key_of e = subst (λ (u : Timer). eq_by_cmp nat_cmp s.key u.key ≡ true) (same_timer s t e) (ap is_eq (tied_itself nat_cmp_total s.key))
 
-    later : (b : Bool) → (b ≡ true → eq_by_cmp key_cmp s.key t.key ≡ true) → eq_by_cmp key_cmp s.key t.key ≡ false → (b || has_key timer_cmp ts s) ≡ true → has_key timer_cmp ts s ≡ true
+    later : (b : Bool) → (b ≡ true → eq_by_cmp nat_cmp s.key t.key ≡ true) → eq_by_cmp nat_cmp s.key t.key ≡ false → (b || has_key timer_cmp ts s) ≡ true → has_key timer_cmp ts s ≡ true
     later true k n h = absurd (false≢true (sym n ∙ k refl))
     later false k n h = h
 
-    by : (has_key timer_cmp ts s ≡ true → is_some (find key_cmp s.key (map entry_of ts)) ≡ true) → (b : Bool) → eq_by_cmp key_cmp s.key t.key ≡ b → is_some (cond b (Some t.due) (find key_cmp s.key (map entry_of ts))) ≡ true
+    by : (has_key timer_cmp ts s ≡ true → is_some (find nat_cmp s.key (map entry_of ts)) ≡ true) → (b : Bool) → eq_by_cmp nat_cmp s.key t.key ≡ b → is_some (cond b (Some t.due) (find nat_cmp s.key (map entry_of ts))) ≡ true
     by rest true same = refl
     by rest false other = rest (later (eq_by_cmp timer_cmp s t) key_of other h)
 
@@ -83,11 +82,11 @@ is_moment_of None d e = absurd (false≢true e)
 is_moment_of (Some m) d e = let same : m ≡ d = grind (arith, nat_tests) in ap Some same
 
 -- a queue says of a key what its table has at the key's place
-pub get_mirrored : (timers : List Timer) (table : List (Option ℕ)) → Mirrors timers table → (q : Key) → get (moments_of timers) q ≡ moment_at table (place_of q)
+pub get_mirrored : (timers : List Timer) (table : List (Option ℕ)) → Mirrors timers table → (q : ℕ) → get (moments_of timers) q ≡ moment_at table q
 get_mirrored timers table m q =
-    get-from_entries key_cmp_total (map entry_of timers) q ∙ by (find key_cmp q (map entry_of timers)) (moment_at table (place_of q)) refl refl
+    get-from_entries nat_cmp_total (map entry_of timers) q ∙ by (find nat_cmp q (map entry_of timers)) (moment_at table q) refl refl
   where
-    by : (found at : Option ℕ) → find key_cmp q (map entry_of timers) ≡ found → moment_at table (place_of q) ≡ at → found ≡ at
+    by : (found at : Option ℕ) → find nat_cmp q (map entry_of timers) ≡ found → moment_at table q ≡ at → found ≡ at
     by (Some d) at f a = sym (is_moment_of at d (ap (λ o. is_moment o d) (sym a) ∙ sym (m.mirrored (record { due = d; key = q })) ∙ find_has q d timers f))
     by None None f a = refl
     by None (Some d) f a =
@@ -96,17 +95,17 @@ get_mirrored timers table m q =
 
 -- ---- a place of the table that changes
 
-pub table_set : (table : List (Option ℕ)) (key q : Key) (v : Option ℕ) → place_of key < length table → moment_at (set table (place_of key) v) (place_of q) ≡ cond (eq_by_cmp key_cmp q key) v (moment_at table (place_of q))
-table_set table key q v within = by (eq_by_cmp key_cmp q key) refl
+pub table_set : (table : List (Option ℕ)) (key q : ℕ) (v : Option ℕ) → key < length table → moment_at (set table key v) q ≡ cond (eq_by_cmp nat_cmp q key) v (moment_at table q)
+table_set table key q v within = by (eq_by_cmp nat_cmp q key) refl
   where
-    by : (b : Bool) → eq_by_cmp key_cmp q key ≡ b → moment_at (set table (place_of key) v) (place_of q) ≡ cond b v (moment_at table (place_of q))
-    by true same = ap (λ (k : Key). moment_at (set table (place_of key) v) (place_of k)) (same_key q key same) ∙ get_or-set_same table (place_of key) v None within
-    by false other = get_or-set_other table (place_of key) (place_of q) v None (λ e. false≢true (sym other ∙ ap is_eq (ap (λ n. nat_cmp n (place_of key)) e ∙ tied_itself key_cmp_total key)))
+    by : (b : Bool) → eq_by_cmp nat_cmp q key ≡ b → moment_at (set table key v) q ≡ cond b v (moment_at table q)
+    by true same = ap (λ (k : ℕ). moment_at (set table key v) k) (same_key q key same) ∙ get_or-set_same table key v None within
+    by false other = get_or-set_other table key q v None (λ e. false≢true (sym other ∙ ap is_eq (ap (λ n. nat_cmp n key) e ∙ tied_itself nat_cmp_total key)))
 
 -- ---- a timer less
 
-module _ (timers after : List Timer) (table : List (Option ℕ)) (key : Key) (d : ℕ) (m : Mirrors timers table) (within : place_of key < length table)
-    (is : moment_at table (place_of key) ≡ Some d) (sorted : IsStrictlySortedBy timer_cmp after)
+module _ (timers after : List Timer) (table : List (Option ℕ)) (key : ℕ) (d : ℕ) (m : Mirrors timers table) (within : key < length table)
+    (is : moment_at table key ≡ Some d) (sorted : IsStrictlySortedBy timer_cmp after)
     (has : (q : Timer) → has_key timer_cmp after q ≡ (not (eq_by_cmp timer_cmp q (record { due = d; key = key })) && has_key timer_cmp timers q)) where
   abbrev gone : Timer
   gone = record { due = d; key = key }
@@ -114,40 +113,40 @@ module _ (timers after : List Timer) (table : List (Option ℕ)) (key : Key) (d 
   pub had : has_key timer_cmp timers gone ≡ true
   had = m.mirrored gone ∙ ap (λ o. is_moment o d) is ∙ eq-eqb d d refl
 
-  pub mirrors_cleared : Mirrors after (set table (place_of key) None)
-  mirrors_cleared = record { ordered = sorted; mirrored = λ s. has s ∙ by s (eq_by_cmp key_cmp s.key key) refl ∙ ap (λ o. is_moment o s.due) (sym (table_set table key s.key None within)) }
+  pub mirrors_cleared : Mirrors after (set table key None)
+  mirrors_cleared = record { ordered = sorted; mirrored = λ s. has s ∙ by s (eq_by_cmp nat_cmp s.key key) refl ∙ ap (λ o. is_moment o s.due) (sym (table_set table key s.key None within)) }
     where
-      apart : (s : Timer) → eq_by_cmp key_cmp s.key key ≡ false → eq_by_cmp timer_cmp s gone ≡ false
-      apart s n = ⊎_elim (λ e. absurd (false≢true (sym n ∙ ap (λ (t : Timer). eq_by_cmp key_cmp t.key key) (same_timer s gone e) ∙ ap is_eq (tied_itself key_cmp_total key)))) (λ f. f) (cases_Bool (eq_by_cmp timer_cmp s gone))
+      apart : (s : Timer) → eq_by_cmp nat_cmp s.key key ≡ false → eq_by_cmp timer_cmp s gone ≡ false
+      apart s n = ⊎_elim (λ e. absurd (false≢true (sym n ∙ ap (λ (t : Timer). eq_by_cmp nat_cmp t.key key) (same_timer s gone e) ∙ ap is_eq (tied_itself nat_cmp_total key)))) (λ f. f) (cases_Bool (eq_by_cmp timer_cmp s gone))
 
       none : (s : Timer) → s.key ≡ key → (b : Bool) → eq_by_cmp timer_cmp s gone ≡ b → (not b && has_key timer_cmp timers s) ≡ false
       none s k true e = refl
       none s k false e = ⊎_elim
-          (λ h. let dues : s.due ≡ d = let found : Some d ≡ Some s.due = sym is ∙ ap (λ (x : Key). moment_at table (place_of x)) (sym k) ∙ is_moment_of _ s.due (sym (m.mirrored s) ∙ h) in cc in
+          (λ h. let dues : s.due ≡ d = let found : Some d ≡ Some s.due = sym is ∙ ap (λ (x : ℕ). moment_at table x) (sym k) ∙ is_moment_of _ s.due (sym (m.mirrored s) ∙ h) in cc in
           absurd (false≢true (sym e ∙ subst (λ (t : Timer). eq_by_cmp timer_cmp s t ≡ true) (λ i. record { due = dues i; key = k i }) (itself s))))
           (λ f. f) (cases_Bool (has_key timer_cmp timers s))
 
-      by : (s : Timer) (b : Bool) → eq_by_cmp key_cmp s.key key ≡ b → (not (eq_by_cmp timer_cmp s gone) && has_key timer_cmp timers s) ≡ is_moment (cond b None (moment_at table (place_of s.key))) s.due
+      by : (s : Timer) (b : Bool) → eq_by_cmp nat_cmp s.key key ≡ b → (not (eq_by_cmp timer_cmp s gone) && has_key timer_cmp timers s) ≡ is_moment (cond b None (moment_at table s.key)) s.due
       by s true same = none s (same_key s.key key same) (eq_by_cmp timer_cmp s gone) refl
       by s false other = ap (λ b. not b && has_key timer_cmp timers s) (apart s other) ∙ m.mirrored s
 
   pub moments_cleared : moments_of after ≡ remove (moments_of timers) key
-  moments_cleared = same_map key_cmp_total key_exact _ _ (λ q.
-      get_mirrored after (set table (place_of key) None) mirrors_cleared q ∙ table_set table key q None within
-      ∙ ap (λ o. cond (eq_by_cmp key_cmp q key) None o) (sym (get_mirrored timers table m q)) ∙ sym (get-remove key_cmp_total (moments_of timers) key q))
+  moments_cleared = same_map nat_cmp_total nat_cmp-IsAntisymmetric _ _ (λ q.
+      get_mirrored after (set table key None) mirrors_cleared q ∙ table_set table key q None within
+      ∙ ap (λ o. cond (eq_by_cmp nat_cmp q key) None o) (sym (get_mirrored timers table m q)) ∙ sym (get-remove nat_cmp_total (moments_of timers) key q))
 
 -- what isn't set isn't taken away
-pub moments_same : (moments : Moments) (key : Key) → get moments key ≡ None → moments ≡ remove moments key
-moments_same moments key none = same_map key_cmp_total key_exact _ _ (λ q. by q (eq_by_cmp key_cmp q key) refl ∙ sym (get-remove key_cmp_total moments key q))
+pub moments_same : (moments : Moments) (key : ℕ) → get moments key ≡ None → moments ≡ remove moments key
+moments_same moments key none = same_map nat_cmp_total nat_cmp-IsAntisymmetric _ _ (λ q. by q (eq_by_cmp nat_cmp q key) refl ∙ sym (get-remove nat_cmp_total moments key q))
   where
-    by : (q : Key) (b : Bool) → eq_by_cmp key_cmp q key ≡ b → get moments q ≡ cond b None (get moments q)
+    by : (q : ℕ) (b : Bool) → eq_by_cmp nat_cmp q key ≡ b → get moments q ≡ cond b None (get moments q)
     by q true same = ap (get moments) (same_key q key same) ∙ none
     by q false other = refl
 
 -- ---- a timer more
 
-module _ (timers after : List Timer) (table : List (Option ℕ)) (key : Key) (d : ℕ) (m : Mirrors timers table) (within : place_of key < length table)
-    (is : moment_at table (place_of key) ≡ None) (sorted : IsStrictlySortedBy timer_cmp after)
+module _ (timers after : List Timer) (table : List (Option ℕ)) (key : ℕ) (d : ℕ) (m : Mirrors timers table) (within : key < length table)
+    (is : moment_at table key ≡ None) (sorted : IsStrictlySortedBy timer_cmp after)
     (has : (q : Timer) → has_key timer_cmp after q ≡ (eq_by_cmp timer_cmp q (record { due = d; key = key }) || has_key timer_cmp timers q)) where
   abbrev come : Timer
   come = record { due = d; key = key }
@@ -155,11 +154,11 @@ module _ (timers after : List Timer) (table : List (Option ℕ)) (key : Key) (d 
   pub lacked : has_key timer_cmp timers come ≡ false
   lacked = m.mirrored come ∙ ap (λ o. is_moment o d) is
 
-  pub mirrors_set : Mirrors after (set table (place_of key) (Some d))
-  mirrors_set = record { ordered = sorted; mirrored = λ s. has s ∙ by s (eq_by_cmp key_cmp s.key key) refl ∙ ap (λ o. is_moment o s.due) (sym (table_set table key s.key (Some d) within)) }
+  pub mirrors_set : Mirrors after (set table key (Some d))
+  mirrors_set = record { ordered = sorted; mirrored = λ s. has s ∙ by s (eq_by_cmp nat_cmp s.key key) refl ∙ ap (λ o. is_moment o s.due) (sym (table_set table key s.key (Some d) within)) }
     where
-      apart : (s : Timer) → eq_by_cmp key_cmp s.key key ≡ false → eq_by_cmp timer_cmp s come ≡ false
-      apart s n = ⊎_elim (λ e. absurd (false≢true (sym n ∙ ap (λ (t : Timer). eq_by_cmp key_cmp t.key key) (same_timer s come e) ∙ ap is_eq (tied_itself key_cmp_total key)))) (λ f. f) (cases_Bool (eq_by_cmp timer_cmp s come))
+      apart : (s : Timer) → eq_by_cmp nat_cmp s.key key ≡ false → eq_by_cmp timer_cmp s come ≡ false
+      apart s n = ⊎_elim (λ e. absurd (false≢true (sym n ∙ ap (λ (t : Timer). eq_by_cmp nat_cmp t.key key) (same_timer s come e) ∙ ap is_eq (tied_itself nat_cmp_total key)))) (λ f. f) (cases_Bool (eq_by_cmp timer_cmp s come))
 
       one : (s : Timer) → s.key ≡ key → (b : Bool) → eq_by_cmp timer_cmp s come ≡ b → b ≡ eqb d s.due
       one s k true e = sym (eq-eqb d s.due (ap (λ (t : Timer). t.due) (sym (same_timer s come e))))
@@ -172,17 +171,17 @@ module _ (timers after : List Timer) (table : List (Option ℕ)) (key : Key) (d 
       or_false true = refl
       or_false false = refl
 
-      by : (s : Timer) (b : Bool) → eq_by_cmp key_cmp s.key key ≡ b → (eq_by_cmp timer_cmp s come || has_key timer_cmp timers s) ≡ is_moment (cond b (Some d) (moment_at table (place_of s.key))) s.due
+      by : (s : Timer) (b : Bool) → eq_by_cmp nat_cmp s.key key ≡ b → (eq_by_cmp timer_cmp s come || has_key timer_cmp timers s) ≡ is_moment (cond b (Some d) (moment_at table s.key)) s.due
       by s true same =
           let k : s.key ≡ key = same_key s.key key same in
-          ap (λ b. eq_by_cmp timer_cmp s come || b) (m.mirrored s ∙ ap (λ o. is_moment o s.due) (ap (λ (x : Key). moment_at table (place_of x)) k ∙ is))
+          ap (λ b. eq_by_cmp timer_cmp s come || b) (m.mirrored s ∙ ap (λ o. is_moment o s.due) (ap (λ (x : ℕ). moment_at table x) k ∙ is))
           ∙ or_false (eq_by_cmp timer_cmp s come) ∙ one s k (eq_by_cmp timer_cmp s come) refl
       by s false other = ap (λ b. b || has_key timer_cmp timers s) (apart s other) ∙ m.mirrored s
 
   pub moments_set : moments_of after ≡ insert (moments_of timers) key d
-  moments_set = same_map key_cmp_total key_exact _ _ (λ q.
-      get_mirrored after (set table (place_of key) (Some d)) mirrors_set q ∙ table_set table key q (Some d) within
-      ∙ ap (λ o. cond (eq_by_cmp key_cmp q key) (Some d) o) (sym (get_mirrored timers table m q)) ∙ sym (get-insert key_cmp_total (moments_of timers) key d q))
+  moments_set = same_map nat_cmp_total nat_cmp-IsAntisymmetric _ _ (λ q.
+      get_mirrored after (set table key (Some d)) mirrors_set q ∙ table_set table key q (Some d) within
+      ∙ ap (λ o. cond (eq_by_cmp nat_cmp q key) (Some d) o) (sym (get_mirrored timers table m q)) ∙ sym (get-insert nat_cmp_total (moments_of timers) key d q))
 
 -- ---- how many are set
 
@@ -217,13 +216,13 @@ pub none_of : (o : Option ℕ) → ((d : ℕ) → o ≡ Some d → ⊥) → o �
 none_of None h = refl
 none_of (Some d) h = absurd (h d refl)
 
-pub removed_none : (moments : Moments) (key : Key) → get (remove moments key) key ≡ None
-removed_none moments key = get-remove key_cmp_total moments key key ∙ ap (λ b. cond b None (get moments key)) (ap is_eq (tied_itself key_cmp_total key))
+pub removed_none : (moments : Moments) (key : ℕ) → get (remove moments key) key ≡ None
+removed_none moments key = get-remove nat_cmp_total moments key key ∙ ap (λ b. cond b None (get moments key)) (ap is_eq (tied_itself nat_cmp_total key))
 
-pub insert_removed : (moments : Moments) (key : Key) (d : ℕ) → insert (remove moments key) key d ≡ insert moments key d
-insert_removed moments key d = same_map key_cmp_total key_exact _ _ (λ q.
-    get-insert key_cmp_total (remove moments key) key d q ∙ ap (cond (eq_by_cmp key_cmp q key) (Some d)) (get-remove key_cmp_total moments key q)
-    ∙ by (eq_by_cmp key_cmp q key) (get moments q) ∙ sym (get-insert key_cmp_total moments key d q))
+pub insert_removed : (moments : Moments) (key : ℕ) (d : ℕ) → insert (remove moments key) key d ≡ insert moments key d
+insert_removed moments key d = same_map nat_cmp_total nat_cmp-IsAntisymmetric _ _ (λ q.
+    get-insert nat_cmp_total (remove moments key) key d q ∙ ap (cond (eq_by_cmp nat_cmp q key) (Some d)) (get-remove nat_cmp_total moments key q)
+    ∙ by (eq_by_cmp nat_cmp q key) (get moments q) ∙ sym (get-insert nat_cmp_total moments key d q))
   where
     by : (b : Bool) (o : Option ℕ) → cond b (Some d) (cond b None o) ≡ cond b (Some d) o
     by true o = refl
@@ -244,8 +243,11 @@ pub empty_mirrors : (timers : List Timer) (table : List (Option ℕ)) → timers
 unfolding IsStrictlySortedBy
 empty_mirrors timers table e none = record {
   ordered = subst (IsStrictlySortedBy timer_cmp) (sym e) tt;
-  mirrored = λ timer. ap (λ l. has_key timer_cmp l timer) e ∙ sym (ap (λ o. is_moment o timer.due) (none_set table (place_of timer.key) none));
+  mirrored = λ timer. ap (λ l. has_key timer_cmp l timer) e ∙ sym (ap (λ o. is_moment o timer.due) (none_set table timer.key none));
 }
+
+pub none_counted : (n : ℕ) → count_by is_some (replicate {A = Option ℕ} n None) ≡ 0
+none_counted n = let none : n * 0 ≡ 0 = omega arith in sum_by-replicate set_or_not n None ∙ none
 
 -- where a moment is, there is a place
 pub placed : (table : List (Option ℕ)) (i d : ℕ) → moment_at table i ≡ Some d → i < length table

@@ -4,14 +4,12 @@ use Rattle.std.specs.Global.{Vec}
 use Rattle.std.specs.List.Sorted.{IsStrictlySortedBy}
 use Rattle.std.specs.Vec.{vec_capacity}
 use Rattle.std.specs.FinMap.{from_entries}
-use Rattle.timer_queue.specs.declared.key.Key.{Key}
 use Rattle.timer_queue.specs.declared.timer.Timer.{Timer}
-use Rattle.timer_queue.specs.Keys.{place_of}
 use Rattle.timer_queue.specs.Moments.{Moments}
 use Rattle.counted_search.specs.Ordered.{has_key}
 use Rattle.timer_queue.specs.Timers.{timer_cmp}
 
-abbrev pub entry_of : Timer → Key × ℕ
+abbrev pub entry_of : Timer → ℕ × ℕ
 entry_of timer = (timer.key, timer.due)
 
 -- what timers say
@@ -28,7 +26,7 @@ is_moment (Some moment) due = moment == due
 -- the timers, in order, are those of the table
 pub record Mirrors (timers : List Timer) (table : List (Option ℕ)) : Type 0 where
   pub ordered : IsStrictlySortedBy timer_cmp timers
-  pub mirrored : (timer : Timer) → has_key timer_cmp timers timer ≡ is_moment (moment_at table (place_of timer.key)) timer.due
+  pub mirrored : (timer : Timer) → has_key timer_cmp timers timer ≡ is_moment (moment_at table timer.key) timer.due
 
 -- and there is room for one at each place
 pub record Keeps (places : ℕ) (timers : Vec Timer) (table : List (Option ℕ)) : Type 0 where

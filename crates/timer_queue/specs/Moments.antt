@@ -1,16 +1,15 @@
--- The moments at which machines are due.
+-- The moments at which keys are due.
 use Rattle.std.specs.Prelude.{◌≡◌, ℕ, ◌≤◌, nat_le, Bool, false, not, Option, Some, None, IfSome}
 use Rattle.std.specs.Coded.{Coded, coded_ℕ}
 use Rattle.std.specs.FinMap as map
-use Rattle.timer_queue.specs.declared.key.Key.{Key}
-use Rattle.timer_queue.specs.Keys.{key_cmp, key_code}
+use Rattle.std.specs.Ordering.{nat_cmp}
 
 -- the keys that are set, each with its moment
 abbrev pub Moments : Type 0
-Moments = map.FinMap key_cmp ℕ
+Moments = map.FinMap nat_cmp ℕ
 
 abbrev pub moments_code : Coded Moments
-moments_code = map.code key_code coded_ℕ
+moments_code = map.code coded_ℕ coded_ℕ
 
 -- whether a moment is set and has come
 abbrev pub has_come : Option ℕ → ℕ → Bool
@@ -27,6 +26,6 @@ due_after at moments = map.retain_keys moments (λ key. not (has_come (map.get m
 
 -- a moment is set, and none that is set is earlier
 pub record IsEarliest (moments : Moments) (due : ℕ) : Type 0 where
-  pub key : Key
+  pub key : ℕ
   pub set : map.get moments key ≡ Some due
-  pub least : (other : Key) → IfSome (map.get moments other) (λ moment. due ≤ moment)
+  pub least : (other : ℕ) → IfSome (map.get moments other) (λ moment. due ≤ moment)

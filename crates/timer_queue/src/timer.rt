@@ -4,15 +4,14 @@ ghost use Rattle.std.specs.Ordering.{as_partial_cmp, eq_by_cmp};
 ghost use Rattle.std.proofs.Common.{rules};
 ghost use Rattle.timer_queue.specs.Timers.{timer_cmp, timer_cmp_total, timer_eq_equivalence};
 
-use crate::key::Key;
 use std::cmp::Ordering;
 
-/// A machine and the moment at which it is due. Timers are ordered backwards in time, so that the earliest is the last of
+/// A key and the moment at which it is due. Timers are ordered backwards in time, so that the earliest is the last of
 /// those in order; of two at one moment the one with the lesser key is the later in order.
 #[derive(Clone, Copy)]
 pub struct Timer {
     pub due: u64,
-    pub key: Key,
+    pub key: usize,
 }
 
 impl Ord for Timer {

@@ -1,8 +1,7 @@
 use Rattle.std.proofs.Common.{List, map, sym, ap, subst, ◌∙◌}
-use Rattle.timer_queue.specs.Dues.{AreMoments}
+use Rattle.client_core.specs.Due.{AreMoments, dues_of}
 use Rattle.client_model.specs.declared.interfaces.Iface.{Iface}
 use Rattle.client_model.specs.Clients.{Client, client_due}
-use Rattle.client_core.specs.Due.{dues_of}
 use Rattle.client_core.specs.Running.{IsRunning}
 use Rattle.client_core.proofs.clients.core_due.Goals as goal
 

@@ -1,6 +1,5 @@
 use Rattle.std.proofs.Common.{map, take}
-use Rattle.timer_queue.specs.Dues.{AreMoments}
-use Rattle.client_core.specs.Due.{dues_of}
+use Rattle.client_core.specs.Due.{AreMoments, dues_of}
 use Rattle.client_core.proofs.dues.queue_of.Given as goal
 
 abbrev pub invariant-places : goal.invariant-places

@@ -1,5 +1,5 @@
 use Rattle.std.proofs.Common.{map, take}
-use Rattle.timer_queue.specs.Names.{AreNamed}
+use Rattle.client_core.specs.Names.{AreNamed}
 use Rattle.client_model.specs.IfaceSteps.{index_of}
 use Rattle.client_core.proofs.kept.names_of.Given as goal
 

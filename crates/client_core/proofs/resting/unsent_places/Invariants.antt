@@ -1,7 +1,7 @@
 use Rattle.std.proofs.Common.{ℕ, ◌≡◌, ◌<◌, ◌≤◌, true}
 use Rattle.script_model.specs.IfaceSets.{is_in}
-use Rattle.timer_queue.specs.Names.{named_as}
-use Rattle.timer_queue.specs.Places.{has}
+use Rattle.client_core.specs.Names.{named_as}
+use Rattle.client_core.specs.Places.{has}
 use Rattle.world.specs.Rows.{IsInterface}
 use Rattle.client_core.proofs.resting.unsent_places.Given as goal
 
