@@ -6,8 +6,8 @@ use Rattle.std.proofs.lemmas.Bool.Decides.{nat_tests}
 use Rattle.std.proofs.lemmas.List.{get_or-take, length-map}
 use Rattle.net_types.specs.declared.address.Mac.{Mac}
 use Rattle.machine.specs.Moment.{is_due}
-use Rattle.machine.specs.declared.timed.TimedMachine.{TimedMachine}
-use Rattle.machine.specs.declared.timed.TimedMachine.TheVariants as machine
+use Rattle.client_model.specs.declared.machines.TimedMachine.{TimedMachine}
+use Rattle.client_model.specs.declared.machines.TimedMachine.TheVariants as machine
 use Rattle.client_core.specs.declared.places.Places.{Places}
 use Rattle.client_core.specs.Due.{MachineDues, dues_of, is_taken, never}
 use Rattle.timer_queue.specs.Moments.{has_come}

@@ -10,8 +10,8 @@ use Rattle.client_model.specs.Clients.{client_due, earlier}
 use Rattle.client_model.specs.IfaceSteps.{index_of}
 use Rattle.client_model.specs.Interfaces.{iface_due, machine_due}
 use Rattle.client_core.specs.declared.named.Named.{Named}
-use Rattle.machine.specs.declared.timed.TimedMachine.{TimedMachine}
-use Rattle.machine.specs.declared.timed.TimedMachine.TheVariants.{Dhcp4, LinkLocal, Dhcp6}
+use Rattle.client_model.specs.declared.machines.TimedMachine.{TimedMachine}
+use Rattle.client_model.specs.declared.machines.TimedMachine.TheVariants.{Dhcp4, LinkLocal, Dhcp6}
 use Rattle.client_core.specs.Due.{AreMoments, MachineDues, PutsMoments, dues_of, machine_in, never, number_of, place_in}
 use Rattle.std.specs.Ordering.{nat_cmp}
 use Rattle.timer_queue.specs.Moments.{Moments, IsEarliest}

@@ -5,7 +5,7 @@ use Rattle.std.specs.FinMap as finite
 use Rattle.std.specs.Cmp.{nat_cmp_total}
 use Rattle.std.specs.Ordering.{nat_cmp, eq_by_cmp}
 use Rattle.std.proofs.lemmas.Bool.{eq-eqb, eqb-true, lt-ltb, le-ltb, cases_eq}
-use Rattle.machine.specs.declared.timed.TimedMachine.{TimedMachine}
+use Rattle.client_model.specs.declared.machines.TimedMachine.{TimedMachine}
 use Rattle.timer_queue.specs.Moments.{Moments}
 use Rattle.timer_queue.proofs.Tables.{same_key, key_itself}
 use Rattle.client_core.specs.Due.{MachineDues, PutsMoments, machine_in, number_of, place_in, rank_of}

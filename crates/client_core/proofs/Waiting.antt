@@ -7,7 +7,7 @@ use Rattle.std.specs.FinMap as finite
 use Rattle.std.specs.Ordering.{nat_cmp, eq_by_cmp}
 use Rattle.std.proofs.lemmas.Bool.{lt-ltb, le-ltb, eq-eqb, eqb-true, eqb-false, cases_lt, cases_eq}
 use Rattle.std.proofs.lemmas.List.{get_or-take, get_or-set_same, get_or-set_other}
-use Rattle.machine.specs.declared.timed.TimedMachine.{TimedMachine}
+use Rattle.client_model.specs.declared.machines.TimedMachine.{TimedMachine}
 use Rattle.client_core.specs.Due.{MachineDues, never, key_due, number_of, place_in, machine_in, AreMoments, PutsMoments, is_taken}
 use Rattle.timer_queue.specs.Moments.{Moments, has_come, due_after, due_by}
 use Rattle.counted_search.specs.Ordered.{has_key}

@@ -8,7 +8,7 @@ use Rattle.world.specs.HookCalls.{Job}
 use Rattle.world.specs.declared.rows.HostRow.{HostRow}
 use Rattle.world.specs.RowOrder.{rows_beyond}
 use Rattle.settings.specs.Fitting.{FitsManaged}
-use Rattle.machine.specs.declared.timed.TimedMachine.{TimedMachine}
+use Rattle.client_model.specs.declared.machines.TimedMachine.{TimedMachine}
 use Rattle.client_core.specs.declared.named.Named.{Named}
 use Rattle.client_core.specs.declared.places.Places.{Places}
 use Rattle.client_core.specs.Due.{MachineDues, dues_of, never}

@@ -2,8 +2,8 @@
 use Rattle.std.specs.Prelude.{◌≡◌, ℕ, zero, suc, ◌+◌, ◌*◌, ◌/◌, ◌%◌, ◌==◌, ◌&&◌, nat_lt, if◌then◌else◌, Bool, List, take, slice_index_or, Option, None}
 use Rattle.std.specs.List.{list_any}
 use Rattle.std.specs.FinMap as map
-use Rattle.machine.specs.declared.timed.TimedMachine.{TimedMachine}
-use Rattle.machine.specs.declared.timed.TimedMachine.TheVariants.{Dhcp4, LinkLocal, Dhcp6}
+use Rattle.client_model.specs.declared.machines.TimedMachine.{TimedMachine}
+use Rattle.client_model.specs.declared.machines.TimedMachine.TheVariants.{Dhcp4, LinkLocal, Dhcp6}
 use Rattle.timer_queue.specs.Moments.{Moments, due_by}
 use Rattle.client_model.specs.declared.interfaces.Iface.{Iface}
 use Rattle.client_model.specs.Interfaces.{machine_due}

@@ -8,9 +8,8 @@ ghost use Rattle.client_core.specs.Due.{PutsMoments, dues_of, is_taken, number_o
 ghost use Rattle.client_core.specs.Places.{has};
 
 use crate::places::{PLACES, Places};
-use client_model::Iface;
+use client_model::{Iface, TimedMachine};
 use iface_core::machine_due;
-use machine::TimedMachine;
 use net_types::NoMemory;
 use std::alloc::Global;
 use std::marker::Model;

@@ -15,8 +15,8 @@ use Rattle.script_model.specs.IfaceSets.{is_in, is_up}
 use Rattle.client_model.specs.declared.interfaces.Iface.{Iface}
 use Rattle.client_model.specs.declared.steps.News.TheVariants.{Opened, CarrierCame, CarrierWent, Released, Stopped}
 use Rattle.client_model.specs.declared.steps.News.{News}
-use Rattle.machine.specs.declared.timed.TimedMachine.{TimedMachine}
-use Rattle.machine.specs.declared.timed.TimedMachine.TheVariants.{Dhcp4, LinkLocal, Dhcp6}
+use Rattle.client_model.specs.declared.machines.TimedMachine.{TimedMachine}
+use Rattle.client_model.specs.declared.machines.TimedMachine.TheVariants.{Dhcp4, LinkLocal, Dhcp6}
 use Rattle.client_model.specs.ClientSettings.{settings_of}
 use Rattle.client_model.specs.ClientSettings6.{settings6_of}
 use Rattle.client_model.specs.Dhcp4Steps.{arms, begin_dhcp4, rebind_dhcp4, drop_dhcp4, stop_dhcp4, tick_dhcp4}

@@ -5,6 +5,7 @@ mod asking;
 mod constants;
 mod interfaces;
 mod laws;
+mod machines;
 mod steps;
 
 pub use asking::{BY_DUID, ETHERNET, WANTED_CODES};
@@ -16,4 +17,5 @@ pub use laws::{
     rows_and_leases_stay_in_quiet_turns, the_hosts_duid_fits, wanted_rows_can_be_wanted,
     what_is_asked_fits,
 };
+pub use machines::TimedMachine;
 pub use steps::News;

@@ -2,10 +2,10 @@ ghost use Rattle.std.specs.Prelude.{IfOk};
 ghost use Rattle.settings.specs.Fitting.{FitsManaged};
 
 use crate::interfaces::{DUID, MAC, managed, spec};
-use client_model::{Iface, News};
+use client_model::{Iface, News, TimedMachine};
 use iface_core::{Outs, Told, Turn, TurnInput, iface_due, iface_input, iface_tick, machine_due};
 use ipv4ll::ll_off;
-use machine::{TimedMachine, has_come};
+use machine::has_come;
 use net_types::{IfIndex, NoMemory};
 use std::alloc::Global;
 use std::test::*;

@@ -47,7 +47,7 @@ use Rattle.client_model.specs.ClientSettings.{ask_of, runs_dhcp4}
 use Rattle.client_model.specs.ClientSettings6.{runs_dhcp6}
 use Rattle.client_model.specs.Dhcp6Steps.{dhcp6_step, said6_in, sent_by}
 use Rattle.client_model.specs.Dhcp4Steps.{arms, arrival_at, dhcp4_packet, dhcp4_step, dhcp4_takes, followed, holds_lease, said_in}
-use Rattle.machine.specs.declared.timed.TimedMachine.TheVariants.{Dhcp4, LinkLocal}
+use Rattle.client_model.specs.declared.machines.TimedMachine.TheVariants.{Dhcp4, LinkLocal}
 use Rattle.client_model.specs.IfaceSteps.{IfaceStep, index_of, silent, then_step}
 use Rattle.client_model.specs.KeptLeases.{Beginning}
 use Rattle.client_model.specs.LocalSteps.{armed, local_hears}

@@ -20,8 +20,8 @@ use Rattle.client_model.specs.declared.steps.News.{News}
 use Rattle.client_model.specs.declared.steps.News.TheVariants.{Lease4, Opened}
 use Rattle.client_model.specs.Jobs.{Told, own, told_by, told_in, told_of}
 use Rattle.client_model.specs.Messages.{Said, Arp, Dhcp4}
-use Rattle.machine.specs.declared.timed.TimedMachine.{TimedMachine}
-use Rattle.machine.specs.declared.timed.TimedMachine.TheVariants as machine
+use Rattle.client_model.specs.declared.machines.TimedMachine.{TimedMachine}
+use Rattle.client_model.specs.declared.machines.TimedMachine.TheVariants as machine
 use Rattle.client_model.specs.IfaceSteps.{Report, IfaceStep, news_of, silent, then_step, with_news}
 use Rattle.client_model.specs.Dhcp4Steps.{after_dhcp4, dhcp4_step, followed, lease_news}
 use Rattle.client_model.specs.Dhcp6Steps.{dhcp6_step}

@@ -22,11 +22,11 @@ use crate::dhcp4::{begin_dhcp4, client_of, drop_dhcp4, rebind_dhcp4, stop_dhcp4}
 use crate::dhcp6::{begin_dhcp6, client6_of, drop_dhcp6, rebind_dhcp6, stop_dhcp6};
 use crate::local::{arm_unless_held, drop_local};
 use crate::outs::Outs;
-use client_model::Iface;
+use client_model::{Iface, TimedMachine};
 use ipv4ll::{ll_held, ll_off};
 use lease_text::Lease4;
 use lease6_text::Lease6;
-use machine::{Machine, TimedMachine};
+use machine::Machine;
 use net_types::{IfIndex, Ip4, NoMemory};
 use settings::IfConf;
 use std::alloc::{AllocError, Global};

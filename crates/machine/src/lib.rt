@@ -10,4 +10,4 @@ mod timed;
 
 pub use laws::early_ticks_rest;
 pub use salt::{draw, draw_xid};
-pub use timed::{LAST_MOMENT, Machine, TimedMachine, clamp_moment, has_come};
+pub use timed::{LAST_MOMENT, Machine, clamp_moment, has_come};

@@ -1,14 +1,6 @@
 ghost use Rattle.std.specs.Prelude.{◌≡◌, ℕ, Option, false};
 ghost use Rattle.machine.specs.Moment.{is_due, moment_of};
 
-/// The timed machines of an interface, in the order in which they tick.
-#[derive(Clone, Copy, Debug, PartialEq, Eq)]
-pub enum TimedMachine {
-    Dhcp4,
-    LinkLocal,
-    Dhcp6,
-}
-
 /// The greatest moment that is handed to a machine.
 pub const LAST_MOMENT: u64 = 999_999_999_999_999;
 
