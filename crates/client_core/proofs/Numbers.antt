@@ -1,5 +1,5 @@
 -- The numbers of machines: each has one, and each number is one's.
-use Rattle.std.proofs.Common.{ℕ, zero, suc, ◌≡◌, ◌+◌, ◌*◌, ◌/◌, ◌%◌, ◌<◌, ◌≤◌, refl, sym, ap, ◌∙◌, arith, get_or, List, [], ◌∷◌}
+use Rattle.std.proofs.Common.{ℕ, zero, suc, ◌≡◌, ◌%◌, ◌<◌, refl, sym, ap, ◌∙◌, arith, get_or, [], ◌∷◌}
 use Rattle.client_model.specs.declared.machines.TimedMachine.{TimedMachine}
 use Rattle.client_model.specs.declared.machines.TimedMachine.TheVariants.{Dhcp4, LinkLocal, Dhcp6}
 use Rattle.client_core.specs.Due.{rank_of, machine_ranked, number_of, place_in, machine_in}

@@ -1,15 +1,18 @@
 //! How many comparisons were made.
 ghost use Rattle.std.specs.Prelude.{◌≡◌, ◌+◌, ◌≤◌};
 
-use crate::ledger::Ledger;
+use crate::ledger::{Ledger, Plain};
 use std::cmp::Ordering;
 use std::marker::Model;
+use std::mem::size_of;
 
 /// A count of steps, each the comparison of two keys: the number that a ledger has. Over `Plain` it takes no bytes.
 #[derive(Drop)]
 pub struct Steps<L: Ledger> {
     ledger: L,
 }
+
+const _: () = prove!(size_of::<Steps<Plain>>() == 0);
 
 impl<L: Ledger> Model for Steps<L> {
     ghost use Rattle.std.specs.Prelude.{ℕ};
