@@ -361,11 +361,12 @@ class LifeView:
     def hook_call(self, at: int, call: Call) -> None:
         if call.verb == "start":
             _, reason, name = call.words
-            self.job = Bar(at, call.line, f"{reason} {name}", "job", failed=not call.ok)
-            self.jobs.append(self.job)
             self.note(call.line, "\n".join(call.more))
-            if not call.ok:
-                self.job.note, self.job.end = "it couldn't be started", at
+            if call.ok:
+                self.job = Bar(at, call.line, f"{reason} {name}", "job")
+                self.jobs.append(self.job)
+            else:
+                self.drops.append(Mark(at, call.line, f"not started: {reason} {name}", "drop", True))
         elif call.verb == "drop":
             _, reason, name = call.words
             self.drops.append(Mark(at, call.line, f"dropped: {reason} {name}", "drop", True))

@@ -6,6 +6,7 @@ const byId = (id) => document.getElementById(id);
 const main = byId("lives");
 const LEFT = 118; // the column of titles
 const ROW = 20; // the height of a line
+const TAIL = 6; // how much more room there is behind the end than before the start
 const TALLEST = 8e6; // what browsers scroll exactly
 
 const STATES = {
@@ -40,8 +41,9 @@ function clock(ms, step = 1) {
   const seconds = (all % 60e3) / 1000;
   const two = (number) => String(number).padStart(2, "0");
   const minutes = Math.floor(all / 60e3);
-  const tail = step >= 60e3 && seconds === 0 ? "00" : seconds.toFixed(digits).padStart(digits ? 3 + digits : 2, "0");
-  return minutes < 60 ? `${sign}${minutes}:${tail}` : `${sign}${Math.floor(minutes / 60)}:${two(minutes % 60)}:${tail}`;
+  const tail = seconds.toFixed(digits).padStart(digits ? 3 + digits : 2, "0");
+  const days = Math.floor(minutes / 1440), hours = Math.floor(minutes / 60) % 24;
+  return `${sign}${days ? `${days} d ` : ""}${hours}:${two(minutes % 60)}:${tail}`;
 }
 
 const dated = (ms) => (ms > 1e11 ? new Date(ms).toISOString().replace("T", " ").replace("Z", " UTC") : `${ms} ms`);
@@ -73,37 +75,38 @@ function above(numbers, number) {
   return low;
 }
 
-// Moments on a line on which quiet time is folded.
+// Moments on a line on which quiet time is folded: the longer it is, the less more it takes.
 class Scale {
   constructor(moments, end, folded) {
     const gaps = [];
     for (let place = 1; place < moments.length; place++) gaps.push(moments[place] - moments[place - 1]);
     const sorted = Float64Array.from(gaps).sort();
-    this.quiet = folded ? Math.max(5000, 8 * (sorted[sorted.length >> 2] || 0)) : Infinity;
+    this.quiet = folded ? Math.max(100, 2 * (sorted[sorted.length >> 2] || 0)) : Infinity;
     this.at = [0];
     this.place = [0];
+    this.folded = [false]; // whether what lies before a place is folded
     let last = 0, place = 0;
     const add = (moment) => {
       const gap = moment - last;
       if (gap > this.quiet) {
-        this.push(last, place);
-        place += this.quiet;
-        this.push(moment, place);
+        this.push(last, place, false);
+        place += this.quiet * (1 + Math.log(gap / this.quiet));
+        this.push(moment, place, true);
       } else place += gap;
       last = moment;
     };
     for (let one = 1; one < moments.length; one++) add(moments[one]);
     if (end > last) add(end);
-    this.push(last, place);
+    this.push(last, place, false);
     this.width = Math.max(place, 1);
     this.end = last;
   }
 
-  push(at, place) {
-    if (at > this.at[this.at.length - 1]) {
-      this.at.push(at);
-      this.place.push(place);
-    }
+  push(at, place, folded) {
+    if (at <= this.at[this.at.length - 1]) return;
+    this.at.push(at);
+    this.place.push(place);
+    this.folded.push(folded);
   }
 
   static between(from, to, number) {
@@ -118,11 +121,13 @@ class Scale {
   toPlace(at) { return Scale.between(this.at, this.place, at); }
   toMoment(place) { return Scale.between(this.place, this.at, place); }
 
+  // The end of the fold in which a moment lies, or the next one.
+  after(at) { return this.at[Math.min(above(this.at, at), this.at.length - 1)]; }
+
   // The folds that are seen, as moments and places.
   *folds(from, to) {
     for (let one = Math.max(above(this.place, from) - 1, 0); one + 1 < this.at.length && this.place[one] < to; one++) {
-      const gap = this.at[one + 1] - this.at[one];
-      if (gap > this.quiet) yield [this.at[one], this.at[one + 1], this.place[one], this.place[one + 1]];
+      if (this.folded[one + 1]) yield [this.at[one], this.at[one + 1], this.place[one], this.place[one + 1]];
     }
   }
 }
@@ -150,7 +155,7 @@ class Life {
   head() {
     const { data } = this;
     const bad = data.failures.length ? `<span class="bad">${many(data.failures.length, "failure")}</span>` : "";
-    const when = data.begin > 1e11 ? `from ${dated(data.begin)}` : "";
+    const when = data.begin ? `from ${dated(data.begin)}` : "";
     const facts = [...data.notes, lasting(data.end), when].filter(Boolean).join(" · ");
     return `<h2>${escaped(data.title)} <small>${escaped(facts)}</small>${bad}</h2>`;
   }
@@ -187,7 +192,7 @@ class Life {
   whole() {
     const room = this.scale.width * 0.015;
     this.from = -room;
-    this.to = this.scale.width + room * 3;
+    this.to = this.scale.width + room * TAIL;
   }
 
   layout() {
@@ -206,20 +211,20 @@ class Life {
   moment(x) { return this.scale.toMoment(this.from + ((x - LEFT) * (this.to - this.from)) / this.room); }
 
   // The part of the lanes that can be seen.
-  seen(all) {
-    if (all) return [0, this.height];
+  seen() {
+    if (printing) return [0, this.height];
     const own = this.svg.getBoundingClientRect(), view = main.getBoundingClientRect();
     return [view.top - own.top - 200, view.bottom - own.top + 200];
   }
 
-  draw(all = false) {
+  draw() {
     const width = this.svg.clientWidth || main.clientWidth;
     this.width = width;
     this.room = Math.max(width - LEFT - 10, 50);
-    const [top, bottom] = this.seen(all);
+    const [top, bottom] = this.seen();
     if (bottom < 0 || top > this.height) return;
     const focus = document.activeElement, held = this.svg.contains(focus) && focus.dataset ? focus.dataset.key : null;
-    const out = [PATTERNS, `<defs><clipPath id="clip${this.number}"><rect x="${LEFT}" y="0" width="${this.room + 10}" height="${this.height}"/></clipPath></defs>`];
+    const out = [`<defs><clipPath id="clip${this.number}"><rect x="${LEFT}" y="0" width="${this.room + 10}" height="${this.height}"/></clipPath></defs>`];
     out.push(`<g clip-path="url(#clip${this.number})">`);
     this.drawFolds(out);
     this.drawAxis(out);
@@ -262,6 +267,7 @@ class Life {
     put(0, 1000);
     const folds = [...this.scale.folds(this.from, this.to)];
     if (folds.length < 400) for (const [, to] of folds) put(to, 1000);
+    else for (let x = LEFT + 60; x < LEFT + this.room; x += 120) put(this.scale.after(this.moment(x)), 1000);
     let from = Math.max(this.moment(LEFT), 0);
     const ranges = [];
     for (const [begin, end] of folds.slice(0, 400)) {
@@ -291,7 +297,7 @@ class Life {
         const y = lane.y - 6;
         if (lane.place) out.push(`<line class="rule" x1="8" x2="${this.width - 8}" y1="${y - 13}" y2="${y - 13}"/>`);
         out.push(`<text class="group" x="12" y="${y}">${escaped(lane.group.title)}</text>`);
-        out.push(`<text class="soft" x="${LEFT}" y="${y}">${escaped(lane.group.note)}</text>`);
+        out.push(`<text class="soft" x="${22 + lane.group.title.length * 8.4}" y="${y}">${escaped(lane.group.note)}</text>`);
       }
       out.push(`<text class="soft" x="20" y="${lane.y + Math.min(lane.height, 22) / 2 + 4}">${escaped(lane.title)}</text>`);
       if (lane.name === "frames") {
@@ -351,7 +357,7 @@ class Life {
     const room = Math.floor((width - 9) / 5.9);
     if (room >= Math.min(label.length, 4)) {
       const text = label.length > room ? label.slice(0, room - 1) + "…" : label;
-      out.push(`<text class="in${bad ? " failed" : ""}" x="${x + 5}" y="${y + height / 2 + 4}">${escaped(text)}</text>`);
+      out.push(`<text class="in ${style}-text${bad ? " failed" : ""}" x="${x + 5}" y="${y + height / 2 + 4}">${escaped(text)}</text>`);
     }
     out.push("</g>");
   }
@@ -360,8 +366,13 @@ class Life {
   drawMarks(lane, out, y, wanted) {
     const first = above(lane.at, this.moment(LEFT - 12)), end = above(lane.at, this.moment(LEFT + this.room + 12));
     const flush = (crowd, next) => {
-      if (crowd.places.length === 1) this.drawMark(lane, crowd.places[0], crowd.x, y, next, out);
-      else if (crowd.places.length) this.drawCrowd(lane, crowd, y, out);
+      const { places, x: begin } = crowd, last = places.length - 1;
+      const together = last > 0 && lane.at[places[0]] === lane.at[places[last]];
+      if (last > 0 && !(together && last < 6 && next - begin > 14 * (last + 1) + 4)) return this.drawCrowd(lane, crowd, y, out);
+      // those of one moment stand beside one another, over a line
+      if (together) out.push(`<path class="together" d="M${begin - 6} ${y + 9}h${14 * last + 12}"/>`);
+      const label = together ? this.summary(lane, places) : this.words[lane.marks.label[places[0]]];
+      places.forEach((one, row) => this.drawMark(lane, one, begin + 14 * row, y, row < last ? null : label, next, out));
     };
     let crowd = { places: [], x: -99, end: -99 };
     let at = NaN, x = 0;
@@ -380,7 +391,18 @@ class Life {
     flush(crowd, Infinity);
   }
 
-  drawMark(lane, place, x, y, next, out) {
+  // What several marks of one moment are: the first words of their labels, with their numbers.
+  summary(lane, places) {
+    const counts = new Map();
+    for (const place of places) {
+      const label = this.words[lane.marks.label[place]];
+      const word = lane.name === "frames" ? label : label.split(" ")[0];
+      counts.set(word, (counts.get(word) || 0) + 1);
+    }
+    return [...counts].map(([word, count]) => (count > 1 ? `${count} × ${word}` : word)).join(", ");
+  }
+
+  drawMark(lane, place, x, y, beside, next, out) {
     const label = this.words[lane.marks.label[place]], shape = this.words[lane.marks.shape[place]];
     const bad = lane.failed.has(place), line = lane.line[place];
     const key = `${this.lanes.indexOf(lane)}.${place}`;
@@ -388,9 +410,9 @@ class Life {
     const said = `${lane.group.title}: ${way}${label}${bad ? ", failed" : ""}, at ${clock(lane.at[place])}, line ${line}`;
     out.push(`<g class="mark${bad ? " failed" : ""}" tabindex="0" role="link" data-key="${key}" data-mark="${key}" data-line="${line}" aria-label="${escaped(said)}">`);
     out.push(glyph(shape, lane.name, x, y));
-    if (bad) out.push(`<path d="M${x - 5} ${y - 5}l10 10m0 -10l-10 10" style="fill:none;stroke-width:2"/>`);
+    if (bad) out.push(ring(x, y));
     out.push(`<rect class="hit" x="${x - 8}" y="${y - 10}" width="16" height="20" rx="4"/>`);
-    if (next - x > label.length * 5.3 + 18) out.push(`<text class="said${bad ? " failed" : ""}" x="${x + 9}" y="${y + 3.5}">${escaped(label)}</text>`);
+    if (beside && next - x > beside.length * 5.7 + 20) out.push(`<text class="said${bad ? " failed" : ""}" x="${x + 9}" y="${y + 3.5}">${escaped(beside)}</text>`);
     out.push("</g>");
   }
 
@@ -400,26 +422,34 @@ class Life {
     const count = places.length > 999 ? `${Math.round(places.length / 1000)}k` : String(places.length);
     const width = Math.max(end - x + 10, count.length * 6 + 8), left = (x + end - width) / 2;
     const key = `${this.lanes.indexOf(lane)}.${places[0]}-${places[places.length - 1]}`;
+    const kind = this.kindOf(lane, places);
     const said = `${lane.group.title}: ${places.length} marks from ${clock(lane.at[places[0]])} on${bad ? `, ${bad} failed` : ""}; Enter comes nearer`;
-    out.push(`<g class="mark many${bad ? " failed" : ""}" tabindex="0" role="button" data-key="${key}" data-crowd="${key}" data-line="${lane.line[places.find((place) => lane.failed.has(place)) ?? places[0]]}" aria-label="${escaped(said)}">`);
+    out.push(`<g class="mark many ${kind}${bad ? " failed" : ""}" tabindex="0" role="button" data-key="${key}" data-crowd="${key}" data-line="${lane.line[places.find((place) => lane.failed.has(place)) ?? places[0]]}" aria-label="${escaped(said)}">`);
     out.push(`<rect x="${left}" y="${y - 7}" width="${width}" height="14"/><rect class="hit" x="${left}" y="${y - 8}" width="${width}" height="16" rx="4"/>`);
     out.push(`<text text-anchor="middle" x="${left + width / 2}" y="${y + 3.2}">${count}</text></g>`);
+  }
+
+  // The style of a crowd: that of its marks, where they are of one family.
+  kindOf(lane, places) {
+    const families = new Set(places.map((place) => this.words[lane.marks.shape[place]].split(" ")[1]));
+    if (lane.name === "files") return "m-file";
+    return families.size === 1 && lane.name === "frames" ? `m-${[...families][0]}` : "m-call";
   }
 
   // Time
 
   zoom(factor, x = LEFT + this.room / 2) {
     const share = (x - LEFT) / this.room;
-    const size = this.to - this.from, least = 20, most = this.scale.width * 1.06;
+    const size = this.to - this.from, least = 20, most = this.scale.width * (1 + 0.015 * (TAIL + 1));
     const next = Math.min(Math.max(size * factor, Math.min(least, most)), most);
     const centre = this.from + share * size;
     this.show(centre - share * next, centre + (1 - share) * next);
   }
 
   show(from, to) {
-    const room = this.scale.width * 0.03, size = to - from;
+    const room = this.scale.width * 0.015, size = to - from, last = this.scale.width + room * TAIL;
+    if (to > last) [from, to] = [last - size, last];
     if (from < -room) [from, to] = [-room, size - room];
-    if (to > this.scale.width + room * 2) [from, to] = [this.scale.width + room * 2 - size, this.scale.width + room * 2];
     Object.assign(this, { from, to });
     later(this);
   }
@@ -546,9 +576,6 @@ class Life {
   }
 }
 
-const PATTERNS = `<defs><pattern id="hatch" width="7" height="7" patternUnits="userSpaceOnUse" patternTransform="rotate(45)"><rect width="7" height="7" fill="var(--panel)"/><rect width="2.2" height="7" fill="var(--hatch)"/></pattern>
-<pattern id="mixed" width="4" height="4" patternUnits="userSpaceOnUse"><rect width="4" height="4" fill="var(--good)"/><rect width="2" height="4" fill="var(--renew)"/></pattern></defs>`;
-
 function nice(size) {
   const steps = [1, 2, 5, 10, 20, 50, 100, 200, 500, 1e3, 2e3, 5e3, 10e3, 15e3, 30e3, 60e3, 120e3, 300e3, 600e3, 900e3, 1800e3, 3600e3, 7200e3, 14400e3, 21600e3, 43200e3, 86400e3];
   return steps.find((step) => step >= size) || Math.ceil(size / 86400e3) * 86400e3;
@@ -567,6 +594,9 @@ function glyph(shape, lane, x, y) {
   if (way === "drop") return `<path class="${kind}" d="M${x - 5} ${y}h10"/>`;
   return `<circle class="${kind} m-hollow" cx="${x}" cy="${y}" r="4"/>`;
 }
+
+// What stands around a mark that failed.
+const ring = (x, y) => `<circle class="ring" cx="${x}" cy="${y}" r="8"/>`;
 
 // Lines
 
@@ -604,6 +634,7 @@ class Lines {
   }
 
   draw() {
+    if (printing) return;
     const first = Math.floor(this.top() / ROW), count = Math.ceil(this.view.clientHeight / ROW) + 1;
     const begin = this.view.scrollTop - (this.top() % ROW);
     const out = [];
@@ -616,7 +647,7 @@ class Lines {
     const text = this.all[number - 1];
     const kinds = ["line"];
     if (/^(turn|start) /.test(text)) kinds.push("turn");
-    if (/^(life |dhcpcd-transcript)/.test(text)) kinds.push("life");
+    if (/^(life |dhcpcd-transcript)/.test(text)) kinds.push("head");
     if (failing.has(number)) kinds.push("bad");
     if (number === this.picked) kinds.push("picked");
     const label = labelOf(number), chip = label ? `<em>${escaped(label)}</em>` : "";
@@ -634,7 +665,7 @@ class Lines {
       this.view.scrollTop = most > 0 ? (next / most) * (this.shown - room) : 0;
     }
     this.draw();
-    const bad = failing.has(number) ? `<b class="bad">failed</b>` : "";
+    const bad = failing.has(number) ? `<div class="bad">failed</div>` : "";
     const label = labelOf(number);
     byId("detail").innerHTML = `<b>Line ${number}${label ? ` · ${escaped(label)}` : ""}</b>${bad}${fieldsOf(number, 99)}<code>${escaped(this.all[number - 1])}</code>`;
     mark(number, above);
@@ -663,7 +694,7 @@ function fieldsOf(line, most) {
   return `<dl class="fields">${shown}${rows.length > most ? `<dt></dt><dd>and ${rows.length - most} more: pick it</dd>` : ""}</dl>`;
 }
 
-let lifes = [], lines = null, current = null, failing = new Set(), failed = [];
+let lifes = [], lines = null, current = null, failing = new Set(), failed = [], printing = false;
 
 // The message of a line that has a frame.
 function labelOf(number) {
@@ -681,12 +712,8 @@ function momentOf(number) {
     const found = /^(?:turn|start) (\d+) /.exec(lines.all[turn - 1]);
     if (!found) continue;
     const at = +found[1];
-    let heads = 0;
-    for (const life of lifes) {
-      if (life.firstLine <= turn && (!lifes[life.number + 1] || lifes[life.number + 1].firstLine > turn)) return [life, at - life.data.begin];
-      heads++;
-    }
-    return heads ? null : null;
+    const life = lifes.findLast((one) => one.firstLine <= turn);
+    return life ? [life, at - life.data.begin] : null;
   }
   return null;
 }
@@ -769,7 +796,7 @@ function key(event) {
 }
 
 function legend() {
-  const swatch = (style) => `<svg width="26" height="14">${PATTERNS}<rect class="band ${style}" x="1" y="1" width="24" height="12" rx="2"/></svg>`;
+  const swatch = (style) => `<svg width="26" height="14"><rect class="band ${style}" x="1" y="1" width="24" height="12" rx="2"/></svg>`;
   const form = (shape, lane) => `<svg width="26" height="16">${glyph(shape, lane, 13, 8)}</svg>`;
   const states = [["wait", "begins, waiting"], ["ask", "asking, probing"], ["check", "checking an address"], ["good", "bound, held, carrier"], ["renew", "renewing"], ["rebind", "rebinding"], ["decline", "declining"], ["idle", "off, no carrier"], ["unknown", "not known"], ["mixed", "many, too narrow"]];
   const addresses = [["good", "of a lease"], ["share", "out of a prefix"], ["static", "static"], ["local", "link-local"], ["otherbar", "found there"], ["unknown", "held or not"]];
@@ -777,14 +804,15 @@ function legend() {
   byId("swatches").innerHTML = `<h3>States</h3>${states.map(([style, text]) => `<span>${swatch(style)}${text}</span>`).join("")}
     <h3>Addresses</h3>${addresses.map(([style, text]) => `<span>${swatch(style)}${text}</span>`).join("")}
     <h3>Marks</h3>${forms.map(([shape, lane, text]) => `<span>${form(shape, lane)}${text}</span>`).join("")}
-    <span><svg width="26" height="16"><g class="mark failed">${glyph("out dhcp4", "frames", 13, 8)}<path d="M8 3l10 10m0 -10l-10 10" style="fill:none;stroke-width:2"/></g></svg>failed, in every lane</span>
-    <span><svg width="26" height="16"><g class="mark many"><rect x="2" y="1" width="22" height="14"/><text x="13" y="11.5" text-anchor="middle">12</text></g></svg>so many, close together</span>
+    <span><svg width="26" height="16"><g class="mark failed">${glyph("out dhcp4", "frames", 13, 8)}${ring(13, 8)}</g></svg>failed, in every lane</span>
+    <span><svg width="26" height="16"><g class="mark many m-call"><rect x="2" y="1" width="22" height="14"/><text x="13" y="11.5" text-anchor="middle">12</text></g></svg>so many, close together</span>
     <p>States are drawn as the lines tell them. Drag moves in time, Ctrl and the wheel, or a double click, come nearer; keys: ← → + − 0 f n, Tab and Enter.</p>`;
 }
 
 // Printing shows all lanes and the first lines.
 function print() {
-  for (const life of lifes) life.draw(true);
+  printing = true;
+  for (const life of lifes) life.draw();
   lines.room.innerHTML = lines.all.slice(0, 1500).map((_, place) => lines.line(place + 1, 0)).join("") + (lines.all.length > 1500 ? `<p class="word">and ${lines.all.length - 1500} more lines</p>` : "");
 }
 
@@ -806,11 +834,13 @@ function open(data, text) {
   legend();
   for (const life of lifes) life.draw();
   lines.draw();
-  new ResizeObserver(() => { lifes.forEach(later); lines.draw(); }).observe(main);
+  const sizes = new ResizeObserver(() => { lifes.forEach(later); lines.draw(); });
+  sizes.observe(main);
+  sizes.observe(lines.view);
   main.addEventListener("scroll", () => lifes.forEach(later));
   document.addEventListener("keydown", key);
   addEventListener("beforeprint", print);
-  addEventListener("afterprint", () => { lifes.forEach((life) => life.draw()); lines.draw(); });
+  addEventListener("afterprint", () => { printing = false; lifes.forEach((life) => life.draw()); lines.draw(); });
   byId("fold").onclick = fold;
   byId("nearer").onclick = () => current.zoom(0.6);
   byId("farther").onclick = () => current.zoom(1.6);
