@@ -234,6 +234,16 @@ class Life {
     this.drawTitles(out, top, bottom);
     this.svg.innerHTML = out.join("");
     if (held) this.svg.querySelector(`[data-key="${held}"]`)?.focus({ preventScroll: true });
+    this.frame();
+  }
+
+  // Frames what the picked line is drawn as, alone or among others.
+  frame() {
+    const picked = lines ? lines.picked : 0;
+    for (const mark of this.svg.querySelectorAll("[data-line]")) {
+      const first = +mark.dataset.line, last = +(mark.dataset.last || first);
+      mark.classList.toggle("picked", first <= picked && picked <= last);
+    }
   }
 
   drawFolds(out) {
@@ -243,9 +253,10 @@ class Life {
       if (end - x < 5) continue;
       out.push(`<rect class="fold" x="${x + 1}" y="24" width="${end - x - 2}" height="${this.height - 24}"/>`);
       out.push(`<path class="foldedge" d="M${x + 1} 24V${this.height}M${end - 1} 24V${this.height}"/>`);
-      const text = lasting(to - from);
-      if (end - x > text.length * 6.2 && x > last) {
-        out.push(`<text class="soft" text-anchor="middle" x="${(x + end) / 2}" y="35" font-style="italic">${text}</text>`);
+      // its length stands in the middle of what is seen of it, beside the first title
+      const text = lasting(to - from), left = Math.max(x, LEFT + 60), right = Math.min(end, LEFT + this.room);
+      if (right - left > text.length * 6.2 && x > last) {
+        out.push(`<text class="soft" text-anchor="middle" x="${(left + right) / 2}" y="35">${text}</text>`);
         last = end;
       }
     }
@@ -424,7 +435,7 @@ class Life {
     const key = `${this.lanes.indexOf(lane)}.${places[0]}-${places[places.length - 1]}`;
     const kind = this.kindOf(lane, places);
     const said = `${lane.group.title}: ${places.length} marks from ${clock(lane.at[places[0]])} on${bad ? `, ${bad} failed` : ""}; Enter comes nearer`;
-    out.push(`<g class="mark many ${kind}${bad ? " failed" : ""}" tabindex="0" role="button" data-key="${key}" data-crowd="${key}" data-line="${lane.line[places.find((place) => lane.failed.has(place)) ?? places[0]]}" aria-label="${escaped(said)}">`);
+    out.push(`<g class="mark many ${kind}${bad ? " failed" : ""}" tabindex="0" role="button" data-key="${key}" data-crowd="${key}" data-line="${lane.line[places[0]]}" data-last="${lane.line[places[places.length - 1]]}" aria-label="${escaped(said)}">`);
     out.push(`<rect x="${left}" y="${y - 7}" width="${width}" height="14"/><rect class="hit" x="${left}" y="${y - 8}" width="${width}" height="16" rx="4"/>`);
     out.push(`<text text-anchor="middle" x="${left + width / 2}" y="${y + 3.2}">${count}</text></g>`);
   }
@@ -518,7 +529,10 @@ class Life {
         return this.show(from - room, to + room);
       }
     }
-    if (element.dataset.line) lines.pick(+element.dataset.line, false);
+    const [row, range] = (element.dataset.crowd || "").split(".");
+    const bad = range && range.split("-").map(Number);
+    const first = bad && this.lanes[row].line.find((_, place) => place >= bad[0] && place <= bad[1] && this.lanes[row].failed.has(place));
+    lines.pick(first || +element.dataset.line, false);
   }
 
   listen() {
@@ -668,7 +682,7 @@ class Lines {
     const bad = failing.has(number) ? `<div class="bad">failed</div>` : "";
     const label = labelOf(number);
     byId("detail").innerHTML = `<b>Line ${number}${label ? ` · ${escaped(label)}` : ""}</b>${bad}${fieldsOf(number, 99)}<code>${escaped(this.all[number - 1])}</code>`;
-    mark(number, above);
+    point(number, above);
   }
 }
 
@@ -718,7 +732,7 @@ function momentOf(number) {
   return null;
 }
 
-function mark(number, above) {
+function point(number, above) {
   const found = above ? momentOf(number) : null;
   if (found) {
     const [life, at] = found;
@@ -728,8 +742,7 @@ function mark(number, above) {
     life.draw();
     life.cursor(life.x(at));
   }
-  for (const one of document.querySelectorAll(".mark.picked")) one.classList.remove("picked");
-  for (const one of document.querySelectorAll(`.mark[data-line="${number}"]`)) one.classList.add("picked");
+  for (const life of lifes) life.frame();
 }
 
 // The tip

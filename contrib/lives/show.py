@@ -9,7 +9,7 @@ from .options import Form
 from .packets import Field, Packet
 
 FOREVER = 0xFFFFFFFF
-WORDS = {"xid", "cookie", "ethertype"}  # numbers that are shown by their digits
+WORDS = {"xid", "flags"}  # numbers that are shown by their digits
 # What is no news to whom the name of the message is shown.
 UNTOLD = set(
     """code ethertype cookie op htype hlen hops hardware protocol lengths version service id fragment message type""".split()
@@ -147,7 +147,7 @@ def field(one: Field, frame: bytes) -> str:
 def fields(packet: Packet) -> list[tuple[str, str]]:
     """Names and values of the fields that tell something, in their order; those that are 0 tell nothing."""
     shown = [(one.name, field(one, packet.frame)) for one in packet.fields if one.name not in UNTOLD]
-    return [(name, value) for name, value in shown if value not in ("0", "0.0.0.0") or name == "sender"]
+    return [(name, value) for name, value in shown if value not in ("0", "0000", "0.0.0.0") or name == "sender"]
 
 
 def address(text: str) -> ipaddress._BaseAddress:
