@@ -4,7 +4,8 @@
     tests/lives.py write FOLDER     writes the scripts of all transcripts into the folder, and other ones, with NAME.args
     tests/lives.py judge FOLDER     reads `== NAME` and a transcript for each, and judges them
 
-A script `again-NAME` is that of a transcript: its replay is to be that transcript, byte for byte. Of the examples of BLURRED
+A script `again-NAME` is that of a transcript: its replay is to be that transcript, byte for byte. Where it is the example's own
+script there is nothing to replay, since that is an example already. Of the examples of BLURRED
 `plain-NAME` is the script in public networks, where it has a draft, and `other-NAME` that one with other names and addresses: what
 comes of both is to have the same shape, that is the same lines but for what was to be another.
 """
@@ -27,7 +28,6 @@ BLURRED = set(
     """classless-routes foreign-rows known-by-duid lease lease-defended metrics resolver restart-old servers-not-heard shared-prefix-hooks
     stock v6-declined v6-restart what-is-asked""".split()
 )
-KINDS = ("again", "plain", "other")
 FRAME = re.compile(rb"([0-9a-f]{2}){8,}")
 FILE = re.compile(rb".*(\.lease[46](\.new)?)")
 ADDRESS = re.compile(rb"(\d+\.\d+\.\d+\.\d+|[0-9a-f]*:[0-9a-f:]*)(/\d+)?")
@@ -49,6 +49,12 @@ def lines_of(text):
     """The script of a transcript, and what can't be so."""
     made = script.script_of(transcript.read(text)[0])
     return made.lines, made.remarks
+
+
+def stored(name):
+    """The script of an example."""
+    with open(os.path.join(EXAMPLES, name + ".script"), "rb") as file:
+        return file.read()
 
 
 def joined(lines):
@@ -83,7 +89,8 @@ def scripts():
     for name, text in transcripts():
         lines, remarks = lines_of(text)
         assert not remarks, (name, remarks)
-        yield f"again-{name}", joined(lines)
+        if joined(lines) != stored(name):
+            yield f"again-{name}", joined(lines)
         if name in BLURRED:
             plain = public(name) or lines
             yield f"plain-{name}", joined(plain)
@@ -130,17 +137,17 @@ def judge(folder):
     """Judges the transcripts, and names those that are missing or wrong."""
     parts = ("\n" + sys.stdin.buffer.read().decode("latin-1")).split("\n== ")[1:]
     said = {name: text.encode("latin-1") for name, _, text in (part.partition("\n") for part in parts)}
-    good = True
-    for name, text in transcripts():
-        again, plain, other = (said.get(f"{kind}-{name}", b"").strip(b"\n").split(b"\n") for kind in KINDS)
-        pairs = [("again", again, text.strip(b"\n").split(b"\n"))]
-        if name in BLURRED:
-            pairs.append(("other", list(map(shape, other)), list(map(shape, plain))))
-        for kind, one, wanted in pairs:
-            place = first_unlike(one, wanted)
-            if place is not None or one == [b""]:
-                print(f"lives: {kind}-{name}: line {place or 1} of the replay is another one")
-                good = False
+    lines = {name: text.strip(b"\n").split(b"\n") for name, text in said.items()}
+    texts, good = dict(transcripts()), True
+    for kind, name in (label.split("-", 1) for label, _ in scripts()):
+        one = lines.get(f"{kind}-{name}", [])
+        wanted = texts[name].strip(b"\n").split(b"\n") if kind == "again" else lines.get(f"plain-{name}", [])
+        if kind != "again":
+            one, wanted = list(map(shape, one)), list(map(shape, wanted))
+        place = first_unlike(one, wanted) if one else 1
+        if place is not None:
+            print(f"lives: {kind}-{name}: line {place} of the replay is another one")
+            good = False
     return good
 
 

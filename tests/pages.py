@@ -71,7 +71,10 @@ def look_inside(path, name):
     found = FETCHES.search(page)
     expect(f"{name}: the page fetches {found and found[0]}", found is None)
     text = re.search('id="text">([^<]*)<', page)[1]
-    expect(f"{name}: its lines aren't those of the transcript", gzip.decompress(base64.b64decode(text)) == read(name + ".transcript"))
+    expect(
+        f"{name}: its lines aren't those of the transcript",
+        gzip.decompress(base64.b64decode(text)) == read(name + ".transcript"),
+    )
 
 
 def use(window, path):
@@ -79,7 +82,9 @@ def use(window, path):
     window.open(path)
     window.wait("document.documentElement.dataset.ready")
     expect("no marks are drawn", window.value("document.querySelectorAll('.mark').length") > 10)
-    expect("marks have no names", window.value("[...document.querySelectorAll('.life .mark')].every(one => one.ariaLabel)"))
+    expect(
+        "marks have no names", window.value("[...document.querySelectorAll('.life .mark')].every(one => one.ariaLabel)")
+    )
     size = window.value("current.to - current.from")
     window.key("+", 187, "+")
     expect("plus doesn't come nearer", window.value("current.to - current.from") < size)

@@ -7,7 +7,7 @@ from typing import Callable, Optional
 
 from . import packets, show
 from .options import Form
-from .others import EUI64, Others
+from .others import Others
 from .packets import Field, Packet, Sum
 
 HEX = re.compile(r"([0-9a-f]{2})+")
@@ -35,8 +35,21 @@ class Blur:
     """Gives the lines of one script their other values."""
 
     def __init__(self, seed: Optional[str]):
-        self.others = Others(seed)
+        self.others = others = Others(seed)
         self.skipping = False  # whether the configuration's block is skipped
+        self.forms: dict[Form, Callable[[bytes], bytes]] = {
+            Form.MAC: others.mac,
+            Form.IP4: lambda value: pieces(value, 4, others.ip),
+            Form.IP6: lambda value: pieces(value, 16, others.ip),
+            Form.PREFIX: self.prefix_value,
+            Form.ROUTES: self.routes,
+            Form.NAME: self.name_value,
+            Form.NAMES: self.names,
+            Form.CLIENT: others.client,
+            Form.DUID: others.duid,
+            Form.STATUS: lambda value: value[:2].ljust(len(value), b"\0"),
+            Form.HIDDEN: lambda value: bytes(len(value)),
+        }
 
     def line(self, line: bytes) -> bytes:
         if line.startswith(b"c:"):
@@ -91,8 +104,8 @@ class Blur:
         other = bytearray(len(frame))
         for one in packet.fields:
             put(other, one, self.value(one, one.value(frame)))
-        for one in reversed(packet.sums):
-            self.checksum(packet, other, one)
+        for covered in reversed(packet.sums):
+            self.checksum(packet, other, covered)
         return bytes(other)
 
     def checksum(self, packet: Packet, other: bytearray, one: packets.Checksum) -> None:
@@ -104,21 +117,9 @@ class Blur:
         other[one.place : one.place + 2] = right.to_bytes(2, "big")
 
     def value(self, one: Field, value: bytes) -> bytes:
-        others = self.others
-        forms: dict[Form, Callable[[bytes], bytes]] = {
-            Form.MAC: others.mac,
-            Form.IP4: lambda value: pieces(value, 4, others.ip),
-            Form.IP6: lambda value: pieces(value, 16, others.ip),
-            Form.PREFIX: self.prefix_value,
-            Form.ROUTES: self.routes,
-            Form.NAME: self.name_value,
-            Form.NAMES: self.names,
-            Form.CLIENT: others.client,
-            Form.DUID: others.duid,
-            Form.STATUS: lambda value: value[:2].ljust(len(value), b"\0"),
-            Form.HIDDEN: lambda value: bytes(len(value)),
-        }
-        return forms[one.form](value) if one.form in forms else value
+        """The other value of a field; what tells nothing of anybody stays."""
+        other = self.forms.get(one.form)
+        return other(value) if other else value
 
     def prefix_value(self, value: bytes) -> bytes:
         return value[:1] + (self.others.prefix(value[1:], value[0]) if value[0] <= 128 else bytes(16))

@@ -42,6 +42,11 @@ class Images:
         self.now[name] = content
         return known == content
 
+    def learn_aside(self, name: str) -> bool:
+        """Whether there may be this aside, whatever it holds."""
+        content = self.get(name)
+        return self.learn(name, content if isinstance(content, str) else EMPTY)
+
     def crash(self) -> Iterator["Images"]:
         """What may be left."""
         for pick, image in (("old", self.old), ("new", self.now)):
@@ -58,8 +63,7 @@ class Images:
 
     def list(self, *names: str) -> Optional[str]:
         there = [name for name in {*self.now, *self.first} if name.endswith(ASIDE) and self.get(name) is not None]
-        held = {name: self.get(name) for name in names}
-        kept = [self.learn(name, EMPTY if held[name] in (None, FIRST) else held[name]) for name in names]
+        kept = [self.learn_aside(name) for name in names]
         gone = [self.learn(name, None) for name in there if name not in names]
         if list(names) != sorted(set(names)):
             return "the asides aren't in their order"

@@ -51,19 +51,21 @@ class Tree:
         for bit in self.bits(number, length):
             if node.still:
                 break
-            if node.ways[bit] is None:
-                node.ways[bit] = Node()
+            below = node.ways[bit]
+            if below is None:
+                below = node.ways[bit] = Node()
                 node.turned = self.chance.getrandbits(1) if node.ways[1 - bit] is None else 0
-            node = node.ways[bit]
+            node = below
         return node
 
     def keep(self, number: int, length: int) -> None:
         """Has a net, and what is in it, stay as it is."""
         self.learn(number, length).still = True
-        node = self.root
+        node: Optional[Node] = self.root
         for bit in self.bits(number, length):
-            node.turned = 0
-            node = node.ways[bit]
+            if node is not None:
+                node.turned = 0
+                node = node.ways[bit]
 
     def bits(self, number: int, length: int) -> list[int]:
         return [number >> (self.width - 1 - place) & 1 for place in range(length)]
@@ -73,10 +75,11 @@ class Tree:
         node: Optional[Node] = self.root
         found = 0
         for bit in self.bits(number, length):
-            turned = node.turned if node is not None and not node.still else 0
-            found = found << 1 | (bit ^ turned)
-            if node is not None and not node.still:
-                node = node.ways[bit]
+            if node is None or node.still:
+                found = found << 1 | bit
+                continue
+            found = found << 1 | (bit ^ node.turned)
+            node = node.ways[bit]
         return found << (self.width - length)
 
 

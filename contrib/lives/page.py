@@ -11,6 +11,7 @@ from typing import Any, Iterable
 
 from .model import Group, Lane, Mark, Notes, Panel
 
+SCRIPTS = ["scale.js", "life.js", "page.js"]
 HERE = os.path.dirname(os.path.realpath(__file__))
 
 
@@ -103,7 +104,7 @@ def page(title: str, text: bytes, panels: list[Panel], notes: Notes) -> str:
     parts = {
         "%TITLE%": html.escape(title),
         "%STYLE%": part("page.css"),
-        "%SCRIPT%": part("page.js"),
+        "%SCRIPT%": "\n".join(map(part, SCRIPTS)),
         "%MODEL%": packed(json.dumps(model(panels), separators=(",", ":")).encode()),
         "%TEXT%": packed(text.decode("utf8", "replace").encode()),
         "%NOTES%": packed(beside.encode()),

@@ -127,8 +127,11 @@ class Writer:
         self.counts[call.device] += 1
         if not call.ok and not (cut and call.device == "store"):
             self.fails[call.device].append(self.counts[call.device])
-        follower = {"store": self.stores, "host": self.host}.get(call.device)
-        why = follower.follow(call) if follower else None
+        why = None
+        if call.device == "store":
+            why = self.stores.follow(call)
+        elif call.device == "host":
+            why = self.host.follow(call)
         if why:
             self.remark(call.line, why)
 

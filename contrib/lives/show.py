@@ -12,7 +12,7 @@ FOREVER = 0xFFFFFFFF
 WORDS = {"xid", "flags"}  # numbers that are shown by their digits
 # What is no news to whom the name of the message is shown.
 UNTOLD = set(
-    """code ethertype cookie op htype hlen hops hardware protocol lengths version service id fragment message type""".split()
+    "code ethertype cookie op htype hlen hops hardware protocol lengths version service id fragment message type".split()
 ) | {"total length", "payload length", "udp length", "time to live", "hop limit", "ip protocol", "next header"}
 
 
@@ -119,7 +119,7 @@ def client(value: bytes) -> str:
     return mac(value[1:]) if len(value) == 7 and value[0] == 1 else hidden(value)
 
 
-SHOWN = {
+SHOWN: dict[Form, Callable[[bytes], str]] = {
     Form.PLAIN: number,
     Form.SECONDS: seconds,
     Form.MASK: lambda value: pieces(value, 4, ip4),
@@ -133,7 +133,7 @@ SHOWN = {
     Form.NAME: text,
     Form.NAMES: names,
     Form.CLIENT: client,
-    Form.DUID: bytes.hex,
+    Form.DUID: lambda value: value.hex(),
     Form.STATUS: status,
     Form.HIDDEN: hidden,
 }

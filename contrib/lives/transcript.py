@@ -16,7 +16,8 @@ class NoTranscript(Exception):
         self.line = line
 
 
-class Interface(NamedTuple):
+@dataclass(frozen=True)
+class Interface:
     index: int
     name: str
     mac: str
