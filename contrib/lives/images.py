@@ -27,11 +27,13 @@ class Images:
     old: dict[str, Content] = field(default_factory=dict)
     unsynced: set[str] = field(default_factory=set)
     first: dict[str, Optional[str]] = field(default_factory=dict)
+    listed: bool = False  # whether all asides of the first life are known
     picks: tuple[str, ...] = ()
 
     def get(self, name: str) -> Content:
+        unknown = None if self.listed and name.endswith(ASIDE) else FIRST
         content = self.now.get(name, FIRST)
-        return self.first.get(name, FIRST) if content is FIRST else content
+        return self.first.get(name, unknown) if content is FIRST else content
 
     def learn(self, name: str, content: Optional[str]) -> bool:
         """Whether the file may hold this; where nothing was known of it, it does so from the first."""
@@ -50,10 +52,11 @@ class Images:
     def crash(self) -> Iterator["Images"]:
         """What may be left."""
         for pick, image in (("old", self.old), ("new", self.now)):
-            yield Images(dict(image), dict(image), set(), dict(self.first), (*self.picks, pick))
+            yield Images(dict(image), dict(image), set(), dict(self.first), self.listed, (*self.picks, pick))
 
     def same(self, other: "Images") -> bool:
-        return (self.now, self.old, self.unsynced, self.first) == (other.now, other.old, other.unsynced, other.first)
+        mine = (self.now, self.old, self.unsynced, self.first, self.listed)
+        return mine == (other.now, other.old, other.unsynced, other.first, other.listed)
 
     def follow(self, call: Call) -> Optional[str]:
         """Does what a call did, and says what of it can't be."""
@@ -65,6 +68,7 @@ class Images:
         there = [name for name in {*self.now, *self.first} if name.endswith(ASIDE) and self.get(name) is not None]
         kept = [self.learn_aside(name) for name in names]
         gone = [self.learn(name, None) for name in there if name not in names]
+        self.listed = True
         if list(names) != sorted(set(names)):
             return "the asides aren't in their order"
         fits = all(kept) and all(gone)

@@ -6,6 +6,7 @@ follows its last sign is unknown until the next one.
 
 from __future__ import annotations
 
+from bisect import bisect_right
 from dataclasses import dataclass, field
 from typing import NamedTuple, Optional
 
@@ -69,6 +70,7 @@ class Machine:
         self.bands: list[Band] = []
         self.state, self.since, self.line = first, at, line
         self.sign = at  # the moment of the last line that shows the state
+        self.turns: list[int] = []  # the moments of all turns
 
     def become(self, state: str, at: int, line: int) -> None:
         self.sign = at
@@ -78,8 +80,15 @@ class Machine:
         self.state, self.since, self.line = state, at, line
 
     def lose(self) -> None:
-        """From the last sign on the state isn't known."""
-        self.become(UNKNOWN, self.sign, self.line)
+        """From the first turn on that came after the last sign the state isn't known."""
+        behind = bisect_right(self.turns, self.sign)
+        at = self.turns[behind] if behind < len(self.turns) else self.sign
+        self.become(UNKNOWN, at, self.line)
+
+    def regain(self) -> None:
+        """What wasn't known was the state before: a later line shows that it lasted."""
+        if self.state == UNKNOWN and self.bands:
+            self.state, self.since, _, self.line = self.bands.pop()
 
     def close(self, at: Optional[int]) -> None:
         if at is None or at > self.since:
@@ -146,12 +155,15 @@ class Dhcp4(Client):
         if seen.heard is not None and seen.heard.name == "ACK":
             self.acks[seen.heard.get("yiaddr")] = seen.at, seen.line
         if seen.heard is not None and seen.heard.name == "NAK" and self.state in (REQUESTING, REBOOTING):
-            self.sign = seen.at
-            self.lose()
+            self.become(UNKNOWN, seen.at, seen.line)
         super().follow(seen)
         for address, line in seen.added:
             if address in self.acks and self.state in (REQUESTING, REBOOTING, CHECKING):
                 self.become(BOUND, seen.at, line)
+
+    def take(self, seen: Seen, line: int) -> None:
+        self.regain()
+        super().take(seen, line)
 
     def follow_sent(self, sent: Sent, at: int) -> None:
         request = packets.kind_of_request(sent.packet)
@@ -168,6 +180,8 @@ class Dhcp4(Client):
     def follow_probe(self, sent: Sent, at: int) -> None:
         """A probe of a leased address: it is checked since its ACK."""
         target = sent.packet.get("target")
+        if self.state == UNKNOWN and target in self.acks:
+            self.regain()
         if self.state in (REQUESTING, REBOOTING) and target in self.acks:
             self.become(CHECKING, *self.acks[target])
         if self.state == CHECKING:

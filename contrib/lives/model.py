@@ -64,6 +64,7 @@ class Panel:
 
     title: str
     notes: list[str]
+    line: int  # of its opening
     moments: list[int]  # of the turns in which something happens
     end: int
     stops: list[Mark]
@@ -116,6 +117,9 @@ class InterfaceView:
         self.four = Dhcp4(self.up, at, line) if f"{interface.name}.lease4" in reads else None
         self.six = Dhcp6(self.up, at, line) if f"{interface.name}.lease6" in reads else None
         self.local = LinkLocal(self.up, at, line)
+        for machine in (self.four, self.six, self.local):
+            if machine is not None:
+                machine.turns = follower.moments
         self.marks: list[Mark] = []
         self.bars: list[Bar] = []
         self.held: dict[str, Bar] = {}  # those that last, by their net
@@ -215,6 +219,7 @@ class LifeView:
         self.job: Optional[Bar] = None  # the hook that runs
         self.stops: list[Mark] = []
         self.failures: list[int] = []
+        self.moments = [turn.at for turn in life.turns]
         opening = life.turns[0]
         self.views = {str(one.index): InterfaceView(one, opening, self) for one in run.interfaces}
         self.names = {one.name: str(one.index) for one in run.interfaces}
@@ -238,7 +243,8 @@ class LifeView:
         if self.life.end is None:
             notes.append("told without its end")
         moments = sorted({turn.at for turn in turns if turn.calls or turn.event != ["quiet"]})
-        return Panel(f"Life {self.life.number}", notes, moments, turns[-1].at, self.stops, groups, self.failures)
+        title = f"Life {self.life.number}"
+        return Panel(title, notes, turns[0].line, moments, turns[-1].at, self.stops, groups, self.failures)
 
     def turn(self, turn: Turn) -> None:
         for view in self.active(turn):

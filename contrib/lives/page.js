@@ -124,7 +124,7 @@ function momentOf(number) {
     const found = /^(?:turn|start) (\d+) /.exec(lines.all[turn - 1]);
     if (!found) continue;
     const at = +found[1];
-    const life = lives.findLast((one) => one.firstLine <= turn);
+    const life = lives.findLast((one) => one.data.line <= turn);
     return life ? [life, at - life.data.begin] : null;
   }
   return null;
@@ -244,26 +244,28 @@ function print() {
   lines.room.innerHTML = shown + (rest > 0 ? tag("p", { class: "word" }, `and ${many(rest, "more line")}`) : "");
 }
 
-function open(data, text) {
+// Draws the lives; their lines come after.
+function open(data) {
   byId("word").remove();
-  lines = new Lines(text);
-  let turn = 0;
   lives = data.panels.map((panel, number) => new Life(panel, data.words, number));
-  for (const life of lives) {
-    while (turn < lines.all.length && !lines.all[turn].startsWith("start ")) turn++;
-    life.firstLine = ++turn;
-    main.append(life.element);
-  }
+  for (const life of lives) main.append(life.element);
   current = lives[0];
   failed = data.panels.flatMap((panel) => panel.failures).sort((one, other) => one - other);
   failing = new Set(failed);
+  legend();
+  for (const life of lives) life.draw();
+}
+
+function openLines(text) {
+  lines = new Lines(text);
   const count = lives.length === 1 ? "1 life" : `${lives.length} lives`;
   const bad = failed.length ? many(failed.length, "failure") : "no failures";
   byId("facts").textContent = `${count} · ${many(lines.all.length, "line")} · ${bad}`;
   byId("failure").disabled = !failed.length;
-  legend();
-  for (const life of lives) life.draw();
   lines.draw();
+}
+
+function listen() {
   const sizes = new ResizeObserver(() => { lives.forEach(later); lines.draw(); });
   sizes.observe(main);
   sizes.observe(lines.view);
@@ -278,23 +280,28 @@ function open(data, text) {
   byId("failure").onclick = nextFailure;
 }
 
+// The moments at which the page is drawn stand at its root, for who measures it.
 async function start() {
   if (!("DecompressionStream" in window)) {
     byId("word").textContent = "This browser can't unpack the page: it has no DecompressionStream.";
     return;
   }
-  const [model, text] = await Promise.all([unpacked("model"), unpacked("text")]);
-  open(JSON.parse(model), text);
-  requestAnimationFrame(() => requestAnimationFrame(() => {
+  const text = unpacked("text");
+  open(JSON.parse(await unpacked("model")));
+  openLines(await text);
+  listen();
+  requestAnimationFrame(() => requestAnimationFrame(async () => {
     document.documentElement.dataset.opened = Math.round(performance.now() - begun);
-    document.documentElement.dataset.since = Math.round(performance.now());
-    unpacked("notes").then((found) => { packedNotes = found; notes = null; lines.draw(); ready(); });
+    packedNotes = await unpacked("notes");
+    ready();
   }));
 }
 
 // A line or a moment that the address names is shown at once: `#line=34`.
 function ready() {
   const line = /line=(\d+)/.exec(location.hash);
+  notes = null;
+  lines.draw();
   if (line) lines.pick(+line[1], true);
   document.documentElement.dataset.ready = "yes";
 }

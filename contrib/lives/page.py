@@ -74,6 +74,7 @@ def panel(one: Panel, words: Words) -> dict[str, Any]:
     return {
         "title": one.title,
         "notes": one.notes,
+        "line": one.line,
         "begin": begin,
         "moments": steps(moment - begin for moment in one.moments),
         "end": one.end - begin,
