@@ -111,12 +111,9 @@ class Stores:
     def follow(self, call: Call) -> Optional[str]:
         """Follows a call; where it can't be, says so and goes on with what it told."""
         told = [(images.follow(call), images) for images in self.images]
-        self.images = [images for why, images in told if why is None]
-        if self.images:
-            return None
-        why, images = told[0]
-        self.images = [images]
-        return why
+        kept = [images for why, images in told if why is None]
+        self.images = kept or self.images
+        return None if kept else told[0][0]
 
     def crash(self) -> None:
         kept: list[Images] = []
