@@ -93,11 +93,12 @@ class Life {
     const clip = `clip${this.number}`, area = tag("rect", { x: LEFT, y: 0, width: this.room + 10, height: this.height });
     const out = [tag("clipPath", { id: clip }, area), `<g clip-path="url(#${clip})">`];
     this.drawFolds(out);
-    this.drawAxis(out);
+    const labels = this.drawAxis(out);
     for (const lane of this.lanes) if (lane.y + lane.height >= top && lane.y <= bottom) this.drawLane(lane, out);
     this.drawStops(out);
     out.push(`<line class="cursor" y1="20" y2="${this.height}" x1="-9" x2="-9"/></g>`);
     this.drawTitles(out, top, bottom);
+    this.drawLabels(labels, out);
     this.svg.innerHTML = out.join("");
     if (held) this.svg.querySelector(`[data-key="${held}"]`)?.focus({ preventScroll: true });
     this.frame();
@@ -130,7 +131,7 @@ class Life {
 
   // Labels stand where quiet ends, and at round moments between.
   drawAxis(out) {
-    const taken = [];
+    const taken = [], labels = [];
     const put = (at, step) => {
       const x = this.x(at);
       if (x < LEFT - 1 || x > LEFT + this.room) return;
@@ -138,7 +139,7 @@ class Life {
       if (taken.some(([from, to]) => x + half > from && x - half < to)) return;
       taken.push([x - half, x + half]);
       out.push(`<line class="grid" x1="${x}" x2="${x}" y1="20" y2="${this.height}"/>`);
-      out.push(`<text class="axis" text-anchor="middle" x="${x}" y="15">${text}</text>`);
+      labels.push([x, text]);
     };
     const step = nice((90 * (this.to - this.from)) / this.room);
     put(0, 1000);
@@ -156,6 +157,15 @@ class Life {
       let count = 0;
       for (let at = Math.ceil(low / step) * step; at <= high && count < 60; at += step, count++) put(at, step);
     }
+    return labels;
+  }
+
+  // The labels of the axis stay in sight where the life is scrolled.
+  drawLabels(labels, out) {
+    const own = this.svg.getBoundingClientRect().top, view = main.getBoundingClientRect().top;
+    const y = printing ? 0 : Math.min(Math.max(view - own, 0), this.height - 40);
+    if (y > 0) out.push(tag("rect", { class: "strip", x: 0, y: y - 1, width: this.width, height: 21 }));
+    for (const [x, text] of labels) out.push(tag("text", { class: "axis", "text-anchor": "middle", x, y: y + 15 }, text));
   }
 
   drawStops(out) {
@@ -356,6 +366,23 @@ class Life {
   centre(at) {
     const place = this.scale.toPlace(at), size = this.to - this.from;
     if (place < this.from + size * 0.05 || place > this.to - size * 0.05) this.show(place - size / 2, place + size / 2);
+  }
+
+  // The lane and the place of the mark of a line, where it has one.
+  find(number) {
+    for (const lane of this.lanes) {
+      const place = above(lane.line, number) - 1;
+      if (place >= 0 && lane.line[place] === number) return [lane, place];
+    }
+    return [];
+  }
+
+  // Scrolls to the lane of a line's mark, or to the life.
+  bring(number) {
+    const [lane] = this.find(number);
+    if (!lane) return this.element.scrollIntoView({ block: "nearest" });
+    const own = this.svg.getBoundingClientRect().top + lane.y, view = main.getBoundingClientRect();
+    if (own < view.top + 40 || own + lane.height > view.bottom) main.scrollTop += own - view.top - view.height / 3;
   }
 
   // What stands behind a mark's key.

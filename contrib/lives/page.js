@@ -20,11 +20,12 @@ class Lines {
   }
 
   key(event) {
-    const step = { ArrowDown: 1, ArrowUp: -1, PageDown: 20, PageUp: -20 }[event.key];
+    const all = this.all.length;
+    const step = { ArrowDown: 1, ArrowUp: -1, PageDown: 20, PageUp: -20, Home: -all, End: all }[event.key];
     if (!step) return;
     event.preventDefault();
     event.stopPropagation();
-    this.pick(Math.min(Math.max(this.picked + step, 1), this.all.length), true);
+    this.pick(Math.min(Math.max(this.picked + step, 1), all), true);
   }
 
   // The first line that is seen, also where all are more than a browser scrolls.
@@ -110,12 +111,9 @@ let lives = [], lines = null, current = null, failing = new Set(), failed = [], 
 
 // The message of a line that has a frame.
 function labelOf(number) {
-  for (const life of lives) for (const lane of life.lanes) {
-    if (lane.name !== "frames") continue;
-    const place = above(lane.line, number) - 1;
-    if (place >= 0 && lane.line[place] === number) return life.words[lane.marks.label[place]];
-  }
-  return "";
+  const life = lives.findLast((one) => one.data.line <= number);
+  const [lane, place] = life ? life.find(number) : [];
+  return lane && lane.name === "frames" ? life.words[lane.marks.label[place]] : "";
 }
 
 // Where a line is drawn: its life, and the moment of its turn.
@@ -136,7 +134,7 @@ function point(number, above) {
     const [life, at] = found;
     current = life;
     life.centre(at);
-    life.element.scrollIntoView({ block: "nearest" });
+    life.bring(number);
     life.draw();
     life.cursor(life.x(at));
   }
