@@ -407,7 +407,7 @@ class Life {
     const way = shape.startsWith("out") ? "sent" : shape.startsWith("in") ? "came in" : "";
     const bad = lane.failed.has(place) ? ` <span class="bad">failed</span>` : "";
     const head = `<b>${escaped(this.words[lane.marks.label[place]])} ${way}${bad}</b>`;
-    return `${head}${this.when(lane.at[place])} <span class="when">· line ${line}</span>${fieldsOf(line, 14)}`;
+    return `${head}${this.when(lane.at[place])} <span class="when">· line ${line}</span>${fieldsOf(line, 18)}`;
   }
 
   aboutSpan(lane, span) {
@@ -418,7 +418,7 @@ class Life {
     const note = told ? `<div>${escaped(told).replace(/\n/g, "<br>")}</div>` : "";
     const head = `<b>${escaped(lane.title)}: ${escaped(this.words[label])}${bad}</b>`;
     const when = `${this.when(from)} <span class="when">${last} · line ${line}</span>`;
-    return head + when + note + (lane.name === "hooks" ? fieldsOf(line, 14) : "");
+    return head + when + note + (lane.name === "hooks" ? fieldsOf(line, 18) : "");
   }
 
   aboutCrowd(lane, range) {

@@ -11,9 +11,11 @@ from .packets import Field, Packet
 FOREVER = 0xFFFFFFFF
 WORDS = {"xid", "flags"}  # numbers that are shown by their digits
 # What is no news to whom the name of the message is shown.
-UNTOLD = set(
-    "code ethertype cookie op htype hlen hops hardware protocol lengths version service id fragment message type".split()
-) | {"total length", "payload length", "udp length", "time to live", "hop limit", "ip protocol", "next header"}
+UNTOLD = {
+    *"code ethertype cookie op htype hlen hops hardware protocol lengths version service id fragment message type".split(),
+    *("total length", "payload length", "udp length", "time to live", "hop limit", "ip protocol", "next header"),
+    *("source port", "destination port"),
+}
 
 
 def mac(value: bytes) -> str:
