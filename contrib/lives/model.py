@@ -232,6 +232,8 @@ class LifeView:
     def follow(self) -> Panel:
         for turn in self.life.turns:
             self.turn(turn)
+        for view in self.views.values():
+            self.found(view)
         turns = self.life.turns
         lanes = [Lane("host", "marks", "host calls", marks=self.host)]
         lanes.append(Lane("files", "marks", "files", marks=self.files))
@@ -314,9 +316,19 @@ class LifeView:
         """What an address rests on, as far as lines tell it."""
         written = {call.words[0]: call.words[1] for call in turn.calls if call.verb == "write"}
         bar.kind, bar.note = self.origin(bar.label, view.interface, {**self.leases, **written})
-        why = self.bases.get((self.life.number, f"addr {view.interface.index} {bar.label}"))
-        if why:
-            bar.note += f"\naudit why: {why}"
+
+    def found(self, view: InterfaceView) -> None:
+        """Puts at the addresses that last to the end what was found of them."""
+        for net, bar in view.held.items():
+            basis = self.bases.get((self.life.number, f"addr {view.interface.index} {net}"))
+            if basis:
+                bar.note += "\nfound: " + " ".join(self.with_line(word) for word in basis.split(" "))
+
+    def with_line(self, word: str) -> str:
+        """The number of a turn with its line; another word alone."""
+        if not word.isdigit() or int(word) >= len(self.life.turns):
+            return word
+        return f"turn {word} (line {self.life.turns[int(word)].line})"
 
     def origin(self, net: str, interface: Interface, leases: dict[str, str]) -> tuple[str, str]:
         plain = net.partition("/")[0]

@@ -184,14 +184,19 @@ function fold() {
 }
 
 const KEYS = {
+  0: () => {
+    if (!current) return;
+    current.whole();
+    later(current);
+  },
   "+": () => current.zoom(0.6), "=": () => current.zoom(0.6), "-": () => current.zoom(1.6), ArrowLeft: () => current.move(-0.15),
-  ArrowRight: () => current.move(0.15), 0: () => { current.whole(); later(current); }, f: fold, n: nextFailure,
+  ArrowRight: () => current.move(0.15), f: fold, n: nextFailure,
   Home: () => current.show(0, current.to - current.from),
   End: () => current.show(current.scale.width - (current.to - current.from), current.scale.width),
 };
 
 function key(event) {
-  if (event.ctrlKey || event.metaKey || event.altKey) return;
+  if (!current || event.ctrlKey || event.metaKey || event.altKey) return;
   const held = document.activeElement;
   if (event.key === "Escape") return hideTip();
   if (event.key === "Enter" && held && held.classList.contains("mark")) {
@@ -199,7 +204,7 @@ function key(event) {
     life.enter(held);
     return event.preventDefault();
   }
-  if (KEYS[event.key] && current && !(held && held.tagName === "SUMMARY")) {
+  if (KEYS[event.key] && !(held && held.tagName === "SUMMARY")) {
     KEYS[event.key]();
     event.preventDefault();
   }
@@ -244,7 +249,7 @@ function print() {
 
 // Draws the lives; their lines come after.
 function open(data) {
-  byId("word").remove();
+  byId("word").textContent = data.panels.length ? "" : "No life is told.";
   lives = data.panels.map((panel, number) => new Life(panel, data.words, number));
   for (const life of lives) main.append(life.element);
   current = lives[0];
@@ -272,9 +277,9 @@ function listen() {
   addEventListener("beforeprint", print);
   addEventListener("afterprint", () => { printing = false; lives.forEach((life) => life.draw()); lines.draw(); });
   byId("fold").onclick = fold;
-  byId("nearer").onclick = () => current.zoom(0.6);
-  byId("farther").onclick = () => current.zoom(1.6);
-  byId("whole").onclick = () => { current.whole(); later(current); };
+  byId("nearer").onclick = () => current?.zoom(0.6);
+  byId("farther").onclick = () => current?.zoom(1.6);
+  byId("whole").onclick = () => KEYS[0]();
   byId("failure").onclick = nextFailure;
 }
 

@@ -3,13 +3,27 @@
 from __future__ import annotations
 
 import ipaddress
+import re
+from functools import lru_cache
 
+NUMBER = "(?:0|[1-9][0-9]*)"
+FORM = rf"(?:addr {NUMBER} \S+/{NUMBER}|route {NUMBER} \S+/{NUMBER}(?: via \S+| reject)? metric {NUMBER})"
+ROW = re.compile(FORM)
 KINDS = {"addr": 0, "link": 1, "reject": 2, "via": 3}
 
 
 def way_of(words: list[str]) -> str:
     """`link`, `reject` or `via`, of the words of a route."""
     return "link" if words[3] == "metric" else words[3]
+
+
+@lru_cache(maxsize=4096)
+def is_row(row: str) -> bool:
+    """Whether a text is a row, with addresses."""
+    try:
+        return ROW.fullmatch(row) is not None and bool(order(row))
+    except ValueError:
+        return False
 
 
 def order(row: str) -> tuple[int, ...]:

@@ -12,8 +12,6 @@ from .transcript import Call, Life, Run, Turn, each
 INPUT_LIMIT = 16_777_216
 DEVICES = ("link", "store", "host", "hooks")
 LAST_ANSWER = "ended 0"  # what polls say when a script has no further answer
-# How many words an event of an interface has behind its name.
-EVENTS = {"frame": 2, "carrier": 2, "dup": 2, "release": 1, "rebind": 1}
 
 
 @dataclass
@@ -100,13 +98,10 @@ class Writer:
         at = f"{turn.at} {turn.salt}"
         if turn.event[0] == "start":
             return f"start {at} up {self.carriers(turn)}"
-        name, *words = turn.event
-        if len(words) != EVENTS.get(name, 0):
-            self.remark(turn.line, "there is no such event")
-        elif words and words[0] not in self.known:
-            self.remark(turn.line, f"there is no interface {words[0]}; the script says quiet in its place")
-        else:
+        index = turn.event[1] if len(turn.event) > 1 else None
+        if index is None or index in self.known:
             return f"turn {at} {' '.join(turn.event)}"
+        self.remark(turn.line, f"there is no interface {index}; the script says quiet in its place")
         return f"turn {at} quiet"
 
     def carriers(self, turn: Turn) -> str:

@@ -2,8 +2,11 @@
 
 from __future__ import annotations
 
+import re
 from dataclasses import dataclass, field
 from typing import Callable, Iterator, NamedTuple, Optional
+
+from .rows import FORM, NUMBER, is_row
 
 HEAD = b"dhcpcd-transcript 1"
 
@@ -66,7 +69,22 @@ class Run:
     lives: list[Life] = field(default_factory=list)
 
 
-Lines = Iterator[tuple[int, bytes]]
+HEX = "(?:-|(?:[0-9a-f]{2})+)"
+OUT = "(?:ok|failed)"
+FILE = "[A-Za-z0-9._-]+"
+EVENTS = rf"""quiet|stop|(?:release|rebind)\ {NUMBER}|carrier\ {NUMBER}\ (?:up|down)|dup\ {NUMBER}\ \S+
+    |frame\ {NUMBER}\ {HEX}"""
+TURN_LINE = re.compile(rf"turn\ {NUMBER}\ {NUMBER}\ (?:{EVENTS})|start\ {NUMBER}\ {NUMBER}\ up\ (?:-|[0-9,]+)", re.X)
+CALL_LINE = re.compile(
+    rf"""send\ {NUMBER}\ {HEX}\ {OUT}
+    |host\ list\ (?:ok\ {NUMBER}|failed)|host\ (?:add|del)\ {FORM.replace(" ", chr(92) + " ")}\ {OUT}
+    |store\ (?:list\ (?:ok(?:\ {FILE})*|failed)|read\ {FILE}\ (?:{HEX}|none|failed)|write\ {FILE}\ {HEX}\ {OUT})
+    |store\ (?:(?:sync|rename|remove)\ {FILE}|settle)\ {OUT}
+    |hook\ (?:poll\ {NUMBER}\ (?:run|failed|ended\ {NUMBER})|abandon\ {NUMBER})
+    |hook\ (?:drop\ {NUMBER}\ \w+\ \S+|start\ {NUMBER}\ \w+\ \S+\ {OUT})""",
+    re.X,
+)
+NO_FORM = "it has no form of such a line"
 DEVICES = {"send": "link", "host": "host", "store": "store", "hook": "hooks"}
 # By device and verb how many words come before the outcome, None where there is no outcome.
 OUTCOMES = {"write": 2, "sync": 1, "rename": 1, "remove": 1, "settle": 0, "start": 3}
@@ -76,9 +94,8 @@ class Reader:
     """Reads the lines of one text in their order."""
 
     def __init__(self, text: bytes):
-        self.lines = text.split(b"\n")
-        if self.lines[-1] == b"":
-            self.lines.pop()
+        # what stands behind the last line feed was cut off
+        self.lines = text.split(b"\n")[:-1]
         self.place = 0
         self.runs: list[Run] = []
 
@@ -88,13 +105,13 @@ class Reader:
     def refuse(self, why: str) -> NoTranscript:
         return NoTranscript(self.place + 1, why)
 
-    def take(self) -> tuple[int, list[str]]:
-        """The number and the words of the next line."""
+    def take(self, form: re.Pattern[str] | None = None) -> tuple[int, list[str]]:
+        """The number and the words of the next line, which is of that form."""
         self.place += 1
-        try:
-            return self.place, self.lines[self.place - 1].decode("ascii").split(" ")
-        except UnicodeDecodeError:
-            raise NoTranscript(self.place, "it isn't ASCII") from None
+        text = self.lines[self.place - 1].decode("latin-1")
+        if form is not None and not form.fullmatch(text):
+            raise NoTranscript(self.place, NO_FORM)
+        return self.place, text.split(" ")
 
     def take_all(self, begin: bytes) -> list[str]:
         """What stands behind `begin` in the lines that begin so."""
@@ -103,6 +120,14 @@ class Reader:
             found.append(self.peek()[len(begin) :].decode("latin-1"))
             self.place += 1
         return found
+
+    def take_rows(self) -> list[str]:
+        first = self.place
+        rows = self.take_all(b"row ")
+        for number, row in enumerate(rows, first + 1):
+            if not is_row(row):
+                raise NoTranscript(number, NO_FORM)
+        return rows
 
     def read(self) -> list[Run]:
         while self.place < len(self.lines):
@@ -131,10 +156,10 @@ class Reader:
         _, words = self.take()
         life = Life(int(words[1]), [])
         if self.peek().startswith(b"start "):
-            line, words = self.take()
+            line, words = self.take(TURN_LINE)
             life.turns.append(self.read_turn(Turn(line, int(words[1]), int(words[2]), ["start", words[4]])))
-        while self.peek().startswith(b"turn "):
-            line, words = self.take()
+        while life.turns and self.peek().startswith(b"turn "):
+            line, words = self.take(TURN_LINE)
             life.turns.append(self.read_turn(Turn(line, int(words[1]), int(words[2]), words[3:])))
         while self.peek().startswith(b"hold "):
             line, words = self.take()
@@ -153,17 +178,19 @@ class Reader:
         return turn
 
     def read_call(self) -> Call:
-        line, words = self.take()
+        line, words = self.take(CALL_LINE)
         device = DEVICES[words[0]]
         if device == "link":
             return Call(line, device, "send", words[1:-1], words[-1] == "ok", [])
         verb, rest = words[1], words[2:]
         if verb == "list":
-            rows = self.take_all(b"row ") if device == "host" else []
+            rows = self.take_rows() if device == "host" else []
             return Call(line, device, verb, rest[1:], rest[0] == "ok", rows)
         if verb == "read":
             return Call(line, device, verb, rest, rest[1] != "failed", [])
         if verb in ("add", "del"):
+            if not is_row(" ".join(rest[:-1])):
+                raise NoTranscript(line, NO_FORM)
             return Call(line, device, verb, rest[:-1], rest[-1] == "ok", [])
         more = self.take_all(b"var ") if verb == "start" else []
         if verb in OUTCOMES:
@@ -177,7 +204,7 @@ def read(text: bytes) -> list[Run]:
     try:
         runs = reader.read()
     except (IndexError, ValueError) as error:
-        raise NoTranscript(reader.place, "it has no form of such a line") from error
+        raise NoTranscript(reader.place, NO_FORM) from error
     if not runs:
         raise NoTranscript(1, "there is no transcript")
     return runs
