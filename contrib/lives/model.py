@@ -335,7 +335,7 @@ class LifeView:
         if any(f"address={plain}".encode() in text for text in self.run.configuration):
             return "static", "a static line of the configuration"
         lease = lease_lines(leases.get(interface.name + ".lease4", ""))
-        if lease.get("address") == net:
+        if lease.get("address") == net and {"server", "lease", "first"} <= lease.keys():
             return "lease", f"DHCPv4 lease of {lease['server']}, {lease['lease']} s from {lease['first']} on"
         if plain.startswith("169.254."):
             return "local", "a link-local address"

@@ -72,6 +72,7 @@ class Run:
 HEX = "(?:-|(?:[0-9a-f]{2})+)"
 OUT = "(?:ok|failed)"
 FILE = "[A-Za-z0-9._-]+"
+INTERFACE_LINE = re.compile(rf"if {NUMBER} {FILE} (?:[0-9a-f]{{2}}:){{5}}[0-9a-f]{{2}}")
 EVENTS = rf"""quiet|stop|(?:release|rebind)\ {NUMBER}|carrier\ {NUMBER}\ (?:up|down)|dup\ {NUMBER}\ \S+
     |frame\ {NUMBER}\ {HEX}"""
 TURN_LINE = re.compile(rf"turn\ {NUMBER}\ {NUMBER}\ (?:{EVENTS})|start\ {NUMBER}\ {NUMBER}\ up\ (?:-|[0-9,]+)", re.X)
@@ -146,9 +147,9 @@ class Reader:
         for text in self.take_all(b"notice "):
             number, _, word = text.partition(" ")
             run.notices.append((int(number), word))
-        for text in self.take_all(b"if "):
-            index, name, mac = text.split(" ")
-            run.interfaces.append(Interface(int(index), name, mac))
+        while self.peek().startswith(b"if "):
+            _, words = self.take(INTERFACE_LINE)
+            run.interfaces.append(Interface(int(words[1]), *words[2:]))
         while self.peek().startswith(b"life "):
             run.lives.append(self.read_life())
 
