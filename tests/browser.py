@@ -99,6 +99,12 @@ class Browser:
         self.mouse("mousePressed", x, y, button="left", clickCount=1)
         self.mouse("mouseReleased", x, y, button="left", clickCount=1)
 
+    def drag(self, x, y, distance):
+        self.mouse("mousePressed", x, y, button="left", buttons=1, clickCount=1)
+        for share in (0.3, 0.6, 1):
+            self.mouse("mouseMoved", x + share * distance, y, button="left", buttons=1)
+        self.mouse("mouseReleased", x + distance, y, button="left", clickCount=1)
+
     def picture(self, path):
         with open(path, "wb") as file:
             file.write(base64.b64decode(self.ask("Page.captureScreenshot", format="png")["data"]))

@@ -36,6 +36,11 @@ STATES = {
     ("v6-lease", 1, "eth0", "dhcp6"): "begins soliciting requesting bound renewing bound off",
 }  # fmt: skip
 FETCHES = re.compile(r"(?:src|href)=|url\((?!#)|https?://|@import|\bfetch\(|XMLHttpRequest")
+# Where the first band of a life is, and its line.
+PLACE = """(() => {
+    const band = document.querySelector('.life [data-span]'), box = band.getBoundingClientRect();
+    return [box.x + box.width / 2, box.y + box.height / 2, band.dataset.line];
+})()"""
 faults = []
 
 
@@ -102,6 +107,13 @@ def use(window, path):
     expect("Enter leads to no line", window.value("document.querySelector('.line.picked').dataset.number") == line)
     window.key("n", 78, "n")
     expect("n leads to no failure", window.value("document.querySelector('.line.picked.bad') !== null"))
+    x, y, line = window.value(PLACE)
+    window.click(x, y)
+    expect("a click leads to no line", window.value("document.querySelector('.line.picked').dataset.number") == line)
+    window.key("+", 187, "+")
+    begin = window.value("current.from")
+    window.drag(x, y, -120)
+    expect("the mouse doesn't move it", window.value("current.from") > begin)
     window.key("f", 70, "f")
     expect("f doesn't unfold", window.value("document.getElementById('fold').ariaPressed") == "false")
 

@@ -433,20 +433,30 @@ class Life {
     return head + this.when(lane.at[from]) + listed(most.map(([name, count]) => [String(count), name]));
   }
 
+  // Leads to the line of a mark, and comes nearer to a crowd that can be told apart.
   enter(element) {
-    if (element.dataset.crowd) {
-      const [row, range] = element.dataset.crowd.split(".");
-      const [from, to] = range.split("-").map((place) => this.scale.toPlace(this.lanes[row].at[place]));
-      if (to > from) {
-        const room = Math.max((to - from) * 0.3, 2);
-        hideTip();
-        return this.show(from - room, to + room);
-      }
+    const { crowd, line } = element.dataset;
+    if (!crowd || !this.part(crowd)) lines?.pick(crowd ? this.lineOf(crowd) : +line, false);
+  }
+
+  part(crowd) {
+    const [row, range] = crowd.split(".");
+    const [from, to] = range.split("-").map((place) => this.scale.toPlace(this.lanes[row].at[place]));
+    if (to > from) {
+      const room = Math.max((to - from) * 0.3, 2);
+      hideTip();
+      this.show(from - room, to + room);
+      return true;
     }
-    const [row, range] = (element.dataset.crowd || "").split(".");
-    const bad = range && range.split("-").map(Number);
-    const first = bad && this.lanes[row].line.find((_, place) => place >= bad[0] && place <= bad[1] && this.lanes[row].failed.has(place));
-    lines.pick(first || +element.dataset.line, false);
+    return false;
+  }
+
+  // The line of the first mark of a crowd that failed, or of its first one.
+  lineOf(crowd) {
+    const [row, range] = crowd.split(".");
+    const { line, failed } = this.lanes[row], [from, to] = range.split("-").map(Number);
+    for (let place = from; place <= to; place++) if (failed.has(place)) return line[place];
+    return line[from];
   }
 
   listen() {

@@ -111,6 +111,7 @@ class InterfaceView:
         self.interface, self.follower = interface, follower
         told_up = opening.event[1].split(",")
         self.up = str(interface.index) in told_up
+        self.stopped = False
         at, line = opening.at, opening.line
         reads = {call.words[0] for call in opening.calls if call.verb == "read"}
         self.carrier = machines.carrier(self.up, at, line)
@@ -126,8 +127,6 @@ class InterfaceView:
 
     def follow(self, turn: Turn) -> None:
         seen = self.seen(turn)
-        if seen.event == "carrier":
-            self.carrier.become(machines.UP if seen.up else machines.DOWN, turn.at, turn.line)
         for machine in (self.four, self.six):
             if machine is not None:
                 machine.follow(seen)
@@ -145,15 +144,21 @@ class InterfaceView:
         return seen
 
     def come(self, turn: Turn, seen: Seen) -> None:
+        """What came in; a carrier that is so already, and all that comes after a stop, is nothing to the machines."""
         name = turn.event[0]
         if name == "carrier":
-            self.up = seen.up = turn.event[2] == "up"
+            changed, self.up = self.up != (turn.event[2] == "up"), turn.event[2] == "up"
+            self.carrier.become(machines.UP if self.up else machines.DOWN, turn.at, turn.line)
+            seen.up, seen.event = self.up, "carrier" if changed else "quiet"
         elif name == "frame":
             seen.heard = packet_of(turn.event[2])
             self.follower.note(turn.line, told(turn.event[2]))
             self.mark(turn.at, turn.line, message(seen.heard), "in " + family(seen.heard), False)
         elif name in ("dup", "release", "rebind"):
             self.mark(turn.at, turn.line, " ".join([name, *turn.event[2:]]), "asked", False)
+        if self.stopped:
+            seen.event = "quiet"
+        self.stopped = self.stopped or name == "stop"
 
     def call(self, call: Call, seen: Seen, own: str) -> None:
         if call.device == "link" and call.words[0] == own:

@@ -10,7 +10,6 @@ class Lines {
     this.shown = Math.min(this.height, TALLEST);
     this.room.style.height = `${this.shown}px`;
     this.picked = 0;
-    this.labels = new Map();
     this.view.addEventListener("scroll", () => this.draw());
     this.view.addEventListener("click", (event) => {
       const line = event.target.closest(".line");
@@ -239,7 +238,7 @@ function legend() {
 }
 
 // Printing shows all lanes and the first lines.
-function print() {
+function drawForPrint() {
   printing = true;
   for (const life of lives) life.draw();
   const shown = lines.all.slice(0, PRINTED).map((_, place) => lines.line(place + 1, 0)).join("");
@@ -248,7 +247,7 @@ function print() {
 }
 
 // Draws the lives; their lines come after.
-function open(data) {
+function drawLives(data) {
   byId("word").textContent = data.panels.length ? "" : "No life is told.";
   lives = data.panels.map((panel, number) => new Life(panel, data.words, number));
   for (const life of lives) main.append(life.element);
@@ -259,7 +258,7 @@ function open(data) {
   for (const life of lives) life.draw();
 }
 
-function openLines(text) {
+function drawLines(text) {
   lines = new Lines(text);
   const count = lives.length === 1 ? "1 life" : `${lives.length} lives`;
   const bad = failed.length ? many(failed.length, "failure") : "no failures";
@@ -274,7 +273,7 @@ function listen() {
   sizes.observe(lines.view);
   main.addEventListener("scroll", () => lives.forEach(later));
   document.addEventListener("keydown", key);
-  addEventListener("beforeprint", print);
+  addEventListener("beforeprint", drawForPrint);
   addEventListener("afterprint", () => { printing = false; lives.forEach((life) => life.draw()); lines.draw(); });
   byId("fold").onclick = fold;
   byId("nearer").onclick = () => current?.zoom(0.6);
@@ -290,8 +289,8 @@ async function start() {
     return;
   }
   const text = unpacked("text");
-  open(JSON.parse(await unpacked("model")));
-  openLines(await text);
+  drawLives(JSON.parse(await unpacked("model")));
+  drawLines(await text);
   listen();
   requestAnimationFrame(() => requestAnimationFrame(async () => {
     document.documentElement.dataset.opened = Math.round(performance.now() - begun);

@@ -6,7 +6,7 @@ const byId = (id) => document.getElementById(id);
 const main = byId("lives");
 const LEFT = 118; // the column of titles
 const ROW = 20; // the height of a line
-const TAIL = 6; // how much more room there is behind the end than before the start
+const TAIL = 8; // how much more room there is behind the end than before the start
 const PRINTED = 1500; // lines
 const TALLEST = 8e6; // what browsers scroll exactly
 
