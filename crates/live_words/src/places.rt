@@ -8,7 +8,7 @@ use net_types::number_of;
 const PORT_LIMIT: u64 = 65536;
 
 /// The link's own port and its peer's: from 1, and unlike.
-#[derive(Clone, Copy, PartialEq, Eq)]
+#[derive(Clone, Copy, Debug, PartialEq, Eq)]
 pub struct Ports {
     pub own: u16,
     pub peer: u16,
