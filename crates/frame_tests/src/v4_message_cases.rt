@@ -215,10 +215,13 @@ fn the_first_fault_is_told(rt: HostRuntime) {
 
 // An ACK of 300 bytes whose servers of names stand in its options and in sname, with this length of those in the options.
 fn split_ack(len: u8) -> [u8; 300] {
-    let mut message = offer();
-    message[44..51].copy_from_slice(&[6, 4, 10, 0, 0, 2, 255]);
+    let mut message = [0; 300];
+    message[..8].copy_from_slice(&[2, 1, 6, 0, 0, 0, 0, 1]); // op, htype, hlen, hops, xid
+    message[16..20].copy_from_slice(&[10, 0, 0, 50]); // yiaddr
+    message[28..34].copy_from_slice(&MAC.bytes); // chaddr
+    message[44..51].copy_from_slice(&[6, 4, 10, 0, 0, 2, 255]); // sname
+    message[236..240].copy_from_slice(&[0x63, 0x82, 0x53, 0x63]);
     message[240..253].copy_from_slice(&[53, 1, 5, 52, 1, 2, 6, len, 10, 0, 0, 1, 255]);
-    message[253..].copy_from_slice(&[0; 47]);
     message
 }
 
