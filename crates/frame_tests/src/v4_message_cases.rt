@@ -190,16 +190,23 @@ fn an_offer_cut_short(rt: HostRuntime) {
     for len in 0..240 {
         assert_eq!(rt; read4(&bytes[..len]).err(), Some(Bad4::Short));
     }
-    // Without its options, within the first of them, and within the second.
-    assert_eq!(rt; read4(&bytes[..240]).err(), Some(Bad4::NoType));
-    assert_eq!(rt;
-        read4(&bytes[..242]).err(),
-        Some(Bad4::Malformed { place: 240 })
-    );
-    assert_eq!(rt;
-        read4(&bytes[..248]).err(),
-        Some(Bad4::Malformed { place: 243 })
-    );
+}
+
+// So many bytes of an OFFER, and why they are no reply: without its options, within the first of them, and within the second.
+const CUT: [(usize, Bad4); 3] = [
+    (240, Bad4::NoType),
+    (242, Bad4::Malformed { place: 240 }),
+    (248, Bad4::Malformed { place: 243 }),
+];
+
+#[test]
+fn an_offer_cut_within_its_options(rt: HostRuntime) -> Result<(), Fail> {
+    let bytes = offer();
+    for (len, why) in CUT {
+        let front = bytes.get(..len).ok_or("a front")?;
+        assert_eq!(rt; read4(front).err(), Some(why));
+    }
+    Ok(())
 }
 
 #[test]
