@@ -10,3 +10,4 @@ pub mod Foretold
 pub mod Leasing
 pub mod Lives
 pub mod Items
+pub mod EndingProofs

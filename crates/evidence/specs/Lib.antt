@@ -3,3 +3,4 @@ pub mod ShareBasis
 pub mod Laws
 pub mod HeldAddresses
 pub mod SevenTurns
+pub mod Endings

@@ -4,6 +4,7 @@ ghost use Rattle.world.specs.declared.rows.HostRow.TheVariants.{Addr};
 ghost use Rattle.client_model.specs.Clients.{rows_of};
 ghost use Rattle.turn_model.specs.Lives.{IsOpening, life_after};
 ghost use Rattle.evidence_words.specs.Entries.{shown_of};
+ghost use Rattle.evidence.specs.Endings.{EndsWithCarrier, EndsWithStop, StaticEndsWithStop, StaticIsConfigured, StaticNeedsCarrier, StaticWaitsForCarrier};
 ghost use Rattle.evidence.specs.HeldAddresses.{ForetoldAreMet, OpeningRests, TurnsRest};
 ghost use Rattle.evidence.specs.Laws.{AddressesHaveBasis, AreMade, CountedAreNumbered, OthersHaveBasis, site_of};
 ghost use Rattle.local_evidence.specs.LinkLocalBasis.{LinkLocalBasis};
@@ -26,6 +27,21 @@ pub fn held_addresses_have_a_basis()
     ensures opening { OpeningRests }
     ensures turns { TurnsRest }
     ensures foretold { ForetoldAreMet }
+{}
+
+/// Law: no address has a basis as a static one without carrier, nor after a stop, nor where it isn't configured.
+pub fn static_addresses_need_carrier()
+    ensures lost { StaticNeedsCarrier }
+    ensures at_first { StaticWaitsForCarrier }
+    ensures stop { StaticEndsWithStop }
+    ensures configured { StaticIsConfigured }
+{}
+
+/// Law: no address of IPv4 has a basis of any kind once the carrier was lost or the daemon is to end, unless it was granted or
+/// probed anew (RFC 2131, section 4.4, and RFC 3927, section 2.2.1).
+pub fn addresses_end()
+    ensures carrier { EndsWithCarrier }
+    ensures stop { EndsWithStop }
 {}
 
 /// Law: interfaces that count from 1, as those of a script do, have unlike numbers.

@@ -5,6 +5,6 @@
 mod laws;
 
 pub use laws::{
-    addresses_have_a_basis, counted_interfaces_are_numbered, held_addresses_have_a_basis,
-    seven_turns_give_a_basis,
+    addresses_end, addresses_have_a_basis, counted_interfaces_are_numbered,
+    held_addresses_have_a_basis, seven_turns_give_a_basis, static_addresses_need_carrier,
 };

@@ -21,7 +21,7 @@ use Rattle.lease_evidence.specs.Replies.{reply_by, arrival_in}
 use Rattle.lease_evidence.proofs.ReplyFacts.{IsGranted, is_granted}
 
 -- what no entry is hasn't begun
-never : {A : Type 0} (P Q N : A → List A → Type 0) → ((e : A) (earlier : List A) → N e earlier → Q e earlier → ⊥) → (past : List A)
+pub never : {A : Type 0} (P Q N : A → List A → Type 0) → ((e : A) (earlier : List A) → N e earlier → Q e earlier → ⊥) → (past : List A)
     → Always N past → Since P Q past → ⊥
 never P Q N f [] none h = h
 never P Q N f (e ∷ past) none h = elim h [ inl q ↦ f e past none.0 q | inr later ↦ never P Q N f past none.1 later.1 ]
@@ -43,7 +43,7 @@ granting_by site opened terms e (Some arrival) is h =
 pub granting : (site : Site) (opened : Numbered) (terms : Terms4) (e : Entry) (past : List Entry) → GoodAck site opened terms e past → Granting site opened terms e
 granting site opened terms e past good = granting_by site opened terms e (arrival_in site e) refl good.grants
 
-abbrev grants : (site : Site) (opened : Numbered) (terms : Terms4) (e : Entry) (past : List Entry) → GoodAck site opened terms e past
+abbrev pub grants : (site : Site) (opened : Numbered) (terms : Terms4) (e : Entry) (past : List Entry) → GoodAck site opened terms e past
     → (net : Net) → net ≡ V4 terms.net → Grants site net e past
 grants site opened terms e past good net gives =
     record { opened = opened; terms = terms; good = good; gives = gives; asked = (granting site opened terms e past good).granted.address }
@@ -53,7 +53,7 @@ needs_ack site net now past none basis =
     never (CalmFor site basis.opened) (FirstAck site basis.opened basis.terms) (λ e earlier. Grants site net e earlier → ⊥)
     (λ e earlier n f. n (grants site basis.opened basis.terms e earlier f.good net basis.gives)) past none basis.granted
 
-lasts_not : (first lease now : ℕ) → lease ≢ INFINITE_LEASE → first + SECOND * lease ≤ now → is_unexpired first lease now ≡ true → ⊥
+pub lasts_not : (first lease now : ℕ) → lease ≢ INFINITE_LEASE → first + SECOND * lease ≤ now → is_unexpired first lease now ≡ true → ⊥
 lasts_not first lease now ends over h = by_test (eqb lease INFINITE_LEASE) (nat_lt now (first + SECOND * lease)) refl refl h
   where
     by_test : (endless early : Bool) → eqb lease INFINITE_LEASE ≡ endless → nat_lt now (first + SECOND * lease) ≡ early → (endless || early) ≡ true → ⊥

@@ -18,3 +18,7 @@ pub mod HeldRuns
 pub mod SevenTurnsHeard
 pub mod Joining
 mod Beginnings
+pub mod Cutting
+pub mod EndingProofs
+pub mod ProbeCounts
+pub mod AskingProofs

@@ -59,7 +59,7 @@ stood_by site e past false ended before grant s n h = absurd cc
 
 -- ---- what holds of the observer after some turns
 
-abbrev NoneAbove : Site → ℕ → Entry → List Entry → Type 0
+abbrev pub NoneAbove : Site → ℕ → Entry → List Entry → Type 0
 NoneAbove site count e past = (x : Numbered) → (seen_in site (e ∷ past)).current ≡ Some x → x.number ≤ count
 
 pub record Observes (site : Site) (past : List Entry) : Type 0 where
@@ -74,11 +74,11 @@ pub record Observes (site : Site) (past : List Entry) : Type 0 where
       → Since (CalmFor site grant.opened) (FirstAck site grant.opened grant.terms) past
   pub last : (grant : Grant) → (kept_in site past).grant ≡ Some grant → grant.opened.number ≡ (kept_in site past).answered
 
-always_map : {A : Type 0} (P Q : A → List A → Type 0) → ((e : A) (past : List A) → P e past → Q e past) → (past : List A) → Always P past → Always Q past
+pub always_map : {A : Type 0} (P Q : A → List A → Type 0) → ((e : A) (past : List A) → P e past → Q e past) → (past : List A) → Always P past → Always Q past
 always_map P Q f [] h = h
 always_map P Q f (e ∷ past) h = (f e past h.0, always_map P Q f past h.1)
 
-one_is : (x y : Numbered) → Some x ≡ Some y → x ≡ y
+pub one_is : (x y : Numbered) → Some x ≡ Some y → x ≡ y
 one_is x y e = cc
 
 latest_in : (count : ℕ) (current : Option Numbered) (x : Numbered) → Latest count current → current ≡ Some x → x.number ≡ count

@@ -5,3 +5,6 @@ pub mod Laws
 pub mod HeldLeases
 pub mod PlainIface
 pub mod SevenTurns
+pub mod Endings
+pub mod ProbedFirst
+pub mod AskedFirst

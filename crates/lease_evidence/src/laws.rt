@@ -4,11 +4,15 @@ ghost use Rattle.std.specs.Prelude.{◌≡◌, ◌∷◌, [], Some};
 ghost use Rattle.net_types.specs.declared.address.Net.TheVariants.{V4};
 ghost use Rattle.v4_client.specs.Clients.{held_of};
 ghost use Rattle.client_model.specs.KeptLeases.{Beginning};
+ghost use Rattle.v4_message.specs.declared.writing.Kind4.TheVariants.{Decline, Discover, Release};
 ghost use Rattle.evidence_words.specs.IfaceLives.{IsLived, Opening, iface_after, shown, site_of};
+ghost use Rattle.lease_evidence.specs.AskedFirst.{LastsFromRequest, NeedsFrameHere, NeedsNewRequest, NeedsRequest};
+ghost use Rattle.lease_evidence.specs.Endings.{EndsBy, EndsBySaying, IsGivenBack, IsRefused, IsToldToStop, LosesCarrier, NewestCounts};
 ghost use Rattle.lease_evidence.specs.HeldLeases.{BeginsWithoutLease, HeldLeasesHaveBasis};
 ghost use Rattle.lease_evidence.specs.LeaseBasis.{LeaseBasis};
 ghost use Rattle.lease_evidence.specs.Laws.{EndsWithLease, ForeignGivesNothing, NeedsAck};
 ghost use Rattle.lease_evidence.specs.PlainIface.{client_mac};
+ghost use Rattle.lease_evidence.specs.ProbedFirst.{ContestsPartProbes, NeedsThreeProbes, ProbesBeginAnew, ProbesTakeFourSeconds};
 ghost use Rattle.lease_evidence.specs.SevenTurns.{beginning, lease, opening, seven_turns};
 
 /// Law: each lease that an interface holds after its opening and some turns, with any outcomes of its frames, has its basis
@@ -39,6 +43,61 @@ pub fn leases_end()
 /// (RFC 2131, section 4.4.1).
 pub fn foreign_replies_give_nothing()
     ensures { ForeignGivesNothing }
+{}
+
+/// Law: no address has one once the carrier was lost, the leases are to be given back, or the daemon is to end, unless an ACK
+/// granted it since (RFC 2131, sections 4.4.5 and 4.4.6).
+pub fn disturbed_leases_end()
+    ensures carrier { EndsBy LosesCarrier }
+    ensures release { EndsBy IsGivenBack }
+    ensures stop { EndsBy IsToldToStop }
+{}
+
+/// Law: nor once a NAK came in an exchange that had no ACK (RFC 2131, section 3.2).
+pub fn refused_leases_end()
+    ensures { EndsBy IsRefused }
+{}
+
+/// Law: nor once the client said DISCOVER, DECLINE or RELEASE (RFC 2131, sections 3.1 and 4.4).
+pub fn leases_end_by_own_messages()
+    ensures discover { EndsBySaying Discover }
+    ensures decline { EndsBySaying Decline }
+    ensures release { EndsBySaying Release }
+{}
+
+/// Law: of several ACKs the first one in the newest exchange that has one counts (RFC 2131, section 4.4.5).
+pub fn the_newest_lease_counts()
+    ensures { NewestCounts }
+{}
+
+/// Law: unless addresses aren't to be probed, no address has a basis as a leased one before the link took three probes for it,
+/// anew after each turn that ends a lease, none of them apart from the others by a contest, and before four seconds are over
+/// (RFC 5227, section 2.1.1).
+pub fn leases_need_three_probes()
+    ensures probes { NeedsThreeProbes }
+    ensures anew { ProbesBeginAnew }
+    ensures contested { ContestsPartProbes }
+    ensures seconds { ProbesTakeFourSeconds }
+{}
+
+/// Law: nor has an address one for which no REQUEST asked, nor longer after the last REQUEST for it than its leases last (RFC
+/// 2131, sections 3.1 and 4.4.1).
+pub fn leases_are_asked_for()
+    ensures asked { NeedsRequest }
+    ensures lasts { LastsFromRequest }
+{}
+
+/// Law: nor one by an ACK to which no REQUEST belongs that was said after DISCOVER, DECLINE and RELEASE (RFC 2131, section
+/// 3.1).
+pub fn leases_need_a_new_request()
+    ensures discover { NeedsNewRequest Discover }
+    ensures decline { NeedsNewRequest Decline }
+    ensures release { NeedsNewRequest Release }
+{}
+
+/// Law: nor by frames that came in on other interfaces.
+pub fn other_interfaces_give_nothing()
+    ensures { NeedsFrameHere }
 {}
 
 /// Law: a life of seven turns in which an interface comes to hold a lease, which has its basis.
