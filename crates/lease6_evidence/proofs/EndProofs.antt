@@ -1,5 +1,5 @@
 -- What takes an item away ends its basis.
-use Rattle.std.proofs.Common.{◌≡◌, ℕ, ◌<◌, inl, inr, Bool, true, false, ◌&&◌, List, [], ◌∷◌, ◌++◌, Option, Some, None, refl, sym, ap, subst, ◌∙◌, arith}
+use Rattle.std.proofs.Common.{◌≡◌, ℕ, ◌<◌, inl, inr, Bool, true, false, ◌&&◌, List, [], ◌∷◌, ◌++◌, Option, Some, None, refl, ap, subst, ◌∙◌, arith}
 use Rattle.std.specs.Prelude.{◌==◌, if◌then◌else◌, option_map}
 use Rattle.std.specs.List.{Contains}
 use Rattle.std.proofs.lemmas.Bool.{eqb-true, eq-eqb}
@@ -9,21 +9,20 @@ use Rattle.net_types.specs.declared.address.Net6.{Net6}
 use Rattle.v6_options.specs.declared.ia.IaKind.{IaKind}
 use Rattle.v6_options.specs.declared.ia.IaKind.TheVariants.{Na}
 use Rattle.v6_options.specs.declared.ia.ItemSaid.{ItemSaid}
-use Rattle.v6_options.specs.Ias.{IaContent, ias_in}
+use Rattle.v6_options.specs.Ias.{IaContent}
 use Rattle.v6_options.specs.Statuses.{success}
 use Rattle.v6_message.specs.Replies.{Content6}
 use Rattle.v6_frames.specs.Heard.{HeardMessage6}
 use Rattle.v6_client.specs.declared.settings.IaAsk.{IaAsk}
-use Rattle.v6_client.specs.Reading.{are_ordered, front_items, ia_for, is_unbound, no_binding, read_items, saids_of}
+use Rattle.v6_client.specs.Reading.{are_ordered, front_items, is_unbound, no_binding, read_items, saids_of}
 use Rattle.world.specs.declared.wakes.Event.{Event}
 use Rattle.world.specs.declared.wakes.Event.TheVariants.{Frame, Carrier, Duplicate, Release, Rebind, Stop, Quiet, End}
 use Rattle.evidence_words.specs.Entries.{Entry}
 use Rattle.evidence_words.specs.Inputs.{GoesOn, Site, carrier_after, has_carrier, index_at}
 use Rattle.evidence_words.specs.Probed.{EachAfter}
 use Rattle.lease6_evidence.specs.Ends6.{Answers6, EndsBy, IsReleased, IsStopped, IsUnknown, IsUsedTwice, IsWithdrawn, LosesCarrier, NamesNot, WasAnswered}
-use Rattle.lease6_evidence.specs.Exchanges6.{Numbered6}
 use Rattle.lease6_evidence.specs.ItemBasis.{Gives, ItemBasis, Leaves, NotContested, said_for}
-use Rattle.lease6_evidence.specs.Replies6.{FirstReply, GoodReply, NoReply, message6_at, message6_on}
+use Rattle.lease6_evidence.specs.Replies6.{FirstReply, NoReply, message6_at, message6_on}
 use Rattle.lease6_evidence.proofs.LawProofs.{named}
 
 -- ---- values

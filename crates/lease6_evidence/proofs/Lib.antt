@@ -24,3 +24,4 @@ pub mod Life6
 pub mod Beginnings6
 pub mod HeldRuns6
 pub mod FourFrames
+pub mod FourHeard

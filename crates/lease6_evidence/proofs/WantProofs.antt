@@ -1,15 +1,13 @@
 -- What the basis of an item can't do without.
-use Rattle.std.proofs.Common.{◌≡◌, ℕ, inl, inr, Bool, true, false, not, ◌&&◌, ◌||◌, List, [], ◌∷◌, ◌++◌, Option, Some, None, map, refl, sym, ap, subst, ◌∙◌, bytes_eq}
+use Rattle.std.proofs.Common.{◌≡◌, ℕ, inl, inr, Bool, true, false, not, ◌||◌, List, [], ◌∷◌, ◌++◌, Option, Some, None, map, refl, sym, ap, subst, ◌∙◌, bytes_eq}
 use Rattle.std.specs.Prelude.{if◌then◌else◌}
 use Rattle.std.specs.List.{AllByRecursion, list_all}
 use Rattle.std.proofs.lemmas.Bool.{and_parts}
 use Rattle.std.proofs.lemmas.List.Folds.{list_all-append}
 use Rattle.std.proofs.lemmas.Slice.Eq.{bytes_eq-Decides}
-use Rattle.machine.specs.Since.{Always, Since}
-use Rattle.net_types.specs.declared.address.Net6.{Net6}
+use Rattle.machine.specs.Since.{Always}
 use Rattle.v6_message.specs.Replies.{Content6}
 use Rattle.v6_frames.specs.Spelled.{Sent6}
-use Rattle.v6_client.specs.declared.settings.IaAsk.{IaAsk}
 use Rattle.v6_client.specs.Answers.{is_duid}
 use Rattle.v6_client.specs.Reading.{serves}
 use Rattle.evidence_words.specs.Entries.{Entry, Offer}
@@ -17,10 +15,10 @@ use Rattle.evidence_words.specs.IfaceLives.{now_in}
 use Rattle.evidence_words.specs.Inputs.{Site, offers_at}
 use Rattle.lease6_evidence.specs.Ends6.{WasAnswered}
 use Rattle.lease6_evidence.specs.Exchanges6.{Numbered6, Seen6, asks, asks_reply, closes6, message6_of, seen6_in, show6, shows6}
-use Rattle.lease6_evidence.specs.ItemBasis.{Gives, ItemBasis, Leaves}
+use Rattle.lease6_evidence.specs.ItemBasis.{Gives, Leaves}
 use Rattle.lease6_evidence.specs.Laws6.{Names}
-use Rattle.lease6_evidence.specs.Replies6.{NoReply, answers, asks_at, is_from, is_reply, message6_at}
-use Rattle.lease6_evidence.specs.Wanting6.{AddressesAreAsked, AsksNothing, FirstAloneGives, GivesNothing, HearsIdle6, HearsNot, HeldItemsAreAsked, IsHasty, IsIdle6, IsOfOther, IsSilent6, NeedsItsName}
+use Rattle.lease6_evidence.specs.Replies6.{NoReply, answers, asks_at, is_from, is_reply}
+use Rattle.lease6_evidence.specs.Wanting6.{AddressesAreAsked, AsksNothing, FirstAloneGives, GivesNothing, HearsIdle6, HearsNot, HeldItemsAreAsked, IsIdle6, IsOfOther, IsSilent6, NeedsItsName}
 use Rattle.lease6_evidence.proofs.EndProofs.{none_not, opposite}
 use Rattle.lease6_evidence.proofs.LawProofs.{named, needs_reply, never}
 use Rattle.lease6_evidence.proofs.ReplyParts.{IsAnswer, answer_parts}

@@ -5,3 +5,4 @@ pub mod HeldItems
 pub mod Laws6
 pub mod Ends6
 pub mod Wanting6
+pub mod FourMessages
