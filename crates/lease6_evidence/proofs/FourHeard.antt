@@ -1,9 +1,9 @@
 -- What the server's frames of the example say, and that the example is a life with a lease.
-use Rattle.std.proofs.Common.{◌≡◌, ℕ, ◌<◌, ◌≤◌, true, false, List, [], ◌∷◌, ◌++◌, length, map, Option, Some, None, refl, sym, ap, subst, ◌∙◌, lit<, lit≤, nat_lt, arith}
+use Rattle.std.proofs.Common.{◌≡◌, ◌≢◌, ℕ, zero, suc, ◌<◌, ◌≤◌, true, false, List, [], ◌∷◌, ◌++◌, length, map, Option, Some, None, refl, sym, ap, subst, ◌∙◌, lit<, lit≤, nat_lt, arith}
 use Rattle.std.proofs.lemmas.Bool.{and_parts}
 use Rattle.std.proofs.lemmas.Bool.Decides.{nat_tests}
-use Rattle.std.specs.List.{list_all}
-use Rattle.std.specs.Prelude.{option_map, option_and_then}
+use Rattle.std.specs.List.{Contains, list_all}
+use Rattle.std.specs.Prelude.{AllPairs, option_map, option_and_then}
 use Rattle.net_types.specs.Marks.{AreBytes}
 use Rattle.net_types.specs.NameText.{is_name, name_text}
 use Rattle.net_types.specs.declared.address.Mac.{Mac}
@@ -17,14 +17,19 @@ use Rattle.udp_frame.proofs.Laws6.{frame_is_heard6}
 use Rattle.v4_frames.specs.Heard.{HeardMessage, heard4_in, message_for}
 use Rattle.v6_options.specs.OptionArea.{front_of, instances_in}
 use Rattle.v6_options.specs.Nesting.{malformed_in}
+use Rattle.v6_options.specs.declared.ia.IaKind.{IaKind}
+use Rattle.v6_options.specs.declared.ia.IaKind.TheVariants.{Na, Pd}
 use Rattle.v6_message.specs.declared.kind.ServerKind6.TheVariants.{Advertise, Reply}
 use Rattle.v6_message.specs.Replies.{Content6, message6_in}
 use Rattle.v6_frames.specs.Heard.{HeardMessage6, heard6_in, with_source}
 use Rattle.v6_frames.specs.Spelled.{client_ends}
 use Rattle.v6_frames.proofs.ServersHeard.{is_heard}
+use Rattle.lease6_text.specs.declared.lease.Item6.{Item6}
+use Rattle.lease6_text.specs.Leases.{IaLeaseContent}
 use Rattle.v6_client.specs.Clients.{held_of}
 use Rattle.v6_client.specs.Runs.{carrier_turned, hears_turned, tick_turned}
 use Rattle.world.specs.declared.wakes.Event.TheVariants.{Frame, Quiet}
+use Rattle.settings.specs.Dhcp6Settings.{conf_key}
 use Rattle.settings.specs.Fitting.{FitsManaged}
 use Rattle.client_model.specs.declared.interfaces.Iface.{Iface}
 use Rattle.client_model.specs.ClientSettings.{ask_of}
@@ -37,7 +42,7 @@ use Rattle.evidence_words.specs.Entries.{Offer}
 use Rattle.evidence_words.specs.IfaceLives.{IsLived, Met, iface_after, shown, site_of}
 use Rattle.evidence_words.specs.Inputs.{Site}
 use Rattle.lease_evidence.specs.PlainIface.{client_mac}
-use Rattle.lease6_evidence.specs.FourMessages.{advertise, beginning, client_option, duid, from_client, from_server, granted, ia_given, interface, lease, met, offers, opening, reply, request, server_option, solicit, three_turns}
+use Rattle.lease6_evidence.specs.FourMessages.{address, addresses, advertise, beginning, client_option, duid, from_client, from_server, granted, ias_given, interface, lease, met, offers, opening, prefix, prefixes, reply, request, server_option, solicit, three_turns}
 use Rattle.lease6_evidence.specs.HeldItems.{ItemHasBasis}
 use Rattle.lease6_evidence.specs.ItemBasis.{AddressBasis}
 use Rattle.lease6_evidence.proofs.FourFrames.{held_items_have_basis}
@@ -67,10 +72,10 @@ abbrev server_ends : Ends6
 server_ends = record { from_mac = server_mac; to_mac = client_mac; from = link_local server_mac; to = link_local client_mac }
 
 abbrev advertises : List ℕ
-advertises = from_server 89 0xb5 0x6c advertise
+advertises = from_server 134 0xd3 0x02 advertise
 
 abbrev replies : List ℕ
-replies = from_server 84 0xa8 0x85 reply
+replies = from_server 129 0x98 0x49 reply
 
 advertise_framed : advertises ≡ udp6_frame_text server_ends 547 546 advertise
 unfolding udp6_frame_text udp6_text
@@ -80,11 +85,11 @@ reply_framed : replies ≡ udp6_frame_text server_ends 547 546 reply
 unfolding udp6_frame_text udp6_text
 reply_framed = refl
 
-solicit_framed : from_client 58 0xfa 0xf5 solicit ≡ udp6_frame_text (client_ends client_mac) 546 547 solicit
+solicit_framed : from_client 74 0xfa 0xae solicit ≡ udp6_frame_text (client_ends client_mac) 546 547 solicit
 unfolding udp6_frame_text udp6_text
 solicit_framed = refl
 
-request_framed : from_client 100 0xc8 0x8e request ≡ udp6_frame_text (client_ends client_mac) 546 547 request
+request_framed : from_client 145 0x4a 0x1b request ≡ udp6_frame_text (client_ends client_mac) 546 547 request
 unfolding udp6_frame_text udp6_text
 request_framed = refl
 
@@ -105,7 +110,7 @@ offered = record {
   sol_max = None;
   dns = [];
   search = [];
-  options = client_option ++ server_option ++ (0 ∷ 7 ∷ 0 ∷ 1 ∷ 255 ∷ []) ++ ia_given;
+  options = client_option ++ server_option ++ (0 ∷ 7 ∷ 0 ∷ 1 ∷ 255 ∷ []) ++ ias_given;
 }
 
 abbrev answered : Content6
@@ -120,7 +125,7 @@ answered = record {
   sol_max = None;
   dns = [];
   search = [];
-  options = client_option ++ server_option ++ ia_given;
+  options = client_option ++ server_option ++ ias_given;
 }
 
 advertise_read : message6_in advertise ≡ Some offered
@@ -166,13 +171,13 @@ abbrev site : Site
 site = site_of own beginning opening
 
 abbrev soliciting : Met
-soliciting = met 1001 Quiet [] (offers (from_client 58 0xfa 0xf5 solicit))
+soliciting = met 1001 Quiet [] (offers (from_client 74 0xfa 0xae solicit))
 
 abbrev requesting : Met
-requesting = met 1500 (Frame 1 143) advertises (offers (from_client 100 0xc8 0x8e request))
+requesting = met 1500 (Frame 1 188) advertises (offers (from_client 145 0x4a 0x1b request))
 
 abbrev holding : Met
-holding = met 2000 (Frame 1 138) replies []
+holding = met 2000 (Frame 1 183) replies []
 
 -- the interface after the turn of its SOLICIT
 abbrev seeking : Iface
@@ -205,7 +210,7 @@ giving =
     ∙ ap (λ (message : Option HeardMessage6). hearing 2000 asked.iface None None message) reply_heard
 
 -- the turn of the Reply
-held_then : iface_turned own holding.turn (iface_turned own requesting.turn seeking).iface ≡ given
+pub held_then : iface_turned own holding.turn (iface_turned own requesting.turn seeking).iface ≡ given
 held_then = ap (λ (step : IfaceStep). iface_turned own holding.turn step.iface) asking ∙ giving
 
 pub turns_hold : held_of (iface_after own beginning opening three_turns).dhcp6 ≡ Some lease
@@ -243,6 +248,17 @@ turns_lived = (
   ),
 )
 
+other_kind : Na ≡ Pd → ⊥
+other_kind e = cc
+
+unlike_ias : AllPairs (λ one other. conf_key one ≢ conf_key other) interface.conf.dhcp6.ias
+unlike_ias zero (suc zero) d before within = λ e. other_kind (ap (λ (key : IaKind × ℕ). key.0) e)
+unlike_ias zero zero d before within = absurd (omega (arith, before))
+unlike_ias zero (suc (suc j)) d before within = absurd (omega (arith, within))
+unlike_ias (suc i) zero d before within = absurd (omega (arith, before))
+unlike_ias (suc i) (suc zero) d before within = absurd (omega (arith, before))
+unlike_ias (suc i) (suc (suc j)) d before within = absurd (omega (arith, within))
+
 interface_fits : FitsManaged interface
 unfolding is_name name_text
 interface_fits = record {
@@ -256,9 +272,12 @@ interface_fits = record {
   dhcp4 = record { host = lit< tt; vendor = lit< tt; identifier = tt };
   dhcp6 = record {
     few = lit≤ tt;
-    each = (record { iaid = lit< tt; hint = lit≤ tt }, tt);
-    shares = tt;
-    unlike = λ i j d before within. absurd (omega (arith, before, within));
+    each = (record { iaid = lit< tt; hint = lit≤ tt }, (record { iaid = lit< tt; hint = lit≤ tt }, tt));
+    shares = (
+      record { share = record { least = lit≤ tt; most = lit≤ tt }; outlet = record { index = (lit≤ tt, lit≤ tt); metric = lit< tt } },
+      tt,
+    );
+    unlike = unlike_ias;
   };
 }
 
@@ -270,9 +289,15 @@ beginning_fits = record {
   kept6 = tt;
 }
 
+module _ (ia : IaLeaseContent) (item : Item6) where
+  pub held_based : Contains lease.ias ia → Contains ia.items item → ItemHasBasis site ia item (shown opening three_turns)
+  held_based among within = held_items_have_basis own beginning opening three_turns lease ia item beginning_fits turns_lived turns_hold among within
+
 pub address_based : AddressBasis site (V6 granted) 2000 (shown opening three_turns)
 address_based =
-    let has : ItemHasBasis site _ _ (shown opening three_turns) =
-    held_items_have_basis own beginning opening three_turns lease _ _ beginning_fits turns_lived turns_hold (0, lit< tt, refl)
-    (0, lit< tt, refl) in
+    let has : ItemHasBasis site addresses address (shown opening three_turns) =
+    held_based addresses address (0, lit< tt, refl) (0, lit< tt, refl) in
     record { ask = has.ask; asked = has.asked; is_address = sym has.kind; item = granted; is_item = refl; basis = has.basis }
+
+pub prefix_based : ItemHasBasis site prefixes prefix (shown opening three_turns)
+prefix_based = held_based prefixes prefix (1, lit< tt, refl) (0, lit< tt, refl)

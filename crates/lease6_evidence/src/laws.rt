@@ -7,8 +7,8 @@ ghost use Rattle.client_model.specs.KeptLeases.{Beginning};
 ghost use Rattle.evidence_words.specs.IfaceLives.{IsLived, Opening, iface_after, shown, site_of};
 ghost use Rattle.lease_evidence.specs.PlainIface.{client_mac};
 ghost use Rattle.lease6_evidence.specs.Ends6.{EndsBy, IsReleased, IsStopped, IsUnknown, IsUsedTwice, IsWithdrawn, LosesCarrier};
-ghost use Rattle.lease6_evidence.specs.FourMessages.{beginning, granted, lease, opening, three_turns};
-ghost use Rattle.lease6_evidence.specs.HeldItems.{BeginsWithoutItems, HeldItemsHaveBasis};
+ghost use Rattle.lease6_evidence.specs.FourMessages.{beginning, granted, lease, opening, prefix, prefixes, three_turns};
+ghost use Rattle.lease6_evidence.specs.HeldItems.{BeginsWithoutItems, HeldItemsHaveBasis, ItemHasBasis};
 ghost use Rattle.lease6_evidence.specs.ItemBasis.{AddressBasis};
 ghost use Rattle.lease6_evidence.specs.Laws6.{EndsWithValid, ForeignGivesNothing6, NeedsReply};
 ghost use Rattle.lease6_evidence.specs.Wanting6.{AddressesAreAsked, FirstAloneGives, GivesNothing, HearsIdle6, HeldItemsAreAsked, IsSilent6, NeedsItsName};
@@ -103,9 +103,11 @@ pub fn held_items_are_asked_for()
     ensures { HeldItemsAreAsked }
 {}
 
-/// Law: a life in which SOLICIT, an Advertise, REQUEST and a Reply give an interface an address, which has its basis.
-pub fn four_messages_give_an_address()
+/// Law: a life in which SOLICIT, an Advertise, REQUEST and a Reply give an interface an address and a prefix, which have their
+/// basis.
+pub fn four_messages_give_a_lease()
     ensures lived { IsLived (client_mac ∷ []) beginning opening three_turns }
     ensures held { held_of (iface_after (client_mac ∷ []) beginning opening three_turns).dhcp6 ≡ Some lease }
-    ensures basis { AddressBasis (site_of (client_mac ∷ []) beginning opening) (V6 granted) 2000 (shown opening three_turns) }
+    ensures address { AddressBasis (site_of (client_mac ∷ []) beginning opening) (V6 granted) 2000 (shown opening three_turns) }
+    ensures prefix { ItemHasBasis (site_of (client_mac ∷ []) beginning opening) prefixes prefix (shown opening three_turns) }
 {}

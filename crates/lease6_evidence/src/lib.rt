@@ -5,7 +5,7 @@ mod laws;
 
 pub use laws::{
     addresses_are_asked_for, first_replies_alone_give_items, foreign_replies_give_no_items,
-    four_messages_give_an_address, held_items_are_asked_for, held_items_have_a_basis,
+    four_messages_give_a_lease, held_items_are_asked_for, held_items_have_a_basis,
     idle_messages_give_no_items, items_are_given, items_are_named, items_end,
     items_end_when_unknown, items_end_when_withdrawn, items_end_with_a_duplicate,
     items_end_with_a_release, items_end_with_a_stop, items_end_with_the_carrier,
