@@ -14,13 +14,13 @@ use Rattle.lease6_evidence.specs.Replies6.{answers}
 use Rattle.lease6_evidence.proofs.ReplyParts.{IsAnswer, answer_parts, has_client, same_xid}
 
 -- what no entry is hasn't begun
-never : {A : Type 0} (P Q N : A → List A → Type 0) → ((e : A) (earlier : List A) → N e earlier → Q e earlier → ⊥)
+pub never : {A : Type 0} (P Q N : A → List A → Type 0) → ((e : A) (earlier : List A) → N e earlier → Q e earlier → ⊥)
     → (past : List A)
     → Always N past → Since P Q past → ⊥
 never P Q N f [] none h = h
 never P Q N f (e ∷ past) none h = elim h [ inl q ↦ f e past none.0 q | inr later ↦ never P Q N f past none.1 later.1 ]
 
-abbrev named : (site : Site) (ask : IaAsk) (net : Net6) (now : ℕ) (e : Entry) (past : List Entry)
+abbrev pub named : (site : Site) (ask : IaAsk) (net : Net6) (now : ℕ) (e : Entry) (past : List Entry)
     → Gives site ask net now e past → Names site ask net e past
 named site ask net now e past gives =
     record { opened = gives.opened; message = gives.message; good = gives.reply.good; mentions = gives.mentions }

@@ -1,6 +1,8 @@
 pub mod ExchangeStates
 pub mod ReplyParts
 pub mod LawProofs
+pub mod EndProofs
+pub mod WantProofs
 pub mod Steps6
 pub mod Watching6
 pub mod Hearing6
@@ -22,3 +24,4 @@ pub mod Life6
 pub mod Beginnings6
 pub mod HeldRuns6
 pub mod FourFrames
+pub mod FourHeard

@@ -1,9 +1,17 @@
 //! What is true of the evidence for items. These functions do nothing: their contracts are the laws.
 
+ghost use Rattle.std.specs.Prelude.{◌≡◌, ◌∷◌, [], Some};
+ghost use Rattle.net_types.specs.declared.address.Net.TheVariants.{V6};
+ghost use Rattle.v6_client.specs.Clients.{held_of};
 ghost use Rattle.client_model.specs.KeptLeases.{Beginning};
-ghost use Rattle.evidence_words.specs.IfaceLives.{Opening};
-ghost use Rattle.lease6_evidence.specs.HeldItems.{BeginsWithoutItems, HeldItemsHaveBasis};
+ghost use Rattle.evidence_words.specs.IfaceLives.{IsLived, Opening, iface_after, shown, site_of};
+ghost use Rattle.lease_evidence.specs.PlainIface.{client_mac};
+ghost use Rattle.lease6_evidence.specs.Ends6.{EndsBy, IsReleased, IsStopped, IsUnknown, IsUsedTwice, IsWithdrawn, LosesCarrier};
+ghost use Rattle.lease6_evidence.specs.FourMessages.{beginning, granted, lease, opening, prefix, prefixes, three_turns};
+ghost use Rattle.lease6_evidence.specs.HeldItems.{BeginsWithoutItems, HeldItemsHaveBasis, ItemHasBasis};
+ghost use Rattle.lease6_evidence.specs.ItemBasis.{AddressBasis};
 ghost use Rattle.lease6_evidence.specs.Laws6.{EndsWithValid, ForeignGivesNothing6, NeedsReply};
+ghost use Rattle.lease6_evidence.specs.Wanting6.{AddressesAreAsked, FirstAloneGives, GivesNothing, HearsIdle6, HeldItemsAreAsked, IsSilent6, NeedsItsName};
 
 /// Law: each item that an interface holds after its opening and some turns, with any outcomes of its frames, has its basis in
 /// what they showed: a Reply in an exchange of its own gave it, its valid lifetime isn't over, and nothing took it away since
@@ -32,4 +40,74 @@ pub fn items_end()
 /// (RFC 8415, sections 16.1 and 16.10).
 pub fn foreign_replies_give_no_items()
     ensures { ForeignGivesNothing6 }
+{}
+
+/// Law: none has one after the interface lost its carrier, until a good Reply names it again (RFC 8415, section 18.2.12).
+pub fn items_end_with_the_carrier()
+    ensures { EndsBy LosesCarrier }
+{}
+
+/// Law: nor after a release (RFC 8415, section 18.2.7).
+pub fn items_end_with_a_release()
+    ensures { EndsBy IsReleased }
+{}
+
+/// Law: nor after a stop.
+pub fn items_end_with_a_stop()
+    ensures { EndsBy IsStopped }
+{}
+
+/// Law: nor an address of an IA_NA after it was found to be used by another host (RFC 8415, section 18.2.8).
+pub fn items_end_with_a_duplicate()
+    ensures { EndsBy IsUsedTwice }
+{}
+
+/// Law: nor after the first good Reply of an exchange named it with a valid lifetime of 0 (RFC 8415, section 18.2.10.1).
+pub fn items_end_when_withdrawn()
+    ensures { EndsBy IsWithdrawn }
+{}
+
+/// Law: nor after such a Reply said that the server knows no binding of its IA (RFC 8415, section 18.2.10.1).
+pub fn items_end_when_unknown()
+    ensures { EndsBy IsUnknown }
+{}
+
+/// Law: no item has one where no frame of the interface asked for a Reply (RFC 8415, section 18.2.10).
+pub fn unasked_replies_give_no_items()
+    ensures { GivesNothing IsSilent6 }
+{}
+
+/// Law: an Advertise gives none, nor does a message of no server or of another one than was asked, a Reply to a SOLICIT that
+/// doesn't say that it answers one, or one that serves nothing that is asked for (RFC 8415, sections 16.10, 18.2.1 and 18.2.10).
+pub fn idle_messages_give_no_items()
+    ensures { GivesNothing HearsIdle6 }
+{}
+
+/// Law: of the good Replies in an exchange only the first gives any (RFC 8415, section 18.2.10).
+pub fn first_replies_alone_give_items()
+    ensures { FirstAloneGives }
+{}
+
+/// Law: no item has a basis where no message that came in has it among what counts of its IA.
+pub fn items_are_named()
+    ensures { NeedsItsName }
+{}
+
+/// Law: no address has one as that of an IA_NA where no good Reply named it for one that the interface asks for.
+pub fn addresses_are_asked_for()
+    ensures { AddressesAreAsked }
+{}
+
+/// Law: so no item that is held, of an IA of its kind and IAID.
+pub fn held_items_are_asked_for()
+    ensures { HeldItemsAreAsked }
+{}
+
+/// Law: a life in which SOLICIT, an Advertise, REQUEST and a Reply give an interface an address and a prefix, which have their
+/// basis.
+pub fn four_messages_give_a_lease()
+    ensures lived { IsLived (client_mac ∷ []) beginning opening three_turns }
+    ensures held { held_of (iface_after (client_mac ∷ []) beginning opening three_turns).dhcp6 ≡ Some lease }
+    ensures address { AddressBasis (site_of (client_mac ∷ []) beginning opening) (V6 granted) 2000 (shown opening three_turns) }
+    ensures prefix { ItemHasBasis (site_of (client_mac ∷ []) beginning opening) prefixes prefix (shown opening three_turns) }
 {}

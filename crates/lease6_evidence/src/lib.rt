@@ -4,6 +4,10 @@
 mod laws;
 
 pub use laws::{
-    foreign_replies_give_no_items, held_items_have_a_basis, items_are_given, items_end,
-    kept_items_are_not_held_at_first,
+    addresses_are_asked_for, first_replies_alone_give_items, foreign_replies_give_no_items,
+    four_messages_give_a_lease, held_items_are_asked_for, held_items_have_a_basis,
+    idle_messages_give_no_items, items_are_given, items_are_named, items_end,
+    items_end_when_unknown, items_end_when_withdrawn, items_end_with_a_duplicate,
+    items_end_with_a_release, items_end_with_a_stop, items_end_with_the_carrier,
+    kept_items_are_not_held_at_first, unasked_replies_give_no_items,
 };
