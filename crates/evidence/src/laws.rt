@@ -5,7 +5,7 @@ ghost use Rattle.client_model.specs.Clients.{rows_of};
 ghost use Rattle.turn_model.specs.Lives.{IsOpening, life_after};
 ghost use Rattle.evidence_words.specs.Entries.{shown_of};
 ghost use Rattle.evidence.specs.HeldAddresses.{ForetoldAreMet, OpeningRests, TurnsRest};
-ghost use Rattle.evidence.specs.Laws.{AddressesHaveBasis, AreMade, CountedAreNumbered, OthersHaveBasis, site_of};
+ghost use Rattle.evidence.specs.Laws.{AddressesHaveBasis, AreMade, CountedAreNumbered, NoShareOfItsOwn, OthersHaveBasis, site_of};
 ghost use Rattle.local_evidence.specs.LinkLocalBasis.{LinkLocalBasis};
 ghost use Rattle.evidence.specs.SevenTurns.{chosen_net, interface, opens, seven_shown, seven_turns};
 
@@ -31,6 +31,11 @@ pub fn held_addresses_have_a_basis()
 /// Law: interfaces that count from 1, as those of a script do, have unlike numbers.
 pub fn counted_interfaces_are_numbered()
     ensures { CountedAreNumbered }
+{}
+
+/// Law: an interface has no address for a share of a prefix that is delegated to itself.
+pub fn no_share_is_of_the_interface_upstream()
+    ensures { NoShareOfItsOwn }
 {}
 
 /// Law: a run of seven turns in which the client wants a link-local address, with its basis written out.
