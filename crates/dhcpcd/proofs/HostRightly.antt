@@ -26,7 +26,7 @@ use Rattle.host_model.proofs.HostTableRows.{in_order_sorted}
 use Rattle.turn_model.proofs.HostInLifeTurns.{opening_holds, turn_in_life}
 use Rattle.conf_text.specs.Configurations.{Configuration, IsConfOf}
 use Rattle.conf_text.specs.Settings.{managed_of}
-use Rattle.evidence.specs.Laws.{AreNumbered}
+use Rattle.evidence.specs.Laws.{AreNumbered, AreSharedWithOthers}
 use Rattle.evidence.specs.HeldAddresses.{mets_of, RestOnEvidence}
 use Rattle.lease_evidence.proofs.Joining.{LeaseRelation}
 use Rattle.evidence.proofs.Items.{items_have_basis}
@@ -36,6 +36,7 @@ use Rattle.evidence.proofs.Foretold.{foretold}
 use Rattle.dhcpcd.specs.Replays.{IsScript, configuration_text, managed_in, failing_in, at_first, Failing, Between, world_in, after_life}
 use Rattle.dhcpcd.proofs.LifeLeft.{left_in_order}
 use Rattle.dhcpcd.proofs.ManagedApart.{managed_numbered}
+use Rattle.dhcpcd.proofs.SharesApart.{shared_with_others}
 use Rattle.dhcpcd.proofs.Refusals.{spelled_fits, in_force, ifaces_fit}
 use Rattle.dhcpcd.specs.Sound.{BringsBytes}
 use Rattle.dhcpcd.specs.HostHeld.{lived_on, IsTurn, HoldsRightly, AllHoldRightly}
@@ -79,6 +80,9 @@ module _ (text : List ℕ) (conf : Configuration) (is : IsConfOf text (Ok conf))
   numbered : AreNumbered managed
   numbered = managed_numbered conf specs fits.counted
 
+  others : AreSharedWithOthers managed
+  others = shared_with_others conf specs fits.counted
+
   fit : AreManaged managed
   fit = let all = in_force text conf is specs fits in all.fit
 
@@ -115,10 +119,10 @@ module _ (text : List ℕ) (conf : Configuration) (is : IsConfOf text (Ok conf))
     life_holds = record {
       opening_holds = opening_holds managed specs world shares sorted;
       turns_hold = λ earlier given. turn_in_life managed specs world shares sorted earlier given;
-      opening_rests = λ well. opening_rests LeaseRelation leases_based items_have_basis managed specs world fit shares numbered sorted well;
+      opening_rests = λ well. opening_rests LeaseRelation leases_based items_have_basis managed specs world fit shares others numbered sorted well;
       turns_rest = λ earlier given coming turn well.
           subst (λ (ms : List Met). RestOnEvidence managed specs (opening_of managed specs world) ms (lived_on managed specs world earlier given).world.host.told.rows) (handled_mets earlier given coming turn)
-          (turns_rest LeaseRelation leases_based items_have_basis managed specs world earlier given fit shares numbered
+          (turns_rest LeaseRelation leases_based items_have_basis managed specs world earlier given fit shares others numbered
           (up_to earlier given coming (subst (AllByRecursion BringsBytes) turn.stands octets)) sorted well);
     }
 

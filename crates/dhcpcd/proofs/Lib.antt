@@ -7,6 +7,7 @@ pub mod AskedApart
 pub mod CheckTexts
 pub mod Refusals
 pub mod ManagedApart
+pub mod SharesApart
 pub mod WholeLife
 pub mod LifeLeft
 pub mod Joined

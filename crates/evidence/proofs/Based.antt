@@ -1,8 +1,8 @@
 -- Over every life, the addresses that the client wants have their basis.
-use Rattle.std.proofs.Common.{◌≡◌, ℕ, Bool, false, List, [], ◌∷◌, map, arith, ◌⊎◌, inl, inr, Option, Some, None, refl, sym, ap, subst, ◌∙◌, lit<}
+use Rattle.std.proofs.Common.{◌≡◌, ℕ, Bool, false, List, [], ◌∷◌, map, arith, ◌⊎◌, ◌≢◌, inl, inr, Option, Some, None, refl, sym, ap, subst, ◌∙◌, lit<}
 use Rattle.std.specs.Prelude.{if◌then◌else◌}
 use Rattle.std.specs.List.{AllByRecursion, Contains}
-use Rattle.std.proofs.lemmas.List.Elements.{All-contains_itself, recursion_from_All}
+use Rattle.std.proofs.lemmas.List.Elements.{All-contains, All-contains_itself, All-from_recursion, recursion_from_All}
 use Rattle.net_types.proofs.AllLaws.{all_both, all_mapped}
 use Rattle.net_types.proofs.CaseLaws.{split}
 use Rattle.net_types.specs.declared.address.Net.{Net}
@@ -16,6 +16,7 @@ use Rattle.v4_client.specs.declared.states.State4.{State4}
 use Rattle.v4_client.specs.declared.states.State4.TheVariants.{Off}
 use Rattle.v4_client.specs.Clients.{ClientContent, held_of, is_held}
 use Rattle.world.specs.declared.rows.HostRow.TheVariants.{Addr}
+use Rattle.settings.specs.declared.dhcp6_conf.ShareConf.{ShareConf}
 use Rattle.settings.specs.declared.interfaces.Managed.{Managed}
 use Rattle.settings.specs.Fitting.{FitsManaged, AreManaged}
 use Rattle.script_model.specs.IfaceSets.{is_up}
@@ -43,9 +44,9 @@ use Rattle.local_evidence.specs.LinkLocalBasis.{LinkLocalBasis, StrongBasis}
 use Rattle.local_evidence.proofs.Weakening.{local_weaker}
 use Rattle.lease6_evidence.specs.HeldItems.{ItemHasBasis}
 use Rattle.lease6_evidence.specs.ItemBasis.{AddressBasis}
-use Rattle.evidence.specs.ShareBasis.{ShareBasis}
+use Rattle.evidence.specs.ShareBasis.{ShareBasis, SharesWithOthers}
 use Rattle.evidence.specs.StaticBasis.{StaticBasis}
-use Rattle.evidence.specs.Laws.{AreOctets, Basis, BasisWithoutDhcp, LeasedBasis, LeasedBasis6, StrongestBasis, HasBasis, HasBasisOf, HasBasisWithoutDhcp, HasShareBasis, IsShared, IsLife, AddressesHave, AddressesHaveBasis, OthersHaveBasis, site_of}
+use Rattle.evidence.specs.Laws.{AreOctets, AreSharedWithOthers, Basis, BasisWithoutDhcp, LeasedBasis, LeasedBasis6, StrongestBasis, HasBasis, HasBasisOf, HasBasisWithoutDhcp, HasShareBasis, IsShared, IsLife, AddressesHave, AddressesHaveBasis, NoShareOfItsOwn, OthersHaveBasis, site_of}
 use Rattle.evidence_words.proofs.Carrying.{Relation, IsCarried}
 use Rattle.evidence.proofs.Turns.{site_by, KeptOne, KeptAfter, KeepsRelation, keeps_carried, turns_kept, own_stays, opening_kept, opened_own}
 use Rattle.evidence.proofs.Rows.{Delegates, Giver, wanted_giver, iface_basis}
@@ -91,23 +92,34 @@ address_basis : (site : Site) (ia : IaLeaseContent) (item : Item6) (past : List 
 address_basis site ia item past address h =
     record { ask = h.ask; asked = h.asked; is_address = sym h.kind ∙ address; item = item.net; is_item = refl; basis = h.basis }
 
+contained : {X : Type 0} (P : X → Type 0) (xs : List X) (x : X) → AllByRecursion P xs → Contains xs x → P x
+contained P xs x all among = All-contains P xs x (All-from_recursion P xs all) among
+
 -- one that is a prefix, with a share
-share_basis : (site : Site) (index : IfIndex) (net : Net) (iface : Iface) (past : List Entry) → iface.managed ≡ site.managed
+share_basis : (site : Site) (index : IfIndex) (net : Net) (iface : Iface) (past : List Entry) → iface.managed ≡ site.managed → SharesWithOthers iface.managed
     → (d : Delegates index net iface) → ItemHasBasis site d.ia d.item past → ShareBasis site index net past
-share_basis site index net iface past same d h = record {
-  ask = h.ask;
-  asked = h.asked;
-  is_prefix = sym h.kind ∙ d.is_prefix;
-  prefix = d.item.net;
-  basis = h.basis;
-  share = d.share;
-  configured = subst (λ (m : Managed). Contains m.conf.dhcp6.shares d.share) same d.configured;
-  of_the_prefixes = d.of_the_prefixes ∙ h.iaid;
-  is_for = d.is_for;
-  subnet = d.subnet;
-  is_subnet = d.is_subnet;
-  gives = d.gives;
-}
+share_basis site index net iface past same others d h =
+    let elsewhere : d.share.outlet.iface ≢ iface.managed.spec.index =
+    contained (λ (share : ShareConf). share.outlet.iface ≢ iface.managed.spec.index) iface.managed.conf.dhcp6.shares d.share others d.configured in
+    record {
+      ask = h.ask;
+      asked = h.asked;
+      is_prefix = sym h.kind ∙ d.is_prefix;
+      prefix = d.item.net;
+      basis = h.basis;
+      share = d.share;
+      configured = subst (λ (m : Managed). Contains m.conf.dhcp6.shares d.share) same d.configured;
+      of_the_prefixes = d.of_the_prefixes ∙ h.iaid;
+      is_for = d.is_for;
+      is_another = λ own. elsewhere (sym d.is_for ∙ own ∙ ap (λ (m : Managed). m.spec.index) (sym same));
+      subnet = d.subnet;
+      is_subnet = d.is_subnet;
+      gives = d.gives;
+    }
+
+-- no share is of the interface upstream itself
+pub no_share_of_its_own : NoShareOfItsOwn
+no_share_of_its_own site net past basis = basis.is_another refl
 
 -- the DUID of the host is one where an interface is managed
 pub duid_fits : (managed : List Managed) (m : Managed) (read : Option Reading) → Contains managed m → AreManaged managed → IsDuid (host_duid managed read)
@@ -205,7 +217,7 @@ module _ (managed : List Managed) (specs : List IfSpec) (opening : OpeningMet) (
 
   -- ---- with leases
 
-  module _ (Carries : Relation) (leases : AreBased Carries) (items : ItemsAreBased) (fit : AreManaged managed) (octets : AreOctets mets) where
+  module _ (Carries : Relation) (leases : AreBased Carries) (items : ItemsAreBased) (fit : AreManaged managed) (others : AreSharedWithOthers managed) (octets : AreOctets mets) where
     record Both (iface : Iface) : Type 0 where
       other : Other iface
       leased : Of Carries leases.carried iface
@@ -253,7 +265,8 @@ module _ (managed : List Managed) (specs : List IfSpec) (opening : OpeningMet) (
               inr (record {
                 upstream = g.iface.managed;
                 among = g.is_such.other.among;
-                basis = share_basis (site_of managed specs opening g.iface.managed) index net g.iface shown refl d
+                basis = share_basis (site_of managed specs opening g.iface.managed) index net g.iface shown refl
+                    (contained SharesWithOthers managed g.iface.managed others g.is_such.other.among) d
                     (g.is_such.items_so d.lease d.ia d.item d.held d.among_ias d.among_items);
               })
         ]
@@ -276,8 +289,8 @@ weaker_here managed specs opening mets index net (inl strong) =
 weaker_here managed specs opening mets index net (inr share) = inr share
 
 pub have_basis : (Carries : Relation) → AreBased Carries → ItemsAreBased → AddressesHaveBasis
-have_basis Carries leases items managed specs opening mets is fit octets index net has =
-    weaker_here managed specs opening mets index net (have_strong managed specs opening mets is Carries leases items fit octets index net has)
+have_basis Carries leases items managed specs opening mets is fit others octets index net has =
+    weaker_here managed specs opening mets index net (have_strong managed specs opening mets is Carries leases items fit others octets index net has)
 
 pub others_have_basis : OthersHaveBasis
 others_have_basis managed specs opening mets is = others_have managed specs opening mets is

@@ -19,7 +19,7 @@ use Rattle.device_calls.specs.Worlds.{World}
 use Rattle.turn_model.specs.Lives.{OpeningMet, Met}
 use Rattle.turn_model.specs.Foretold.{ran_turn, met_of, told_turns, opening_of}
 use Rattle.turn_model.specs.HostInLife.{Running, running_opened, running_turned, running_after, life_run, table_of}
-use Rattle.evidence.specs.Laws.{AreNumbered, HasBasis}
+use Rattle.evidence.specs.Laws.{AreNumbered, AreSharedWithOthers, HasBasis}
 
 -- what the turns of a life meet
 abbrev pub mets_of : List Managed → Running → List Given → List Met
@@ -34,15 +34,16 @@ RestOnEvidence managed specs opening mets rows = (index : IfIndex) (net : Net) �
 
 -- so after an opening in which no host call failed
 abbrev pub OpeningRests : Type 0
-OpeningRests = (managed : List Managed) (specs : List IfSpec) (world : World) → AreManaged managed → SharesAreManaged managed → AreNumbered managed → InRowOrder world.host.told.rows
+OpeningRests = (managed : List Managed) (specs : List IfSpec) (world : World) → AreManaged managed → SharesAreManaged managed → AreSharedWithOthers managed → AreNumbered managed
+    → InRowOrder world.host.told.rows
     → let after = running_opened managed specs world in
     NoneFails managed world.host.failing (rows_of after.life.client) (unknown_table world.host.told)
     → RestOnEvidence managed specs (opening_of managed specs world) [] after.world.host.told.rows
 
 -- and after each turn in which none failed
 abbrev pub TurnsRest : Type 0
-TurnsRest = (managed : List Managed) (specs : List IfSpec) (world : World) (earlier : List Given) (given : Given) → AreManaged managed → SharesAreManaged managed → AreNumbered managed
-    → AllByRecursion (λ (g : Given). AreBytes g.bytes) (earlier ++ given ∷ []) → InRowOrder world.host.told.rows
+TurnsRest = (managed : List Managed) (specs : List IfSpec) (world : World) (earlier : List Given) (given : Given) → AreManaged managed → SharesAreManaged managed → AreSharedWithOthers managed
+    → AreNumbered managed → AllByRecursion (λ (g : Given). AreBytes g.bytes) (earlier ++ given ∷ []) → InRowOrder world.host.told.rows
     → let before = life_run managed specs world earlier in
     let after = running_turned managed before given in
     NoneFails managed world.host.failing (rows_of after.life.client) (table_of before)

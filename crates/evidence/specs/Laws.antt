@@ -23,7 +23,7 @@ use Rattle.evidence_words.specs.HostDuids.{duid_shown}
 use Rattle.evidence_words.specs.Inputs.{Site}
 use Rattle.evidence_words.specs.IfaceLives.{now_in}
 use Rattle.evidence.specs.StaticBasis.{StaticBasis}
-use Rattle.evidence.specs.ShareBasis.{ShareBasis}
+use Rattle.evidence.specs.ShareBasis.{ShareBasis, SharesWithOthers}
 use Rattle.local_evidence.specs.LinkLocalBasis.{LinkLocalBasis, StrongBasis}
 use Rattle.lease_evidence.specs.LeaseBasis.{LeaseBasis}
 use Rattle.lease6_evidence.specs.ItemBasis.{AddressBasis}
@@ -97,6 +97,10 @@ HasBasisWithoutDhcp managed specs opening mets index net =
 abbrev pub AreNumbered : List Managed → Type 0
 AreNumbered managed = IsDistinct nat_eq (map (λ m. m.spec.index.number) managed)
 
+-- no interface has a share of its own prefixes
+abbrev pub AreSharedWithOthers : List Managed → Type 0
+AreSharedWithOthers managed = AllByRecursion SharesWithOthers managed
+
 -- each turn makes the calls of a turn, one after another
 abbrev pub AreMade : List Managed → Life → List Met → Type 0
 AreMade managed from [] = Unit {0}
@@ -120,7 +124,8 @@ pub record IsLife (managed : List Managed) (specs : List IfSpec) (opening : Open
 
 abbrev pub AddressesHaveBasis : Type 0
 AddressesHaveBasis = (managed : List Managed) (specs : List IfSpec) (opening : OpeningMet) (mets : List Met)
-    → IsLife managed specs opening mets → AreManaged managed → AreOctets mets → AddressesHave (HasBasis managed specs opening mets) opening mets
+    → IsLife managed specs opening mets → AreManaged managed → AreSharedWithOthers managed → AreOctets mets
+    → AddressesHave (HasBasis managed specs opening mets) opening mets
 
 -- This needs nothing of the settings, nor of the frames that came in.
 abbrev pub OthersHaveBasis : Type 0
@@ -130,3 +135,7 @@ OthersHaveBasis = (managed : List Managed) (specs : List IfSpec) (opening : Open
 -- Interfaces that count from a number on have unlike numbers.
 abbrev pub CountedAreNumbered : Type 0
 CountedAreNumbered = (first : ℕ) (managed : List Managed) → CountsFrom first (map (λ m. m.spec) managed) → AreNumbered managed
+
+-- An interface has no address for a share of a prefix that is delegated to itself.
+abbrev pub NoShareOfItsOwn : Type 0
+NoShareOfItsOwn = (site : Site) (net : Net) (past : List Entry) → ShareBasis site site.managed.spec.index net past → ⊥

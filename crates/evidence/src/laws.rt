@@ -6,7 +6,7 @@ ghost use Rattle.turn_model.specs.Lives.{IsOpening, life_after};
 ghost use Rattle.evidence_words.specs.Entries.{shown_of};
 ghost use Rattle.evidence.specs.Endings.{EndsWithCarrier, EndsWithStop, StaticEndsWithStop, StaticIsConfigured, StaticNeedsCarrier, StaticWaitsForCarrier};
 ghost use Rattle.evidence.specs.HeldAddresses.{ForetoldAreMet, OpeningRests, TurnsRest};
-ghost use Rattle.evidence.specs.Laws.{AddressesHaveBasis, AreMade, CountedAreNumbered, OthersHaveBasis, site_of};
+ghost use Rattle.evidence.specs.Laws.{AddressesHaveBasis, AreMade, CountedAreNumbered, NoShareOfItsOwn, OthersHaveBasis, site_of};
 ghost use Rattle.local_evidence.specs.LinkLocalBasis.{LinkLocalBasis};
 ghost use Rattle.evidence.specs.SevenTurns.{chosen_net, interface, opens, seven_shown, seven_turns};
 
@@ -47,6 +47,11 @@ pub fn addresses_end()
 /// Law: interfaces that count from 1, as those of a script do, have unlike numbers.
 pub fn counted_interfaces_are_numbered()
     ensures { CountedAreNumbered }
+{}
+
+/// Law: an interface has no address for a share of a prefix that is delegated to itself.
+pub fn no_share_is_of_the_interface_upstream()
+    ensures { NoShareOfItsOwn }
 {}
 
 /// Law: a run of seven turns in which the client wants a link-local address, with its basis written out.
