@@ -1,0 +1,3 @@
+pub mod Spoken
+pub mod ReplyTexts
+pub mod ReadBack
