@@ -1,0 +1,3 @@
+pub mod GoingWell
+pub mod LocalHeld
+pub mod OneLife

@@ -1,0 +1,17 @@
+ghost use Rattle.std.specs.Prelude.{◌≡◌};
+ghost use Rattle.progress.specs.LocalHeld.{HeldInTime, StaysHeld, longest_probing};
+ghost use Rattle.progress.specs.OneLife.{OneLifeGoesWell};
+
+/// Law of a link-local machine, over every list of its events. Where each comes no later than was asked for, the link takes
+/// the frames, the carrier stays and nobody contests the choice, an address is held seven seconds after the moment for
+/// which it was armed, or sooner (RFC 3927, sections 2.2.1 and 9); and what is held stays so (section 2.5).
+pub fn link_local_is_held()
+    ensures held { HeldInTime }
+    ensures stays { StaysHeld }
+    ensures sum { longest_probing ≡ 7000 }
+{}
+
+/// Law: the premises can be met. One life is written out for which they hold, up to a minute after the gain.
+pub fn link_local_premises_are_met()
+    ensures { OneLifeGoesWell }
+{}

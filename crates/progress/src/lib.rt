@@ -1,0 +1,8 @@
+//! What ought to happen does, where the network is as good as is stated.
+//!
+//! A leaf: no other crate stands on it.
+#![tactic(auto)]
+
+mod laws;
+
+pub use laws::{link_local_is_held, link_local_premises_are_met};
