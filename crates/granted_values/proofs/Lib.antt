@@ -1,0 +1,4 @@
+pub mod Spelled
+pub mod NumbersRead
+pub mod RoutesRead
+pub mod ValuesRead

@@ -1,0 +1,3 @@
+pub mod AckValues
+pub mod ValueTexts
+pub mod ReadBack
