@@ -1,4 +1,5 @@
--- That the basis of an item ends with what takes the item away, in other words than the basis has.
+-- That the basis of an item ends with what takes the item away (RFC 8415, sections 18.2.7, 18.2.8, 18.2.10.1 and 18.2.12), in
+-- other words than the basis has.
 use Rattle.std.specs.Prelude.{◌≡◌, ℕ, true, false, List, ◌∷◌, ◌++◌, Some}
 use Rattle.std.specs.List.{Contains}
 use Rattle.net_types.specs.declared.address.Net6.{Net6}

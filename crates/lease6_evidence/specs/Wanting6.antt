@@ -1,4 +1,5 @@
--- What the basis of an item can't do without, in other words than the basis has.
+-- What the basis of an item can't do without (RFC 8415, sections 16.10, 18.2.1, 18.2.10 and 21.4), in other words than the basis
+-- has.
 use Rattle.std.specs.Prelude.{◌≡◌, ◌≢◌, ℕ, true, false, ◌⊎◌, List, ◌∷◌, ◌++◌, Some}
 use Rattle.std.specs.List.{AllByRecursion, Contains}
 use Rattle.machine.specs.Since.{Always}

@@ -88,17 +88,18 @@ pub fn first_replies_alone_give_items()
     ensures { FirstAloneGives }
 {}
 
-/// Law: no item has a basis where no message that came in has it among what counts of its IA.
+/// Law: no item has a basis where no message that came in has it among what counts of its IA (RFC 8415, section 18.2.10.1).
 pub fn items_are_named()
     ensures { NeedsItsName }
 {}
 
-/// Law: no address has one as that of an IA_NA where no good Reply named it for one that the interface asks for.
+/// Law: no address has one as that of an IA_NA where no good Reply named it for one that the interface asks for (RFC 8415,
+/// section 21.4).
 pub fn addresses_are_asked_for()
     ensures { AddressesAreAsked }
 {}
 
-/// Law: so no item that is held, of an IA of its kind and IAID.
+/// Law: so no item that is held, of an IA of its kind and IAID (RFC 8415, sections 21.4 and 21.21).
 pub fn held_items_are_asked_for()
     ensures { HeldItemsAreAsked }
 {}
