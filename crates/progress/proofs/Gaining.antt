@@ -22,27 +22,27 @@ use Rattle.progress.proofs.Staying.{at_state, event_stays}
 
 -- Until the address is held, the next due moment stays so far before the end as the probes that are left may take.
 
-abbrev Probed : (end now n due : ℕ) → Type 0
+abbrev pub Probed : (end now n due : ℕ) → Type 0
 Probed end now n due = (n ≤ 3) × (now ≤ due) × (due + 6000 ≤ end + 2000 * n)
 
-abbrev PendingPhase : (end now : ℕ) → Phase → Type 0
+abbrev pub PendingPhase : (end now : ℕ) → Phase → Type 0
 PendingPhase end now (Probing n due) = Probed end now n due
 PendingPhase end now (Announcing due last) = ⊥
 PendingPhase end now (Held last) = ⊥
 PendingPhase end now Over = ⊥
 
-abbrev Pending : (end now : ℕ) → State → Type 0
+abbrev pub Pending : (end now : ℕ) → State → Type 0
 Pending end now Off = ⊥
 Pending end now (Armed due waits fallback) = (fallback ≡ Choose) × (now ≤ due) × (due + 7000 ≤ end)
 Pending end now (Chosen conflicts acd) = PendingPhase end now acd.phase
 Pending end now (Waiting conflicts due) = ⊥
 
-record Gained (end now : ℕ) (state : State) : Type 0 where
+pub record Gained (end now : ℕ) (state : State) : Type 0 where
   pub addr : Ip4
   pub held : held_in state ≡ Some addr
   pub in_time : now ≤ end
 
-abbrev After : (end now : ℕ) → State → Type 0
+abbrev pub After : (end now : ℕ) → State → Type 0
 After end now state = Pending end now state ⊎ Gained end now state
 
 -- ---- moments
@@ -126,7 +126,7 @@ phase_goes own iface conflicts i a (Announcing due last') end last event p promp
 phase_goes own iface conflicts i a (Held last') end last event p prompt taken up alone = absurd p
 phase_goes own iface conflicts i a Over end last event p prompt taken up alone = absurd p
 
-step_goes : (own : List Mac) (iface : IfIndex) (state : State) (end last : ℕ) (event : LlEvent)
+pub step_goes : (own : List Mac) (iface : IfIndex) (state : State) (end last : ℕ) (event : LlEvent)
     → Pending end last state → NotAfter (due_of state) last (moment event) → LinkTakes event → CarrierStays event
     → NobodyContests own state event
     → After end (moment event) (ll_step own (at_state iface state) event).ll.state
@@ -179,7 +179,7 @@ too_late end now due past le h = grind arith
 before : (end due : ℕ) → due + 7000 ≤ end → due ≤ end
 before end due h = omega arith
 
-same : (n : ℕ) → n ≤ n
+pub same : (n : ℕ) → n ≤ n
 same n = omega arith
 
 none_probing : (end now : ℕ) (phase : Phase) → end < now → PendingPhase end now phase → ⊥
@@ -188,7 +188,7 @@ none_probing end now (Announcing due last) past p = p
 none_probing end now (Held last) past p = p
 none_probing end now Over past p = p
 
-none_left : (end now : ℕ) (state : State) → end < now → Pending end now state → ⊥
+pub none_left : (end now : ℕ) (state : State) → end < now → Pending end now state → ⊥
 none_left end now Off past p = p
 none_left end now (Armed due waits fallback) past p = too_late end now due past p.1 (before end due p.2)
 none_left end now (Chosen conflicts acd) past p = none_probing end now acd.phase past p

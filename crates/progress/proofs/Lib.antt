@@ -1,3 +1,5 @@
 mod Gaining
 mod Instance
+mod Interface
 mod Staying
+mod Turns

@@ -49,10 +49,15 @@ contests_in own addr (Announcing due last) arp = is_used own addr arp
 contests_in own addr (Held last) arp = is_used own addr arp
 contests_in own addr Over arp = false
 
+-- no packet contests the address that is chosen
+abbrev pub IsUncontested : List Mac → State → ArpView → Type 0
+IsUncontested own (Chosen conflicts acd) arp = contests_in own acd.addr acd.phase arp ≡ false
+IsUncontested own _ arp = Unit {0}
+
 -- Nobody contests the choice (RFC 3927, sections 2.2.1 and 2.5).
 abbrev pub NobodyContests : List Mac → State → LlEvent → Type 0
-NobodyContests own (Chosen conflicts acd) (Heard arp at salt) = contests_in own acd.addr acd.phase arp ≡ false
-NobodyContests own _ _ = Unit {0}
+NobodyContests own state (Heard arp at salt) = IsUncontested own state arp
+NobodyContests own state _ = Unit {0}
 
 pub record IsFair (own : List Mac) (iface : IfIndex) (event : LlEvent) (past : List LlEvent) : Type 0 where
   pub taken : LinkTakes event

@@ -1,3 +1,5 @@
 pub mod GoingWell
+pub mod InterfaceHeld
 pub mod LocalHeld
 pub mod OneLife
+pub mod TurnsGoingWell

@@ -1,4 +1,5 @@
 ghost use Rattle.std.specs.Prelude.{◌≡◌};
+ghost use Rattle.progress.specs.InterfaceHeld.{InterfaceHoldsInTime};
 ghost use Rattle.progress.specs.LocalHeld.{HeldInTime, StaysHeld, longest_probing};
 ghost use Rattle.progress.specs.OneLife.{OneLifeGoesWell};
 
@@ -9,6 +10,13 @@ pub fn link_local_is_held()
     ensures held { HeldInTime }
     ensures stays { StaysHeld }
     ensures sum { longest_probing ≡ 7000 }
+{}
+
+/// Law of an interface's run, over every setting without DHCPv4 that lets it choose an address, every salt and list of
+/// turns, from an opening with carrier on. Where turns come no later than asked for, the link takes the frames, the carrier
+/// stays and nobody contests the choice, it holds an address seven seconds after its opening, or sooner, and from then on.
+pub fn interfaces_hold_link_local()
+    ensures { InterfaceHoldsInTime }
 {}
 
 /// Law: the premises can be met. One life is written out for which they hold, up to a minute after the gain.

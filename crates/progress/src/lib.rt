@@ -5,4 +5,4 @@
 
 mod laws;
 
-pub use laws::{link_local_is_held, link_local_premises_are_met};
+pub use laws::{interfaces_hold_link_local, link_local_is_held, link_local_premises_are_met};
