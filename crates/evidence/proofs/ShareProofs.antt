@@ -1,18 +1,15 @@
 -- What the basis of a share can't do without.
-use Rattle.std.proofs.Common.{◌≡◌, ◌≢◌, ℕ, ◌+◌, ◌-◌, List, [], ◌∷◌, map, Option, Some, refl, sym, ap, subst, ◌∙◌, arith}
+use Rattle.std.proofs.Common.{◌≡◌, ◌≢◌, ℕ, ◌+◌, ◌-◌, List, [], ◌∷◌, map, Option, sym, ap, subst, ◌∙◌, arith}
 use Rattle.std.specs.Prelude.{IfSome}
-use Rattle.std.specs.List.{AllByRecursion, Contains}
+use Rattle.std.specs.List.{AllByRecursion}
 use Rattle.machine.specs.Since.{Always}
-use Rattle.net_types.specs.declared.address.Net.{Net}
 use Rattle.net_types.specs.declared.address.Net.TheVariants.{V6}
 use Rattle.net_types.specs.declared.address.Net6.{Net6}
 use Rattle.prefix_share.specs.SubnetLaws.{HasBits}
-use Rattle.prefix_share.specs.Subnets.{FitsShare, subnet_in}
 use Rattle.prefix_share.proofs.SubnetBits.{have_their_bits}
 use Rattle.settings.specs.declared.dhcp6_conf.IaConf.{IaConf}
 use Rattle.settings.specs.declared.dhcp6_conf.ShareConf.{ShareConf}
 use Rattle.settings.specs.Dhcp6Settings.{FitsShareConf}
-use Rattle.settings.specs.Fitting.{FitsManaged}
 use Rattle.v6_client.specs.declared.settings.IaAsk.{IaAsk}
 use Rattle.v6_options.specs.declared.ia.IaKind.{IaKind}
 use Rattle.v6_options.specs.declared.ia.IaKind.TheVariants.{Na, Pd}

@@ -1,5 +1,5 @@
 -- What the basis of a share can't do without, in other words than the basis has.
-use Rattle.std.specs.Prelude.{◌≡◌, ◌≢◌, ℕ, ◌-◌, List}
+use Rattle.std.specs.Prelude.{◌≡◌, ◌≢◌, ◌-◌, List}
 use Rattle.std.specs.List.{AllByRecursion, Contains}
 use Rattle.machine.specs.Since.{Always}
 use Rattle.net_types.specs.declared.address.Net.{Net}
