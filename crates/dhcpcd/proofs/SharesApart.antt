@@ -11,7 +11,6 @@ use Rattle.net_types.specs.declared.interface.IfSpec.{IfSpec}
 use Rattle.net_types.specs.NameText.{name_text}
 use Rattle.prefix_share.specs.declared.share.Share.{Share}
 use Rattle.settings.specs.declared.dhcp6_conf.ShareConf.{ShareConf}
-use Rattle.settings.specs.declared.interfaces.Managed.{Managed}
 use Rattle.script_model.specs.Scripts.{CountsFrom}
 use Rattle.conf_text.specs.Associations.{Association, associations}
 use Rattle.conf_text.specs.Choosing.{is_managed, scope_for, spec_named}

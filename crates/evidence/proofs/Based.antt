@@ -46,7 +46,7 @@ use Rattle.lease6_evidence.specs.HeldItems.{ItemHasBasis}
 use Rattle.lease6_evidence.specs.ItemBasis.{AddressBasis}
 use Rattle.evidence.specs.ShareBasis.{ShareBasis, SharesWithOthers}
 use Rattle.evidence.specs.StaticBasis.{StaticBasis}
-use Rattle.evidence.specs.Laws.{AreOctets, AreSharedWithOthers, Basis, BasisWithoutDhcp, LeasedBasis, LeasedBasis6, StrongestBasis, HasBasis, HasBasisOf, HasBasisWithoutDhcp, HasShareBasis, IsShared, IsLife, AddressesHave, AddressesHaveBasis, NoShareOfItsOwn, OthersHaveBasis, site_of}
+use Rattle.evidence.specs.Laws.{AreOctets, AreSharedWithOthers, Basis, BasisWithoutDhcp, LeasedBasis, LeasedBasis6, StrongestBasis, HasBasis, HasBasisOf, HasBasisWithoutDhcp, HasShareBasis, IsShared, IsLife, AddressesHave, AddressesHaveBasis, OthersHaveBasis, site_of}
 use Rattle.evidence_words.proofs.Carrying.{Relation, IsCarried}
 use Rattle.evidence.proofs.Turns.{site_by, KeptOne, KeptAfter, KeepsRelation, keeps_carried, turns_kept, own_stays, opening_kept, opened_own}
 use Rattle.evidence.proofs.Rows.{Delegates, Giver, wanted_giver, iface_basis}
@@ -92,7 +92,7 @@ address_basis : (site : Site) (ia : IaLeaseContent) (item : Item6) (past : List 
 address_basis site ia item past address h =
     record { ask = h.ask; asked = h.asked; is_address = sym h.kind ∙ address; item = item.net; is_item = refl; basis = h.basis }
 
-contained : {X : Type 0} (P : X → Type 0) (xs : List X) (x : X) → AllByRecursion P xs → Contains xs x → P x
+pub contained : {X : Type 0} (P : X → Type 0) (xs : List X) (x : X) → AllByRecursion P xs → Contains xs x → P x
 contained P xs x all among = All-contains P xs x (All-from_recursion P xs all) among
 
 -- one that is a prefix, with a share
@@ -116,10 +116,6 @@ share_basis site index net iface past same others d h =
       is_subnet = d.is_subnet;
       gives = d.gives;
     }
-
--- no share is of the interface upstream itself
-pub no_share_of_its_own : NoShareOfItsOwn
-no_share_of_its_own site net past basis = basis.is_another refl
 
 -- the DUID of the host is one where an interface is managed
 pub duid_fits : (managed : List Managed) (m : Managed) (read : Option Reading) → Contains managed m → AreManaged managed → IsDuid (host_duid managed read)

@@ -4,6 +4,7 @@ pub mod Keeping
 pub mod Turns
 pub mod Rows
 pub mod Based
+pub mod ShareProofs
 pub mod HostRests
 pub mod Numbered
 pub mod Foretold

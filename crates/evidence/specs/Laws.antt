@@ -135,7 +135,3 @@ OthersHaveBasis = (managed : List Managed) (specs : List IfSpec) (opening : Open
 -- Interfaces that count from a number on have unlike numbers.
 abbrev pub CountedAreNumbered : Type 0
 CountedAreNumbered = (first : ℕ) (managed : List Managed) → CountsFrom first (map (λ m. m.spec) managed) → AreNumbered managed
-
--- An interface has no address for a share of a prefix that is delegated to itself.
-abbrev pub NoShareOfItsOwn : Type 0
-NoShareOfItsOwn = (site : Site) (net : Net) (past : List Entry) → ShareBasis site site.managed.spec.index net past → ⊥

@@ -1,5 +1,6 @@
 pub mod StaticBasis
 pub mod ShareBasis
+pub mod ShareNeeds
 pub mod Laws
 pub mod HeldAddresses
 pub mod SevenTurns

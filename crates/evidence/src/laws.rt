@@ -6,9 +6,10 @@ ghost use Rattle.turn_model.specs.Lives.{IsOpening, life_after};
 ghost use Rattle.evidence_words.specs.Entries.{shown_of};
 ghost use Rattle.evidence.specs.Endings.{EndsWithCarrier, EndsWithStop, StaticEndsWithStop, StaticIsConfigured, StaticNeedsCarrier, StaticWaitsForCarrier};
 ghost use Rattle.evidence.specs.HeldAddresses.{ForetoldAreMet, OpeningRests, TurnsRest};
-ghost use Rattle.evidence.specs.Laws.{AddressesHaveBasis, AreMade, CountedAreNumbered, NoShareOfItsOwn, OthersHaveBasis, site_of};
+ghost use Rattle.evidence.specs.Laws.{AddressesHaveBasis, AreMade, CountedAreNumbered, OthersHaveBasis, site_of};
 ghost use Rattle.local_evidence.specs.LinkLocalBasis.{LinkLocalBasis};
 ghost use Rattle.evidence.specs.SevenTurns.{chosen_net, interface, opens, seven_shown, seven_turns};
+ghost use Rattle.evidence.specs.ShareNeeds.{NeedsAnotherInterface, NeedsDelegation, NeedsPrefix, NeedsReplyWithIt, NeedsSameIa, NeedsShare, SharesHaveTheirBits};
 
 /// Law: over every list of turns and outcomes, each address that the client wants has its basis in what the life showed
 /// of its interface: a static address, a choice that passed its probes (RFC 3927, sections 2.2.1 and 2.5), or a lease that a
@@ -49,9 +50,20 @@ pub fn counted_interfaces_are_numbered()
     ensures { CountedAreNumbered }
 {}
 
-/// Law: an interface has no address for a share of a prefix that is delegated to itself.
-pub fn no_share_is_of_the_interface_upstream()
-    ensures { NoShareOfItsOwn }
+/// Law: no address has a basis as a share without a prefix that another interface asks for and is given, and a share of its IA
+/// that is configured for this interface (RFC 3633, section 12.1).
+pub fn shares_need_a_prefix()
+    ensures another { NeedsAnotherInterface }
+    ensures delegation { NeedsDelegation }
+    ensures prefix { NeedsPrefix }
+    ensures reply { NeedsReplyWithIt }
+    ensures configured { NeedsShare }
+    ensures same { NeedsSameIa }
+{}
+
+/// Law: such an address is the one after the first of those that have the prefix's bits, and then the share's own.
+pub fn shares_have_their_bits()
+    ensures { SharesHaveTheirBits }
 {}
 
 /// Law: a run of seven turns in which the client wants a link-local address, with its basis written out.
