@@ -13,6 +13,8 @@ pub const FILES: &str = "files";
 /// What the daemon calls for rows and hooks, which is this program, and the hook that it runs.
 pub const HOST: &str = "host";
 pub const HOOK: &str = "hook";
+/// Where the hook stands that a folder begins with: beside this program, or in the repository that has both.
+const HOOKS: [&str; 2] = [HOOK, "../../../hook"];
 const LOCK: &str = "lock";
 
 /// A folder that no other run has.
@@ -48,7 +50,8 @@ impl Folder {
         replace_link(&program, &path.join(HOST))?;
         let hook = path.join(HOOK);
         if fs::symlink_metadata(&hook).is_err() {
-            symlink(beside(&program, HOOK), hook)?;
+            let found = HOOKS.iter().map(|name| beside(&program, name)).find(|path| path.exists());
+            symlink(found.unwrap_or_else(|| beside(&program, HOOK)), hook)?;
         }
         fs::write(path.join(INTERFACES), interfaces.iter().map(|name| format!("{name}\n")).collect::<String>())?;
         Ok(Folder { path, _lock: lock })
