@@ -16,7 +16,7 @@ use crate::rows::{Entry, Row};
 use crate::say;
 use crate::signals::{Asks, Signals};
 use crate::states::Standing;
-use crate::table::Table;
+use crate::table::{Leaves, Over, Table};
 use crate::transcript::{Reading, Said};
 use crate::waiting::{wait, Source};
 use nix::sys::inotify::{AddWatchFlags, InitFlags, Inotify};
@@ -40,6 +40,8 @@ const STOP: Duration = Duration::from_secs(8);
 const READY: Duration = Duration::from_secs(30);
 /// How often it is asked whether the host was suspended, by a clock that goes on then.
 const ASLEEP: TimeSpec = TimeSpec::from_duration(Duration::from_secs(120));
+/// How long after a row of the daemon's what an earlier run left is looked at.
+const TIDY_AFTER: Duration = Duration::from_secs(2);
 const RESOLV: &str = "resolv.conf";
 const LEASE4: &str = ".lease4";
 const LEASE6: &str = ".lease6";
@@ -81,6 +83,7 @@ pub struct Run {
     stop: Standing<bool>,
     stop_by: Option<Instant>,
     look_at: Option<Instant>,
+    tidy_at: Option<Instant>,
     ready_by: Instant,
     puts: BTreeMap<String, (Budget, bool)>,
     end: Option<End>,
@@ -108,11 +111,15 @@ impl Run {
             stop: Standing::new(false),
             stop_by: None,
             look_at: None,
+            tidy_at: None,
             ready_by: Instant::now() + READY,
             puts: BTreeMap::new(),
             end: None,
         };
         run.read_files();
+        if run.parts.is_persistent {
+            run.parts.table.set_leaves(Leaves::Rows);
+        }
         Ok(run)
     }
 
@@ -144,7 +151,7 @@ impl Run {
 
     fn due(&self, now: Instant) -> Option<Instant> {
         let ready = Some(self.ready_by).filter(|_| !self.notify.is_ready());
-        [self.parts.bridge.due(now), self.stop.due(now), self.stop_by, self.look_at, ready].into_iter().flatten().min()
+        [self.parts.bridge.due(now), self.stop.due(now), self.stop_by, self.look_at, self.tidy_at, ready].into_iter().flatten().min()
     }
 
     fn act(&mut self, now: Instant) {
@@ -159,6 +166,10 @@ impl Run {
         if self.look_at.map_or(false, |at| at <= now) {
             self.look_at = None;
             self.look(now);
+        }
+        if self.tidy_at.map_or(false, |at| at <= now) {
+            self.tidy_at = None;
+            self.end_left(Over::Replaced);
         }
         if !self.notify.is_ready() && self.ready_by <= now {
             self.notify.ready();
@@ -192,7 +203,10 @@ impl Run {
                     self.notify.stopping();
                 }
                 Asks::Rebind => self.parts.bridge.tell_all(Told::Rebind),
-                Asks::Release => self.parts.bridge.tell_all(Told::Release),
+                Asks::Release => {
+                    self.parts.bridge.tell_all(Told::Release);
+                    self.end_left(Over::All);
+                }
                 // its transcript ends too
                 Asks::Child => {}
             }
@@ -203,10 +217,24 @@ impl Run {
         if meaning.rows && self.look_at.is_none() {
             self.look_at = Some(now + LOOK_AFTER);
         }
+        let down: Vec<usize> = self.parts.bridge.ports.iter().filter(|port| !port.carrier.now()).map(|port| port.place).collect();
+        for place in down {
+            self.end_left(Over::Place(place));
+        }
         let came = meaning.others.iter().find(|name| self.parts.missing.contains(name));
         if let Some(why) = meaning.anew.or_else(|| came.map(|name| format!("{name} came"))) {
             say!(Warning, "{why}: the run begins anew");
             self.end = Some(End::Anew);
+        }
+    }
+
+    /// What an earlier run left goes, as far as it is over.
+    fn end_left(&mut self, over: Over) {
+        if !self.parts.table.has_left() {
+            return;
+        }
+        if let Err(error) = self.parts.table.end_left(over) {
+            say!(Warning, "what an earlier run left: {error}");
         }
     }
 
@@ -241,6 +269,9 @@ impl Run {
             Ok(_) => {}
             Err(error) if error.kind() == io::ErrorKind::WouldBlock => {}
             Err(error) => say!(Warning, "a call of the script: {error}"),
+        }
+        if self.parts.table.has_left() {
+            self.tidy_at = Some(Instant::now() + TIDY_AFTER);
         }
         self.tell_systemd();
     }
@@ -308,6 +339,11 @@ impl Run {
         if let Some(interface) = name.strip_suffix(LEASE4) {
             let mtu = lease.as_ref().and_then(|lease| lease.mtu);
             self.mtus.set(self.parts.table.kernel(), interface, mtu);
+        }
+        let interface = name.trim_end_matches(LEASE4).trim_end_matches(LEASE6);
+        let place = self.parts.bridge.ports.iter().find(|port| port.name == interface).map(|port| port.place);
+        if let (None, Some(place)) = (&lease, place) {
+            self.end_left(Over::Place(place));
         }
         if let Err(error) = self.parts.table.set_lease(name, lease, self.parts.clock.moment()) {
             say!(Warning, "lifetimes of {name}: {error}");

@@ -25,7 +25,26 @@ pub struct Table {
     boot: String,
     names: Vec<String>,
     wanted: Vec<Row>,
+    /// What an earlier run left for this one: it stays until the daemon wants it again, or another in its place.
+    left: Vec<Row>,
+    leaves: Leaves,
     leases: BTreeMap<String, Lease>,
+}
+
+/// Whether rows of an earlier run are taken from the daemon's listing, so that it takes none away that it will want again.
+#[derive(Clone, Copy, Debug, PartialEq, Eq)]
+pub enum Leaves {
+    Nothing,
+    Rows,
+}
+
+/// Whose rows are over.
+#[derive(Clone, Copy, Debug, PartialEq, Eq)]
+pub enum Over {
+    All,
+    Place(usize),
+    /// Those of a family that the daemon has rows of again.
+    Replaced,
 }
 
 impl Table {
@@ -38,6 +57,8 @@ impl Table {
             boot: std::fs::read_to_string(BOOT).unwrap_or_default().trim().to_string(),
             names: names.lines().map(str::to_string).collect(),
             wanted: Vec::new(),
+            left: Vec::new(),
+            leaves: Leaves::Nothing,
             leases: BTreeMap::new(),
         };
         table.recall();
@@ -63,7 +84,7 @@ impl Table {
     /// Writes the rows that are wanted down, whole or not at all.
     fn note(&self) -> io::Result<()> {
         let mut text = format!("{}\n", self.boot);
-        for row in &self.wanted {
+        for row in self.wanted.iter().chain(&self.left) {
             text.push_str(&format!("{} {row}\n", self.name(row)));
         }
         let aside = self.file.with_extension("new");
@@ -87,7 +108,7 @@ impl Table {
         for address in self.kernel.addresses()? {
             if let Some(place) = places.get(&address.index) {
                 let row = Row { place: *place, entry: Entry::Address(address.net) };
-                if is_kept(&address) && (self.wanted.contains(&row) || is_of_client(&address)) {
+                if is_kept(&address) && (self.wanted.contains(&row) || self.left.contains(&row) || is_of_client(&address)) {
                     rows.push(row);
                 }
             }
@@ -96,7 +117,7 @@ impl Table {
             let entry = Entry::Route(own.route);
             match own.route.way {
                 // the kernel keeps those without an interface
-                Way::Reject => rows.extend(self.wanted.iter().find(|row| row.entry == entry).copied()),
+                Way::Reject => rows.extend(self.wanted.iter().chain(&self.left).find(|row| row.entry == entry).copied()),
                 Way::Link | Way::Via(_) => rows.extend(places.get(&own.index).map(|place| Row { place: *place, entry })),
             }
         }
@@ -107,9 +128,40 @@ impl Table {
 
     /// The rows of a listing for the daemon, which goes on from there: they are what it wants now.
     pub fn list_anew(&mut self) -> io::Result<Vec<Row>> {
-        self.wanted = self.list()?;
+        let rows = self.list()?;
+        if std::mem::replace(&mut self.leaves, Leaves::Nothing) == Leaves::Rows {
+            self.left = rows.clone();
+        }
+        self.wanted = rows.into_iter().filter(|row| !self.left.contains(row)).collect();
         self.note()?;
         Ok(self.wanted.clone())
+    }
+
+    /// What an earlier run left isn't told of at the first listing.
+    pub fn set_leaves(&mut self, leaves: Leaves) {
+        self.leaves = leaves;
+    }
+
+    /// Whether something of an earlier run is there still.
+    pub fn has_left(&self) -> bool {
+        !self.left.is_empty()
+    }
+
+    /// Takes away what an earlier run left, as far as it is over.
+    pub fn end_left(&mut self, over: Over) -> io::Result<()> {
+        let is_over = |row: &Row| match over {
+            Over::All => true,
+            Over::Place(place) => row.place == place,
+            Over::Replaced => self.wanted.iter().any(|other| other.place == row.place && is_ip4(other) == is_ip4(row)),
+        };
+        let (over, left): (Vec<Row>, Vec<Row>) = self.left.iter().partition(|row| is_over(row));
+        if over.is_empty() {
+            return Ok(());
+        }
+        self.left = left;
+        // routes go before the addresses that they are from
+        over.iter().rev().map(|row| self.take_away(row)).fold(Ok(()), io::Result::and)?;
+        self.note()
     }
 
     /// Adds a row; `Ok` where the host then has it.
@@ -119,6 +171,7 @@ impl Table {
                 return Err(error);
             }
         }
+        self.left.retain(|other| other != row);
         if !self.wanted.contains(row) {
             self.wanted.push(*row);
         }
@@ -131,6 +184,12 @@ impl Table {
     pub fn remove(&mut self, row: &Row, now: Moment) -> io::Result<()> {
         self.wanted.retain(|other| other != row);
         self.note()?;
+        self.take_away(row)?;
+        self.mend(row, now);
+        Ok(())
+    }
+
+    fn take_away(&mut self, row: &Row) -> io::Result<()> {
         let removed = match self.index(row) {
             Ok(index) => match row.entry {
                 Entry::Address(net) => self.kernel.remove_address(index, net),
@@ -143,7 +202,6 @@ impl Table {
                 return Err(error);
             }
         }
-        self.mend(row, now);
         Ok(())
     }
 
@@ -278,6 +336,13 @@ impl Table {
 
     pub fn kernel(&mut self) -> &mut Kernel {
         &mut self.kernel
+    }
+}
+
+fn is_ip4(row: &Row) -> bool {
+    match row.entry {
+        Entry::Address(net) => net.address.is_ipv4(),
+        Entry::Route(route) => route.net.address.is_ipv4(),
     }
 }
 
