@@ -350,6 +350,51 @@ def service(net, score):
         expect(changes, "Deleted" not in changes and rows == (net.leased(4), net.routes()))
 
 
+RIGHTS = "+net_admin,+net_raw,+net_bind_service"
+
+
+class Lowered(Host):
+    """A run by a user without rights but those that the unit gives."""
+
+    def start(self):
+        words = ["--folder", self.folder, "--configuration", self.net.path("conf"), "--program", self.net.program]
+        lowered = ["setpriv", "--reuid", "65534", "--regid", "65534", "--clear-groups", "--no-new-privs"]
+        lowered += ["--inh-caps", RIGHTS, "--ambient-caps", RIGHTS, "--bounding-set", "-all," + RIGHTS]
+        os.chmod(self.net.folder, 0o755)
+        os.makedirs(self.folder, exist_ok=True)
+        os.chown(self.folder, 65534, 65534)
+        with open(self.log, "ab") as log, open(self.said, "ab") as said_to:
+            self.begun = time.monotonic()
+            self.link = self.net.start(CLIENT, [*lowered, LINK, *words, *self.links], stdout=log, stderr=said_to)
+
+
+def rights(net, score):
+    """The link as a user with three rights, and the daemon with none."""
+    for path in (LINK, net.program):
+        if os.stat(path).st_mode & 0o005 != 0o005 or not is_reachable(path):
+            score.skip("a user without rights", f"{path} can't be run by others")
+            return
+    Server(net)
+    host = Lowered(net, [*QUICK, "release", "ia_na"])
+    with score.step("it leads to addresses"):
+        await_lease(net)
+        wait_for("an address of IPv6", lambda: is_leased(net, 6))
+        wait_for("a hook", lambda: "BOUND" in host.reasons())
+    with score.step("the daemon has no right and another user than root"):
+        status = read(f"/proc/{host.daemon_number()}/status")
+        for name in ("CapEff", "CapPrm", "CapInh", "CapAmb"):
+            expect(f"{name} of it", re.search(rf"^{name}:\s*0+$", status, re.M))
+        expect("it is root", re.search(r"^Uid:\s*65534\s", status, re.M))
+    with score.step("a stop takes all away"):
+        host.stop()
+        expect("rows stay", not is_leased(net) and not is_leased(net, 6) and not net.routes())
+
+
+def is_reachable(path):
+    parts = path.split("/")
+    return all(os.stat("/".join(parts[:n]) or "/").st_mode & 0o001 for n in range(1, len(parts)))
+
+
 class Configured(Host):
     """A run whose words name no interface."""
 
@@ -375,4 +420,4 @@ def mtu(net, score):
         expect(f"it is {shown()}", shown() == "1500")
 
 
-LINK_TRIES = [lifetimes, others, rates, flood, tagged, plugged, told, service, mtu]
+LINK_TRIES = [lifetimes, others, rates, flood, tagged, plugged, told, service, rights, mtu]
