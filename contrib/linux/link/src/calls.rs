@@ -63,29 +63,36 @@ impl std::fmt::Display for Call {
 }
 
 const DONE: &str = "done\n";
-const FAILED: &str = "failed ";
+const FAILED: &str = "failed\n";
 
-/// Has a call answered: what is to be printed, or why it failed.
-pub fn ask(folder: &Path, call: &Call) -> Result<String, String> {
+/// Why a call failed.
+pub enum Failure {
+    /// The process that stays has told it.
+    Told,
+    Why(String),
+}
+
+/// Has a call answered: what is to be printed.
+pub fn ask(folder: &Path, call: &Call) -> Result<String, Failure> {
     match UnixStream::connect(folder.join(SOCKET)) {
-        Ok(stream) => ask_over(&stream, call).map_err(|error| error.to_string())?,
+        Ok(stream) => ask_over(&stream, call).map_err(|error| Failure::Why(error.to_string()))?.ok_or(Failure::Told),
         Err(_) => {
-            let mut table = Table::open(folder).map_err(|error| format!("{}: {error}", folder.display()))?;
-            call.answer(&mut table, 0).map_err(|error| error.to_string())
+            let mut table = Table::open(folder).map_err(|error| Failure::Why(format!("{}: {error}", folder.display())))?;
+            call.answer(&mut table, 0).map_err(|error| Failure::Why(error.to_string()))
         }
     }
 }
 
-fn ask_over(mut stream: &UnixStream, call: &Call) -> io::Result<Result<String, String>> {
+fn ask_over(mut stream: &UnixStream, call: &Call) -> io::Result<Option<String>> {
     stream.set_read_timeout(Some(PATIENCE))?;
     stream.write_all(call.line().as_bytes())?;
     let mut answer = String::new();
     stream.read_to_string(&mut answer)?;
-    Ok(match (answer.strip_suffix(DONE), answer.strip_prefix(FAILED)) {
-        (Some(printed), _) => Ok(printed.to_string()),
-        (None, Some(why)) => Err(why.trim_end().to_string()),
-        (None, None) => Err("no answer".to_string()),
-    })
+    match (answer.strip_suffix(DONE), answer.as_str()) {
+        (Some(printed), _) => Ok(Some(printed.to_string())),
+        (None, FAILED) => Ok(None),
+        (None, _) => Err(io::ErrorKind::UnexpectedEof.into()),
+    }
 }
 
 /// Opens the socket for calls.
@@ -122,7 +129,7 @@ pub fn serve(listener: &UnixListener, table: &mut Table, now: Moment) -> io::Res
     };
     let (text, failure) = match call.answer(table, now) {
         Ok(printed) => (format!("{printed}{DONE}"), None),
-        Err(error) => (format!("{FAILED}{error}\n"), Some(error)),
+        Err(error) => (FAILED.to_string(), Some(error)),
     };
     (&stream).write_all(text.as_bytes())?;
     Ok(Some((call, failure)))

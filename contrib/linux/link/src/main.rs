@@ -72,7 +72,8 @@ fn rows_call(folder: &Path, call: &calls::Call) -> i32 {
                 Err(_) => 1,
             }
         }
-        Err(why) => {
+        Err(calls::Failure::Told) => 1,
+        Err(calls::Failure::Why(why)) => {
             say!(Warning, "{call}: {why}");
             1
         }

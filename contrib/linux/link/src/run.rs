@@ -86,6 +86,7 @@ pub struct Run {
     tidy_at: Option<Instant>,
     ready_by: Instant,
     puts: BTreeMap<String, (Budget, bool)>,
+    failures: BTreeMap<String, Budget>,
     end: Option<End>,
 }
 
@@ -114,6 +115,7 @@ impl Run {
             tidy_at: None,
             ready_by: Instant::now() + READY,
             puts: BTreeMap::new(),
+            failures: BTreeMap::new(),
             end: None,
         };
         run.read_files();
@@ -265,7 +267,7 @@ impl Run {
 
     fn hear_call(&mut self) {
         match calls::serve(&self.listener, &mut self.parts.table, self.parts.clock.moment()) {
-            Ok(Some((call, Some(error)))) => say!(Warning, "{call}: {error}"),
+            Ok(Some((call, Some(error)))) => self.tell_failure(&call.to_string(), &error),
             Ok(_) => {}
             Err(error) if error.kind() == io::ErrorKind::WouldBlock => {}
             Err(error) => say!(Warning, "a call of the script: {error}"),
@@ -274,6 +276,14 @@ impl Run {
             self.tidy_at = Some(Instant::now() + TIDY_AFTER);
         }
         self.tell_systemd();
+    }
+
+    /// The daemon asks for what failed again each second; it is told now and then.
+    fn tell_failure(&mut self, call: &str, error: &io::Error) {
+        let new = || Budget::new(1, PUT_BACK_SPAN);
+        if self.failures.entry(call.to_string()).or_insert_with(new).spend(Instant::now()) {
+            say!(Warning, "{call}: {error}");
+        }
     }
 
     /// Ready once there is an address for more than the link.
