@@ -420,4 +420,91 @@ def mtu(net, score):
         expect(f"it is {shown()}", shown() == "1500")
 
 
-LINK_TRIES = [lifetimes, others, rates, flood, tagged, plugged, told, service, rights, mtu]
+class Dhcpd:
+    """ISC's server, with leases of so many seconds, and lines of its configuration."""
+
+    def __init__(self, net, seconds, *more):
+        subnet = " ".join([f"range 10.77.0.100 10.77.0.120; option routers {ROUTER};", *more])
+        lines = ["option classless code 121 = array of unsigned integer 8;", "authoritative;", "ping-check false;"]
+        lines += [f"default-lease-time {seconds};", f"max-lease-time {seconds};"]
+        lines += [f"subnet 10.77.0.0 netmask 255.255.255.0 {{ {subnet} }}"]
+        write_lines(net.path("dhcpd.conf"), lines)
+        write_lines(net.path("dhcpd.leases"), [])
+        words = ["-f", "-4", "-cf", net.path("dhcpd.conf"), "-lf", net.path("dhcpd.leases"), "-pf", net.path("pid"), "s0"]
+        self.child = net.start(SERVER, ["dhcpd", *words], stderr=subprocess.DEVNULL)
+
+    def end(self):
+        self.child.kill()
+        self.child.wait()
+
+
+def many(net, score):
+    """110 classless routes of ISC's server."""
+    if not shutil.which("dhcpd"):
+        score.skip("110 routes", "no dhcpd")
+        return
+    routes = [f"24, 198, 18, {n}, {ROUTER.replace('.', ', ')}" for n in range(110)]
+    Dhcpd(net, 600, f"option classless {', '.join(routes)};")
+    host = Host(net, QUICK)
+    with score.step("all of them are the kernel's"):
+        await_lease(net)
+        begun = time.monotonic()
+        wait_for("routes", lambda: len(net.routes()) == 111)
+        took = time.monotonic() - begun
+    print(f"         at most {1000 * took:.0f} ms from the address to the last route", flush=True)
+    with score.step("and a stop takes all of them away"):
+        host.link.terminate()
+        expect(f"status {host.link.wait(20)}", not is_leased(net) and not net.routes())
+
+
+def short(net, score):
+    """Leases of ten seconds, of ISC's server."""
+    if not shutil.which("dhcpd"):
+        score.skip("leases of ten seconds", "no dhcpd")
+        return
+    server = Dhcpd(net, 10)
+    host = Host(net, QUICK)
+    await_lease(net)
+    with score.step("a lease is renewed over and over"):
+        wait_for("three hooks", lambda: host.reasons().count("RENEW") >= 3, seconds=30)
+        expect("there is no address", is_leased(net))
+    with score.step("and ends in time without the server"):
+        server.end()
+        wait_for("its end", lambda: not is_leased(net) and not net.routes(), seconds=14)
+
+
+ROGUE = "$(touch rogue);`touch rogue`|touch rogue&\"';--x"
+
+
+def rogue(net, score):
+    """A server whose texts a shell would run."""
+    words = [f"--dhcp-option-force={code},{ROGUE}" for code in (12, 15)]
+    Server(net, *words, f"--dhcp-option-force=119,{ROGUE}.example")
+    host = Host(net, QUICK)
+    with score.step("nothing of them is run"):
+        await_lease(net)
+        wait_for("the hook", lambda: "BOUND" in host.reasons())
+        left_there = run("find", net.folder, os.getcwd(), "/tmp", "-maxdepth", "2", "-name", "rogue*").split()
+        expect(f"there is {left_there}", not left_there)
+
+
+def resolver(net, score):
+    """Whom the host asks for names."""
+    Server(net)
+    told_of = net.path("told")
+    script = ["#!/bin/sh", f'echo "$@" >>{told_of}', f'[ "$1" = -d ] || cat >>{told_of}']
+    write_lines(net.path("resolvconf"), script)
+    os.chmod(net.path("resolvconf"), 0o755)
+    words = [LINK, "--folder", net.path("host"), "--configuration", net.path("conf"), "--program", net.program, "--resolv"]
+    write_lines(net.path("conf"), QUICK)
+    # in a mount namespace of its own, so that this host's own isn't told
+    mount = f"mount -t tmpfs none /usr/sbin && cp {net.path('resolvconf')} /usr/sbin && exec \"$@\""
+    child = net.start(CLIENT, ["unshare", "--mount", "sh", "-c", mount, "sh", *words, "c0"], stdout=subprocess.DEVNULL)
+    with score.step("resolvconf is told of the servers, and of their end"):
+        wait_for("its words", lambda: "-a dhcpcd-link\n" in read(told_of) and f"nameserver {ROUTER}\n" in read(told_of))
+        child.terminate()
+        expect(f"status {child.wait(10)}", child.returncode == 0)
+        wait_for("its words", lambda: read(told_of).endswith("-d dhcpcd-link\n"), seconds=2)
+
+
+LINK_TRIES = [many, short, rogue, resolver, lifetimes, others, rates, flood, tagged, plugged, told, service, rights, mtu]

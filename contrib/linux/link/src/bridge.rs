@@ -94,8 +94,9 @@ impl Bridge {
         for port in &mut self.ports {
             port.resume(now);
             if port.carrier.due(now).map_or(false, |due| due <= now) {
-                let up = port.carrier.say(now);
+                let up = port.carrier.now();
                 let taken = self.wire.tell(port.place, Told::Carrier { up });
+                port.carrier.say(now, taken);
                 if taken && self.hearing == Hearing::Sending {
                     port.carrier.heard(up);
                 }

@@ -159,8 +159,8 @@ impl Run {
     fn act(&mut self, now: Instant) {
         self.parts.bridge.act(now);
         if self.stop.due(now).map_or(false, |due| due <= now) {
-            self.stop.say(now);
-            self.parts.bridge.wire.tell_stop();
+            let taken = self.parts.bridge.wire.tell_stop();
+            self.stop.say(now, taken);
         }
         if self.stop_by.map_or(false, |by| by <= now) {
             self.end = Some(End::NoStop);

@@ -4,8 +4,10 @@ use std::time::{Duration, Instant};
 
 /// How long an answer is waited for before a state is said again.
 const AGAIN: Duration = Duration::from_millis(500);
+/// The same where nobody took it, as before the daemon has its port.
+const SOON: Duration = Duration::from_millis(20);
 
-/// A state as it is here, as the daemon knows it, and as it was said last.
+/// A state as it is here, as the daemon knows it, and as it was said last, with when to say it again.
 pub struct Standing<T> {
     now: T,
     known: T,
@@ -33,17 +35,16 @@ impl<T: Copy + PartialEq> Standing<T> {
     /// When it is to be said; `None` where it stands.
     pub fn due(&self, at: Instant) -> Option<Instant> {
         match self.said {
-            Some((said, when)) if said == self.now => Some(when + AGAIN),
+            Some((said, again)) if said == self.now => Some(again),
             Some(_) => Some(at),
             None if self.known != self.now => Some(at),
             None => None,
         }
     }
 
-    /// It was said.
-    pub fn say(&mut self, at: Instant) -> T {
-        self.said = Some((self.now, at));
-        self.now
+    /// It was said, and taken or not.
+    pub fn say(&mut self, at: Instant, taken: bool) {
+        self.said = Some((self.now, at + if taken { AGAIN } else { SOON }));
     }
 
     /// The daemon has heard a state.
@@ -66,7 +67,7 @@ mod tests {
         assert_eq!(carrier.due(at), None);
         carrier.set(false);
         assert_eq!(carrier.due(at), Some(at));
-        assert!(!carrier.say(at));
+        carrier.say(at, true);
         assert_eq!(carrier.due(at), Some(at + AGAIN));
         carrier.heard(false);
         assert!(carrier.stands() && carrier.due(at).is_none());
@@ -77,14 +78,15 @@ mod tests {
         let at = Instant::now();
         let mut carrier = Standing::new(true);
         carrier.set(false);
-        carrier.say(at);
+        carrier.say(at, true);
         carrier.set(true);
         assert_eq!(carrier.due(at), Some(at));
-        carrier.say(at);
+        carrier.say(at, true);
         // the first of the two is heard, and the second one lost
         carrier.heard(false);
         assert_eq!(carrier.due(at), Some(at + AGAIN));
-        carrier.say(at + AGAIN);
+        carrier.say(at + AGAIN, false);
+        assert_eq!(carrier.due(at), Some(at + AGAIN + SOON));
         carrier.heard(true);
         assert!(carrier.stands());
     }
