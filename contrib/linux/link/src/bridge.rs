@@ -55,7 +55,10 @@ impl Bridge {
         let mut bridge = Bridge { wire, ports: Vec::new(), events, kernel: Kernel::open().map_err(failed)?, hearing };
         let links = bridge.kernel.links().map_err(failed)?;
         for (at, name) in names.iter().enumerate() {
-            let link = links.iter().find(|link| &link.name == name).ok_or_else(|| format!("{name}: there is no such interface"))?;
+            let link = links
+                .iter()
+                .find(|link| &link.name == name)
+                .ok_or_else(|| format!("{name}: there is no such interface"))?;
             let hardware = link.hardware.filter(|_| link.is_ethernet);
             let hardware = hardware.ok_or_else(|| format!("{name} is no Ethernet interface"))?;
             bridge.ports.push(Port::new(at + 1, name, hardware, Instant::now()));

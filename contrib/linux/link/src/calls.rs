@@ -77,7 +77,8 @@ pub fn ask(folder: &Path, call: &Call) -> Result<String, Failure> {
     match UnixStream::connect(folder.join(SOCKET)) {
         Ok(stream) => ask_over(&stream, call).map_err(|error| Failure::Why(error.to_string()))?.ok_or(Failure::Told),
         Err(_) => {
-            let mut table = Table::open(folder).map_err(|error| Failure::Why(format!("{}: {error}", folder.display())))?;
+            let mut table =
+                Table::open(folder).map_err(|error| Failure::Why(format!("{}: {error}", folder.display())))?;
             call.answer(&mut table, 0).map_err(|error| Failure::Why(error.to_string()))
         }
     }

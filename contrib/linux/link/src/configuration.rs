@@ -34,8 +34,12 @@ impl Named {
                     }
                 }
                 ["profile" | "ssid", ..] => is_global = false,
-                ["allowinterfaces", ref names @ ..] if is_global => named.allowed.extend(names.iter().map(|name| name.to_string())),
-                ["denyinterfaces", ref names @ ..] if is_global => named.denied.extend(names.iter().map(|name| name.to_string())),
+                ["allowinterfaces", ref names @ ..] if is_global => {
+                    named.allowed.extend(names.iter().map(|name| name.to_string()))
+                }
+                ["denyinterfaces", ref names @ ..] if is_global => {
+                    named.denied.extend(names.iter().map(|name| name.to_string()))
+                }
                 [PERSISTENT, ..] if is_global => named.is_persistent = true,
                 _ => {}
             }
@@ -97,7 +101,8 @@ pub fn check(program: &Path, file: &Path, bytes: &[u8]) -> std::io::Result<Vec<F
 }
 
 fn findings(file: &Path, bytes: &[u8], passed: bool, noticed: &str, refused: &str) -> Vec<Finding> {
-    let lines: Vec<String> = bytes.split(|byte| *byte == b'\n').map(|line| String::from_utf8_lossy(line).into_owned()).collect();
+    let lines: Vec<String> =
+        bytes.split(|byte| *byte == b'\n').map(|line| String::from_utf8_lossy(line).into_owned()).collect();
     let of_line = |number: usize, what: &str, refuses: bool| {
         let line = lines.get(number.wrapping_sub(1)).map_or("", String::as_str).trim_end_matches('\r');
         Finding { refuses, text: format!("{}:{number}: {what}: {line}", file.display()) }
@@ -155,7 +160,8 @@ mod tests {
     use super::*;
 
     fn chosen(text: &str) -> Vec<String> {
-        let there = [("lo", Made::Software), ("eth1", Made::Hardware), ("eth0", Made::Hardware), ("docker0", Made::Software)];
+        let there =
+            [("lo", Made::Software), ("eth1", Made::Hardware), ("eth0", Made::Hardware), ("docker0", Made::Software)];
         let there: Vec<_> = there.iter().map(|(name, made)| (name.to_string(), *made)).collect();
         Named::read(text.as_bytes()).chosen(&there)
     }
@@ -181,7 +187,8 @@ mod tests {
     fn findings_have_the_file_the_line_and_its_text() {
         let text = b"\xef\xbb\xbfnodelay\r\npersistent\r\ntimeout soon\r\n";
         let refused = "dhcpcd: configuration line 3: BadArgument\n";
-        let found = findings(Path::new("conf"), text, false, "notice 1 \u{feff}nodelay\nnotice 2 persistent\n", refused);
+        let found =
+            findings(Path::new("conf"), text, false, "notice 1 \u{feff}nodelay\nnotice 2 persistent\n", refused);
         let texts: Vec<&str> = found.iter().map(|one| one.text.as_str()).collect();
         assert_eq!(texts.len(), 4);
         assert!(texts[0].starts_with("conf:1: ") && texts[0].contains("BOM"));

@@ -1,7 +1,7 @@
 //! An interface of the run: its sockets, its carrier, and what may go over it.
 
-use crate::datagrams::Told;
 use crate::daemon::Wire;
+use crate::datagrams::Told;
 use crate::frames::{self, Family, Message};
 use crate::netlink::request::Link;
 use crate::packet::{Heard, Packets};

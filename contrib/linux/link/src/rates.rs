@@ -49,7 +49,9 @@ pub struct Window {
 #[derive(Debug, PartialEq, Eq)]
 pub enum Leave {
     /// It may go; so many were held back before it since the last that went.
-    Go { held_back: u64 },
+    Go {
+        held_back: u64,
+    },
     /// It is held back, the first one after some that went.
     HoldFirst,
     Hold,

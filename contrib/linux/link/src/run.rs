@@ -34,8 +34,9 @@ const LOOK_AFTER: Duration = Duration::from_millis(300);
 /// A row that others take away is put back so often in so long.
 const PUT_BACK: usize = 3;
 const PUT_BACK_SPAN: Duration = Duration::from_secs(60);
-/// A daemon that was told to stop goes on for five seconds.
+/// A daemon that was told to stop goes on for five seconds, and longer while it still has rows taken away.
 const STOP: Duration = Duration::from_secs(8);
+const STOP_AFTER_CALL: Duration = Duration::from_secs(6);
 /// Without an address for so long the service counts as ready all the same.
 const READY: Duration = Duration::from_secs(30);
 /// How often it is asked whether the host was suspended, by a clock that goes on then.
@@ -153,7 +154,10 @@ impl Run {
 
     fn due(&self, now: Instant) -> Option<Instant> {
         let ready = Some(self.ready_by).filter(|_| !self.notify.is_ready());
-        [self.parts.bridge.due(now), self.stop.due(now), self.stop_by, self.look_at, self.tidy_at, ready].into_iter().flatten().min()
+        [self.parts.bridge.due(now), self.stop.due(now), self.stop_by, self.look_at, self.tidy_at, ready]
+            .into_iter()
+            .flatten()
+            .min()
     }
 
     fn act(&mut self, now: Instant) {
@@ -219,7 +223,8 @@ impl Run {
         if meaning.rows && self.look_at.is_none() {
             self.look_at = Some(now + LOOK_AFTER);
         }
-        let down: Vec<usize> = self.parts.bridge.ports.iter().filter(|port| !port.carrier.now()).map(|port| port.place).collect();
+        let down: Vec<usize> =
+            self.parts.bridge.ports.iter().filter(|port| !port.carrier.now()).map(|port| port.place).collect();
         for place in down {
             self.end_left(Over::Place(place));
         }
@@ -272,9 +277,11 @@ impl Run {
             Err(error) if error.kind() == io::ErrorKind::WouldBlock => {}
             Err(error) => say!(Warning, "a call of the script: {error}"),
         }
+        let now = Instant::now();
         if self.parts.table.has_left() {
-            self.tidy_at = Some(Instant::now() + TIDY_AFTER);
+            self.tidy_at = Some(now + TIDY_AFTER);
         }
+        self.stop_by = self.stop_by.map(|by| by.max(now + STOP_AFTER_CALL));
         self.tell_systemd();
     }
 
@@ -328,7 +335,8 @@ impl Run {
 
     fn read_files(&mut self) {
         let folder = self.parts.folder.files();
-        let names = std::fs::read_dir(folder).map(|entries| entries.flatten().map(|entry| entry.file_name()).collect::<Vec<_>>());
+        let names = std::fs::read_dir(folder)
+            .map(|entries| entries.flatten().map(|entry| entry.file_name()).collect::<Vec<_>>());
         for name in names.unwrap_or_default() {
             self.read_file(&name.to_string_lossy());
         }
@@ -345,7 +353,8 @@ impl Run {
         if !name.ends_with(LEASE4) && !name.ends_with(LEASE6) {
             return;
         }
-        let lease = std::fs::read_to_string(self.parts.folder.files().join(name)).ok().and_then(|text| Lease::read(&text));
+        let lease =
+            std::fs::read_to_string(self.parts.folder.files().join(name)).ok().and_then(|text| Lease::read(&text));
         if let Some(interface) = name.strip_suffix(LEASE4) {
             let mtu = lease.as_ref().and_then(|lease| lease.mtu);
             self.mtus.set(self.parts.table.kernel(), interface, mtu);

@@ -56,7 +56,8 @@ fn begin(asked: &words::Run) -> Result<Run, Stopped> {
     let wire = Wire::open_any().map_err(|error| format!("127.0.0.1: {error}"))?;
     let bridge = Bridge::open(wire, &interfaces, Hearing::Transcript)?;
     let mut parts = Parts { signals, folder, clock, table, bridge, missing, is_persistent: named.is_persistent };
-    let listener = crate::calls::listen(&parts.folder.path).map_err(|error| format!("{}: {error}", parts.folder.path.display()))?;
+    let listener = crate::calls::listen(&parts.folder.path)
+        .map_err(|error| format!("{}: {error}", parts.folder.path.display()))?;
     let daemon = start_daemon(asked, &mut parts)?;
     Run::new(parts, daemon, listener, asked.tells_resolver).map_err(|error| Stopped::from(error.to_string()))
 }
@@ -65,7 +66,8 @@ fn begin(asked: &words::Run) -> Result<Run, Stopped> {
 fn read_configuration(asked: &words::Run) -> Result<Named, Stopped> {
     let file = &asked.configuration;
     let bytes = std::fs::read(file).map_err(|error| format!("{}: {error}", file.display()))?;
-    let findings = configuration::check(&asked.program, file, &bytes).map_err(|error| format!("{}: {error}", asked.program.display()))?;
+    let findings = configuration::check(&asked.program, file, &bytes)
+        .map_err(|error| format!("{}: {error}", asked.program.display()))?;
     for finding in &findings {
         if finding.refuses {
             return Err(Stopped { status: BAD_CONFIGURATION, why: finding.text.clone() });
@@ -112,8 +114,10 @@ fn start_daemon(asked: &words::Run, parts: &mut Parts) -> Result<Daemon, Stopped
         let digits: Vec<String> = port.hardware.iter().map(|byte| format!("{byte:02x}")).collect();
         format!("{}={}", port.name, digits.join(":"))
     }));
-    let configuration = File::open(&asked.configuration).map_err(|error| format!("{}: {error}", asked.configuration.display()))?;
-    Daemon::start(&asked.program, configuration, &words).map_err(|error| format!("{}: {error}", asked.program.display()).into())
+    let configuration =
+        File::open(&asked.configuration).map_err(|error| format!("{}: {error}", asked.configuration.display()))?;
+    Daemon::start(&asked.program, configuration, &words)
+        .map_err(|error| format!("{}: {error}", asked.program.display()).into())
 }
 
 /// Joins interfaces to a daemon that another one starts: the status.

@@ -102,13 +102,19 @@ impl Table {
 
     /// The rows that the daemon is told of: what it made, and what an earlier DHCP client left. Those of others stay.
     pub fn list(&mut self) -> io::Result<Vec<Row>> {
-        let places: BTreeMap<u32, usize> =
-            self.names.iter().enumerate().filter_map(|(at, name)| Some((if_nametoindex(name.as_str()).ok()?, at + 1))).collect();
+        let places: BTreeMap<u32, usize> = self
+            .names
+            .iter()
+            .enumerate()
+            .filter_map(|(at, name)| Some((if_nametoindex(name.as_str()).ok()?, at + 1)))
+            .collect();
         let mut rows = Vec::new();
         for address in self.kernel.addresses()? {
             if let Some(place) = places.get(&address.index) {
                 let row = Row { place: *place, entry: Entry::Address(address.net) };
-                if is_kept(&address) && (self.wanted.contains(&row) || self.left.contains(&row) || is_of_client(&address)) {
+                if is_kept(&address)
+                    && (self.wanted.contains(&row) || self.left.contains(&row) || is_of_client(&address))
+                {
                     rows.push(row);
                 }
             }
@@ -117,8 +123,12 @@ impl Table {
             let entry = Entry::Route(own.route);
             match own.route.way {
                 // the kernel keeps those without an interface
-                Way::Reject => rows.extend(self.wanted.iter().chain(&self.left).find(|row| row.entry == entry).copied()),
-                Way::Link | Way::Via(_) => rows.extend(places.get(&own.index).map(|place| Row { place: *place, entry })),
+                Way::Reject => {
+                    rows.extend(self.wanted.iter().chain(&self.left).find(|row| row.entry == entry).copied())
+                }
+                Way::Link | Way::Via(_) => {
+                    rows.extend(places.get(&own.index).map(|place| Row { place: *place, entry }))
+                }
             }
         }
         rows.sort_by_cached_key(Row::to_string);
@@ -216,7 +226,11 @@ impl Table {
     }
 
     /// Puts back rows that are wanted and aren't there, of those that may be: which, and what came of each.
-    pub fn put_back(&mut self, now: Moment, mut may: impl FnMut(&Row) -> bool) -> io::Result<Vec<(Row, io::Result<()>)>> {
+    pub fn put_back(
+        &mut self,
+        now: Moment,
+        mut may: impl FnMut(&Row) -> bool,
+    ) -> io::Result<Vec<(Row, io::Result<()>)>> {
         let listed = self.list()?;
         let missing: Vec<Row> = self.wanted.iter().filter(|row| !listed.contains(row)).copied().collect();
         let missing = missing.into_iter().filter(|row| !self.is_over(row, now) && may(row)).collect::<Vec<Row>>();

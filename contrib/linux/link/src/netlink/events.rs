@@ -60,7 +60,9 @@ impl Events {
     /// The changes that came, once there are some.
     pub fn came(&mut self) -> Vec<Change> {
         match (&self.socket).read(&mut self.room) {
-            Ok(length) => messages(&self.room[..length]).flat_map(|message| change(message.kind, message.body)).collect(),
+            Ok(length) => {
+                messages(&self.room[..length]).flat_map(|message| change(message.kind, message.body)).collect()
+            }
             Err(error) if error.kind() == io::ErrorKind::WouldBlock => Vec::new(),
             Err(_) => vec![Change::Lost],
         }

@@ -84,7 +84,10 @@ mod tests {
 
     #[test]
     fn what_is_written_is_read() {
-        let bytes = Writing::new(20, 5, 7, &[1, 2, 3, 4, 5, 6, 7, 8]).attribute(1, b"odd").attribute(2, &9u32.to_ne_bytes()).bytes();
+        let bytes = Writing::new(20, 5, 7, &[1, 2, 3, 4, 5, 6, 7, 8])
+            .attribute(1, b"odd")
+            .attribute(2, &9u32.to_ne_bytes())
+            .bytes();
         assert_eq!((bytes.len(), u32_at(&bytes, 0)), (16 + 8 + 8 + 8, Some(40)));
         let both = [bytes.clone(), bytes].concat();
         let read: Vec<_> = messages(&both).collect();

@@ -235,7 +235,8 @@ impl Kernel {
     fn ask(&mut self, kind: u16, flags: u16, message: Told, mut each: impl FnMut(Message)) -> io::Result<()> {
         self.sequence = self.sequence.wrapping_add(1);
         let writing = Writing::new(kind, NLM_F_REQUEST | flags, self.sequence, &message.body);
-        let bytes = message.attributes.iter().fold(writing, |writing, (kind, value)| writing.attribute(*kind, value)).bytes();
+        let bytes =
+            message.attributes.iter().fold(writing, |writing, (kind, value)| writing.attribute(*kind, value)).bytes();
         self.socket.send(&bytes)?;
         loop {
             let length = (&self.socket).read(&mut self.room)?;
@@ -432,7 +433,8 @@ mod tests {
 
     fn written(told: Told) -> Vec<u8> {
         let writing = Writing::new(0, 0, 0, &told.body);
-        told.attributes.iter().fold(writing, |writing, (kind, value)| writing.attribute(*kind, value)).bytes()[16..].to_vec()
+        told.attributes.iter().fold(writing, |writing, (kind, value)| writing.attribute(*kind, value)).bytes()[16..]
+            .to_vec()
     }
 
     #[test]
@@ -445,7 +447,11 @@ mod tests {
         ] {
             let route = route_in(text);
             let more = RouteMore { source: None, expires: Some(7) };
-            assert_eq!(OwnRoute::read(&written(route_told(5, &route, more))), Some(OwnRoute { index: 5, route }), "{text}");
+            assert_eq!(
+                OwnRoute::read(&written(route_told(5, &route, more))),
+                Some(OwnRoute { index: 5, route }),
+                "{text}"
+            );
         }
         let route = route_in("route 1 10.66.0.0/16 reject metric 1001");
         let read = OwnRoute::read(&written(route_told(5, &route, RouteMore::default())));
@@ -464,7 +470,9 @@ mod tests {
 
     #[test]
     fn an_address_that_is_written_is_read() {
-        for (text, broadcast_at) in [("10.77.0.50/24", Some("10.77.0.255")), ("10.77.0.50/31", None), ("2001:db8::1/64", None)] {
+        for (text, broadcast_at) in
+            [("10.77.0.50/24", Some("10.77.0.255")), ("10.77.0.50/31", None), ("2001:db8::1/64", None)]
+        {
             let net = net_in(text);
             let read = Address::read(&written(address_told(3, net, Lifetimes { preferred: 5, valid: 9 }))).unwrap();
             assert_eq!((read.index, read.net, read.protocol, read.valid), (3, net, PROTOCOL, 9));
