@@ -292,6 +292,13 @@ def told(net, score):
         await_said(host, "<6>c0: released")
     with score.step("and so has a line of the configuration that does nothing"):
         expect(said(host), f"<4>{place}:5: `bananas` does nothing: bananas 3\n" in said(host))
+    with score.step("without hooks too"):
+        write_lines(host.net.path("conf"), [*QUICK, "script /dev/null"])
+        host.start()
+        await_said(host, "dhcpcd-link: c0: bound 10.77.0.")
+        await_said(host, "dhcpcd-link: c0: renewed 10.77.0.")
+        host.stop()
+        write_lines(host.net.path("conf"), QUICK)
     with score.step("the link ends with the daemon, and says so"):
         host.start()
         await_lease(net)

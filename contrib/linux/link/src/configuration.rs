@@ -5,6 +5,8 @@ use std::path::Path;
 use std::process::{Command, Stdio};
 
 const BYTE_ORDER_MARK: &[u8] = b"\xef\xbb\xbf";
+/// The script of a configuration without hooks.
+const NO_HOOKS: &str = "/dev/null";
 /// The word that this program minds and the daemon doesn't know.
 const PERSISTENT: &str = "persistent";
 
@@ -16,6 +18,15 @@ pub struct Named {
     pub allowed: Vec<String>,
     pub denied: Vec<String>,
     pub is_persistent: bool,
+    pub hooks: Hooks,
+}
+
+/// Whether hooks are run, and tell what happens.
+#[derive(Clone, Copy, Debug, Default, PartialEq, Eq)]
+pub enum Hooks {
+    #[default]
+    Run,
+    None,
 }
 
 impl Named {
@@ -39,6 +50,9 @@ impl Named {
                 }
                 ["denyinterfaces", ref names @ ..] if is_global => {
                     named.denied.extend(names.iter().map(|name| name.to_string()))
+                }
+                ["script", path] if is_global => {
+                    named.hooks = if path.trim_matches('"') == NO_HOOKS { Hooks::None } else { Hooks::Run };
                 }
                 [PERSISTENT, ..] if is_global => named.is_persistent = true,
                 _ => {}
@@ -180,6 +194,7 @@ mod tests {
     #[test]
     fn persistent_is_a_global_line() {
         assert!(Named::read(b"persistent\r\n").is_persistent);
+        assert_eq!(Named::read(b"script /x\nscript /dev/null\n").hooks, Hooks::None);
         assert!(!Named::read(b"#persistent\ninterface eth0\npersistent\n").is_persistent);
     }
 

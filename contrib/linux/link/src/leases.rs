@@ -47,6 +47,15 @@ impl Lease {
         }
     }
 
+    /// The addresses and prefixes that it grants.
+    pub fn granted(&self) -> String {
+        let text = |(item, _): &(Item, Until)| match item {
+            Item::Address(address) => address.to_string(),
+            Item::Prefix(prefix) => prefix.to_string(),
+        };
+        self.items.iter().map(text).collect::<Vec<String>>().join(" ")
+    }
+
     /// Until when a row of an interface with this name may stand, where this lease is what it comes from.
     pub fn until(&self, interface: &str, row: &Row) -> Option<Until> {
         let comes_from = |item: &Item| match (item, row.entry) {
@@ -164,7 +173,7 @@ mod tests {
         assert_eq!(lease.until("eth1", &row("addr 2 10.0.0.50/24")), None);
         assert_eq!(lease.until("eth0", &row("addr 1 10.0.0.51/24")), None);
         assert_eq!(lease.until("eth0", &row("route 1 10.0.0.0/24 metric 1")), None);
-        assert_eq!(lease.mtu, Some(1500));
+        assert_eq!((lease.mtu, lease.granted()), (Some(1500), "10.0.0.50".to_string()));
     }
 
     #[test]
@@ -183,6 +192,7 @@ mod tests {
         assert_eq!(lease.until("eth0", &row("route 1 2001:db8:0:100::/56 reject metric 1001")), for_ever);
         assert_eq!(lease.until("eth0", &row("route 1 2001:db8::/32 metric 1001")), None);
         assert_eq!(lease.until("eth1", &row("addr 2 2001:db8::50/128")), None);
+        assert_eq!(lease.granted(), "2001:db8::50 2001:db8:0:100::/56");
         let until = lease.until("eth0", &row("addr 1 2001:db8::50/128")).unwrap();
         assert_eq!(until, Until { preferred: Some(5000), valid: Some(9000) });
     }

@@ -3,6 +3,7 @@
 use crate::bridge::{Bridge, Meaning};
 use crate::calls;
 use crate::clock::Clock;
+use crate::configuration::Hooks;
 use crate::copy::Copy;
 use crate::daemon::{Daemon, Transcript};
 use crate::datagrams::Told;
@@ -10,6 +11,7 @@ use crate::folder::Folder;
 use crate::leases::Lease;
 use crate::mtu::Mtus;
 use crate::notify::Notify;
+use crate::ports::Port;
 use crate::rates::Budget;
 use crate::resolver::Resolver;
 use crate::rows::{Entry, Row};
@@ -56,6 +58,7 @@ pub struct Parts {
     pub bridge: Bridge,
     pub missing: Vec<String>,
     pub is_persistent: bool,
+    pub hooks: Hooks,
 }
 
 /// Why the loop is over.
@@ -350,19 +353,27 @@ impl Run {
             }
             return;
         }
-        if !name.ends_with(LEASE4) && !name.ends_with(LEASE6) {
-            return;
+        let interface = name.strip_suffix(LEASE4).or_else(|| name.strip_suffix(LEASE6));
+        let is_it = |port: &&Port| Some(port.name.as_str()) == interface;
+        if let Some(port) = self.parts.bridge.ports.iter().find(is_it) {
+            let (place, interface) = (port.place, port.name.clone());
+            self.read_lease(name, place, &interface);
         }
-        let lease =
-            std::fs::read_to_string(self.parts.folder.files().join(name)).ok().and_then(|text| Lease::read(&text));
-        if let Some(interface) = name.strip_suffix(LEASE4) {
+    }
+
+    /// The file of a lease of an interface of this run is another one now, or gone.
+    fn read_lease(&mut self, name: &str, place: usize, interface: &str) {
+        let text = std::fs::read_to_string(self.parts.folder.files().join(name));
+        let lease = text.ok().and_then(|text| Lease::read(&text)).filter(|lease| lease.interface == interface);
+        if name.ends_with(LEASE4) {
             let mtu = lease.as_ref().and_then(|lease| lease.mtu);
             self.mtus.set(self.parts.table.kernel(), interface, mtu);
         }
-        let interface = name.trim_end_matches(LEASE4).trim_end_matches(LEASE6);
-        let place = self.parts.bridge.ports.iter().find(|port| port.name == interface).map(|port| port.place);
-        if let (None, Some(place)) = (&lease, place) {
+        if lease.is_none() {
             self.end_left(Over::Place(place));
+        }
+        if self.parts.hooks == Hooks::None {
+            tell_lease(interface, self.parts.table.lease(name), lease.as_ref());
         }
         if let Err(error) = self.parts.table.set_lease(name, lease, self.parts.clock.moment()) {
             say!(Warning, "lifetimes of {name}: {error}");
@@ -413,6 +424,16 @@ impl Run {
             self.mtus.take_back(self.parts.table.kernel());
         }
         status
+    }
+}
+
+/// Tells what became of a lease where no hooks do.
+fn tell_lease(interface: &str, before: Option<&Lease>, now: Option<&Lease>) {
+    match (before.map(Lease::granted), now.map(Lease::granted)) {
+        (Some(before), Some(now)) if before == now => say!(Info, "{interface}: renewed {now}"),
+        (_, Some(now)) => say!(Info, "{interface}: bound {now}"),
+        (Some(before), None) => say!(Warning, "{interface}: over {before}"),
+        (None, None) => {}
     }
 }
 

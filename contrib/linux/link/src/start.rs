@@ -55,7 +55,16 @@ fn begin(asked: &words::Run) -> Result<Run, Stopped> {
     let table = Table::open(&folder.path).map_err(|error| format!("{}: {error}", folder.path.display()))?;
     let wire = Wire::open_any().map_err(|error| format!("127.0.0.1: {error}"))?;
     let bridge = Bridge::open(wire, &interfaces, Hearing::Transcript)?;
-    let mut parts = Parts { signals, folder, clock, table, bridge, missing, is_persistent: named.is_persistent };
+    let mut parts = Parts {
+        signals,
+        folder,
+        clock,
+        table,
+        bridge,
+        missing,
+        is_persistent: named.is_persistent,
+        hooks: named.hooks,
+    };
     let listener = crate::calls::listen(&parts.folder.path)
         .map_err(|error| format!("{}: {error}", parts.folder.path.display()))?;
     let daemon = start_daemon(asked, &mut parts)?;

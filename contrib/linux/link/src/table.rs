@@ -298,6 +298,11 @@ impl Table {
         })
     }
 
+    /// The lease that a file had when it was read last.
+    pub fn lease(&self, file: &str) -> Option<&Lease> {
+        self.leases.get(file)
+    }
+
     /// A file has this lease now, or none: what comes from it gets what is left.
     pub fn set_lease(&mut self, file: &str, lease: Option<Lease>, now: Moment) -> io::Result<()> {
         match lease {
