@@ -37,7 +37,9 @@ def await_said(host, word):
 def left(net, family):
     """The seconds that the leased address has as valid and as preferred time; None where it has no end."""
     shown = run("ip", "-n", CLIENT, "-o", f"-{family}", "address", "show", "dev", "c0", "scope", "global")
-    found = re.search(r"valid_lft (\d+)sec preferred_lft (\d+)sec", shown)
+    # of IPv6 the kernel has another one, by a router's word
+    length = {4: 24, 6: 128}[family]
+    found = re.search(rf"/{length} .*valid_lft (\d+)sec preferred_lft (\d+)sec", shown)
     return found and (int(found.group(1)), int(found.group(2)))
 
 
@@ -91,6 +93,31 @@ def lifetimes(net, score):
         host.crash()
         server.end()
         wait_for("its end", lambda: not is_leased(net), seconds=10 + SLACK + 2)
+
+
+def deprecated(net, score):
+    """A lease of IPv6 whose preferred time is over, as a file of the daemon's tells it."""
+    host = Host(net, QUICK)
+    script = os.path.join(host.folder, "host")
+    wait_for("the run", lambda: " up " in host.transcript())
+    address, share, route = "2001:db8:5::5/128", "2001:db8:6:1::1/64", "2001:db8:6:1::/64 metric 1001"
+    for row in (f"addr 1 {address}", f"addr 1 {share}", f"route 1 {route}"):
+        run("ip", "netns", "exec", CLIENT, script, "host-add", *row.split())
+    now = int(1000 * time.time())
+    items = [f"addr 2001:db8:5::5 {now} {now + 60000}", "ia pd 1", f"prefix 2001:db8:6::/56 {now + 30000} {now + 60000}"]
+    lines = ["dhcpcd-lease6 1", "interface c0", "server 0001", f"t1 {now}", f"t2 {now}", "ia na 1", *items, "end"]
+    write_lines(net.path("aside"), lines)
+    os.rename(net.path("aside"), os.path.join(host.folder, "files", "c0.lease6"))
+
+    def shown(word):
+        text = run("ip", "-n", CLIENT, "-o", "-6", word, "show", *(["dev", "c0"] if word == "address" else []))
+        return [line for line in text.splitlines() if "2001:db8:" in line]
+
+    with score.step("its address is deprecated, and valid to its end"):
+        wait_for("that", lambda: re.search(r"deprecated.* valid_lft 6\dsec preferred_lft 0sec", "\n".join(shown("address"))))
+    with score.step("what comes of a prefix has its lifetimes, routes too"):
+        wait_for("that", lambda: re.search(r"6:1::1/64 .*valid_lft 6\dsec preferred_lft [23]\dsec", "\n".join(shown("address"))))
+        wait_for("that", lambda: re.search(r"2001:db8:6:1::/64 dev c0 .* expires 6\dsec", "\n".join(shown("route"))))
 
 
 def others(net, score):
@@ -514,4 +541,4 @@ def resolver(net, score):
         wait_for("its words", lambda: read(told_of).endswith("-d dhcpcd-link\n"), seconds=2)
 
 
-LINK_TRIES = [many, short, rogue, resolver, lifetimes, others, rates, flood, tagged, plugged, told, service, rights, mtu]
+LINK_TRIES = [many, short, rogue, resolver, lifetimes, deprecated, others, rates, flood, tagged, plugged, told, service, rights, mtu]

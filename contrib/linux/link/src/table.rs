@@ -365,10 +365,11 @@ fn is_ip4(row: &Row) -> bool {
     }
 }
 
-/// When the kernel ends a route: of IPv6 alone can that be said, and those of IPv4 go with their address.
+/// When the kernel ends a route: of IPv6 alone can that be said, but not of one that rejects, and those of IPv4 go with
+/// their address.
 fn expires(route: &Route, lifetimes: Lifetimes) -> Option<u32> {
-    let is_bounded = lifetimes.valid != Lifetimes::FOR_EVER;
-    Some(lifetimes.valid).filter(|_| is_bounded && !route.net.address.is_ipv4())
+    let can_end = route.way != Way::Reject && !route.net.address.is_ipv4();
+    Some(lifetimes.valid).filter(|valid| can_end && *valid != Lifetimes::FOR_EVER)
 }
 
 /// Whether an address may be the daemon's: the kernel's own link-local ones, and ends of a line with a peer, are not.
