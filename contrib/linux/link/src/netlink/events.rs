@@ -74,7 +74,12 @@ fn change(kind: u16, body: &[u8]) -> Vec<Change> {
         RTM_NEWLINK => Link::read(body).map(Change::Link).into_iter().collect(),
         RTM_DELLINK => Link::read(body).map(|link| Change::Gone(link.index)).into_iter().collect(),
         RTM_NEWADDR => Address::read(body).map(|address| of_address(&address)).unwrap_or_default(),
-        RTM_DELADDR | RTM_DELROUTE => vec![Change::Rows],
+        // one with a lifetime that another host has is gone at once
+        RTM_DELADDR => match Address::read(body) {
+            Some(address) if address.flags & IFA_F_DADFAILED != 0 => of_address(&address),
+            _ => vec![Change::Rows],
+        },
+        RTM_DELROUTE => vec![Change::Rows],
         _ => Vec::new(),
     }
 }
