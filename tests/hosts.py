@@ -1,4 +1,4 @@
-"""Two hosts on a link of their own: a server with dnsmasq, and a client with the daemon and contrib/linux.
+"""Two hosts on a line of their own: a server with dnsmasq, and a client with the daemon and contrib/linux/link.
 
 Each host is a network namespace, and the link a veth pair, so that no frame leaves them. Each wait is bounded, and what
 was begun is ended with the `with` block of a Net.
@@ -13,6 +13,7 @@ import tempfile
 import time
 
 CONTRIB = os.path.join(os.path.dirname(os.path.dirname(os.path.abspath(__file__))), "contrib", "linux")
+LINK = os.environ.get("DHCPCD_LINK", os.path.join(CONTRIB, "link", "target", "release", "dhcpcd-link"))
 CLIENT, SERVER = f"dhcpcd-t1-{os.getpid()}", f"dhcpcd-t2-{os.getpid()}"
 MAC = "02:00:00:77:00:02"
 ROUTER, ROUTER6 = "10.77.0.1", "2001:db8:77::1"
@@ -157,9 +158,10 @@ class Net:
         return next(filter(is_leased, self.addresses()), None)
 
     def routes(self):
-        """What the daemon's script has made of routes."""
+        """What the daemon has of routes, but for the address that they are from and how long they still stand."""
         shown = [run("ip", f"-{family}", "-n", CLIENT, "route", "show", "proto", "dhcp") for family in (4, 6)]
-        return {" ".join(line.split()) for text in shown for line in text.splitlines()}
+        lines = [re.sub(r" (src \S+|expires \d+sec)", "", line) for text in shown for line in text.splitlines()]
+        return {" ".join(line.split()) for line in lines}
 
 
 DNSMASQ = [
@@ -214,32 +216,34 @@ class Server:
 
 
 class Host:
-    """The daemon with its bridge on the client's interfaces, with lines of a configuration."""
+    """The daemon with the link on the client's interfaces, with lines of a configuration."""
 
-    def __init__(self, net, lines, files=None, script=None, links=None):
+    def __init__(self, net, lines, links=None):
         self.net = net
         self.links = links or {"c0": MAC}
         self.folder = net.path("host")
         self.log = net.path("transcript")
-        self.files = files or os.path.join(self.folder, "files")
-        self.script = script or os.path.join(self.folder, "host")
-        os.makedirs(os.path.join(self.folder, "files"))
-        for name in ["host", "hook"]:
-            os.symlink(os.path.join(CONTRIB, name), os.path.join(self.folder, name))
-        write_lines(os.path.join(self.folder, "interfaces"), self.links)
-        write_lines(net.path("conf"), lines)
+        self.said = net.path("said")
+        self.prepare(lines)
         self.start()
 
+    def prepare(self, lines):
+        write_lines(self.net.path("conf"), lines)
+
     def start(self):
-        command = [os.path.join(CONTRIB, "bridge"), PORT, PEER, *self.links]
-        self.bridge = self.net.start(CLIENT, command, stdout=subprocess.PIPE)
-        if not select.select([self.bridge.stdout], [], [], 10)[0] or self.bridge.stdout.readline() != b"ready\n":
-            raise Failure("the bridge didn't begin")
-        pairs = [f"{name}={mac}" for name, mac in self.links.items()]
-        command = [self.net.program, "live", PORT, PEER, self.files, self.script, *pairs]
-        with open(self.net.path("conf"), "rb") as lines, open(self.log, "ab") as log:
+        words = ["--folder", self.folder, "--configuration", self.net.path("conf"), "--program", self.net.program]
+        with open(self.log, "ab") as log, open(self.said, "ab") as said:
             self.begun = time.monotonic()
-            self.daemon = self.net.start(CLIENT, command, stdin=lines, stdout=log, stderr=subprocess.DEVNULL)
+            self.link = self.net.start(CLIENT, [LINK, *words, *self.links], stdout=log, stderr=said)
+
+    def daemon_number(self):
+        """The number of the daemon's process, which the link starts."""
+
+        def child():
+            children = read(f"/proc/{self.link.pid}/task/{self.link.pid}/children").split()
+            return children and read(f"/proc/{children[0]}/cmdline").startswith(self.net.program) and int(children[0])
+
+        return wait_for("the daemon", child)
 
     def file(self, name):
         """What the daemon keeps under this name."""
@@ -254,21 +258,68 @@ class Host:
         return [line.split()[2] for line in lines if not line.startswith(" ")]
 
     def crash(self):
-        for child in [self.daemon, self.bridge]:
+        """Kills both, the link first so that it does nothing about the other's end."""
+        daemon = self.daemon_number()
+        self.link.kill()
+        self.link.wait()
+        # it may have ended with the link already
+        subprocess.run(["kill", "-9", str(daemon)], check=False, stderr=subprocess.DEVNULL)
+        wait_for("the daemon's end", lambda: not os.path.exists(f"/proc/{daemon}"))
+
+    def stop(self):
+        """Tells both to end, and waits for it."""
+        daemon = self.daemon_number()
+        self.link.terminate()
+        self.await_end(self.link)
+        expect(f"status {self.link.returncode}", self.link.returncode == 0)
+        expect("the daemon goes on", not os.path.exists(f"/proc/{daemon}"))
+
+    def await_end(self, child):
+        try:
+            child.wait(STOP_SECONDS)
+        except subprocess.TimeoutExpired as error:
+            raise Failure("it doesn't end") from error
+
+    def memory(self):
+        """What daemon and link have in memory, in KiB."""
+        sizes = [read(f"/proc/{number}/status") for number in (self.daemon_number(), self.link.pid)]
+        return [int(re.search(r"VmRSS:\s*(\d+)", size).group(1)) for size in sizes]
+
+
+class Apart(Host):
+    """The daemon and the link as a bridge alone, so that folder and script are another's; the rows are made without it."""
+
+    def __init__(self, net, lines, files=None, script=None):
+        self.files = files or os.path.join(net.path("host"), "files")
+        self.script = script or os.path.join(net.path("host"), "host")
+        super().__init__(net, lines)
+
+    def prepare(self, lines):
+        super().prepare(lines)
+        os.makedirs(os.path.join(self.folder, "files"))
+        os.symlink(LINK, os.path.join(self.folder, "host"))
+        os.symlink(os.path.join(CONTRIB, "hook"), os.path.join(self.folder, "hook"))
+        write_lines(os.path.join(self.folder, "interfaces"), self.links)
+
+    def start(self):
+        command = [LINK, "bridge", PORT, PEER, *self.links]
+        self.link = self.net.start(CLIENT, command, stdout=subprocess.PIPE)
+        if not select.select([self.link.stdout], [], [], 10)[0] or self.link.stdout.readline() != b"ready\n":
+            raise Failure("the bridge didn't begin")
+        pairs = [f"{name}={mac}" for name, mac in self.links.items()]
+        command = [self.net.program, "live", PORT, PEER, self.files, self.script, *pairs]
+        with open(self.net.path("conf"), "rb") as lines, open(self.log, "ab") as log:
+            self.begun = time.monotonic()
+            self.daemon = self.net.start(CLIENT, command, stdin=lines, stdout=log, stderr=subprocess.DEVNULL)
+
+    def crash(self):
+        for child in [self.daemon, self.link]:
             child.kill()
             child.wait()
 
     def stop(self):
-        """Tells both to end, and waits for it."""
-        self.bridge.terminate()
-        for child in [self.daemon, self.bridge]:
-            try:
-                child.wait(STOP_SECONDS)
-            except subprocess.TimeoutExpired as error:
-                raise Failure("it doesn't end") from error
-        ended = self.daemon.returncode, self.bridge.returncode
+        self.link.terminate()
+        for child in [self.daemon, self.link]:
+            self.await_end(child)
+        ended = self.daemon.returncode, self.link.returncode
         expect(f"statuses {ended} of daemon and bridge", ended == (0, 0))
-
-    def memory(self):
-        """What the daemon has in memory, in KiB."""
-        return int(re.search(r"VmRSS:\s*(\d+)", read(f"/proc/{self.daemon.pid}/status")).group(1))
