@@ -1,7 +1,9 @@
 #!/usr/bin/env python3
 """Whether contrib/timeline makes pages that stand alone, and draws on them what transcripts tell.
 
-    tests/pages.py            pages of examples/; where Chromium is there, one is opened and used by its keys
+    tests/pages.py              pages of examples/, as tests/run looks at them
+    tests/pages.py --browser    also opens one in Chromium, where that is there, and uses it by its keys; how long a browser takes is
+                                its own affair, so this is no part of tests/run
 
 The states that some examples are to show are in STATES. Ends with a line for each fault, and status 1 where there is one.
 """
@@ -122,16 +124,17 @@ def main():
     for place, wanted in STATES.items():
         found = states(*place)
         expect(f"{place}: {found}", found == wanted)
-    with tempfile.TemporaryDirectory() as room:
+    # a browser may still write into its profile when it is told to go
+    with tempfile.TemporaryDirectory(ignore_cleanup_errors=True) as room:
         for name in ["lease", "hooks", "host-failures"]:
             look_inside(make(name, room), name)
-        if browser.found():
+        if "--browser" in sys.argv[1:] and browser.found():
             window = browser.Browser(os.path.join(room, "profile"))
             try:
                 use(window, make("hook-hangs", room))
             finally:
                 window.close()
-        else:
+        elif "--browser" in sys.argv[1:]:
             print("pages: none is opened, for there is no Chromium")
     for fault in faults:
         print(f"pages: {fault}")
