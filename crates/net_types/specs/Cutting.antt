@@ -1,5 +1,5 @@
 -- The parts of a text: a word in front, what stands round a separator, a list of parts, a choice.
-use Rattle.std.specs.Prelude.{◌≢◌, ℕ, ◌+◌, Bool, true, false, ◌&&◌, List, [], ◌∷◌, length, take, drop, map, Option, Some, None, option_map, option_and_then, nat_eq, ◌==◌, if◌then◌else◌}
+use Rattle.std.specs.Prelude.{◌≡◌, ◌≢◌, ℕ, ◌+◌, Bool, true, false, ◌&&◌, List, [], ◌∷◌, length, take, drop, map, Option, Some, None, option_map, option_and_then, nat_eq, ◌==◌, if◌then◌else◌}
 use Rattle.std.specs.List.{starts_with, position, list_all, slice_split, join_with_byte, AllByRecursion}
 
 infixl 10 ◌>>=◌
@@ -88,3 +88,7 @@ list_text separator text_of xs = join_with_byte separator (map text_of xs)
 pub record FitsList {X : Type 0} (Fits : X → Type 0) (xs : List X) : Type 0 where
   pub some : xs ≢ []
   pub each : AllByRecursion Fits xs
+
+-- what stood in bytes still stands in front of what is there
+abbrev pub StandsInFront : List ℕ → List ℕ → Type 0
+StandsInFront before after = take (length before) after ≡ before

@@ -8,6 +8,7 @@ pub mod NameText
 pub mod Sum
 pub mod Networks
 pub mod Fields
+pub mod Moments
 pub mod TextLines
 pub mod FirstBadLine
 pub mod LineReading

@@ -1,6 +1,7 @@
 //! Appending to bytes.
 ghost use Rattle.std.specs.Prelude.{◌≡◌, ◌++◌, ◌*◌, ◌<◌, codes, decimal, flat_map, length, OnOk, OnErr};
 ghost use Rattle.net_types.specs.AddressText.{ip4_text, mac_text, net4_text};
+ghost use Rattle.net_types.specs.Cutting.{StandsInFront};
 ghost use Rattle.net_types.specs.HexText.{byte_hex, hex_text};
 
 use crate::address::{Ip4, Mac, Net4};
@@ -53,7 +54,8 @@ pub fn append_hex(bytes: &[u8], into: &mut Vec<u8>) -> Result<(), NoMemory>
 /// Appends a number and a dot, or a front of that where memory runs out.
 #[tactic(auto, using(std::proofs::Common::append_assoc))]
 fn append_dotted(number: u32, into: &mut Vec<u8>) -> Result<(), NoMemory>
-    ensures { OnOk result (into.new.items ≡ into.old.items ++ decimal number ++ codes ".") }
+    ensures ok { OnOk result (into.new.items ≡ into.old.items ++ decimal number ++ codes ".") }
+    ensures err { OnErr result (StandsInFront into.old.items into.new.items) }
 {
     append_number(u64::from(number), into)?;
     append_bytes(b".", into)?;
@@ -63,7 +65,8 @@ fn append_dotted(number: u32, into: &mut Vec<u8>) -> Result<(), NoMemory>
 /// Appends the dotted form of the address, or a front of it where memory runs out.
 #[tactic(auto, unfolding(crate::specs::AddressText::ip4_text), using(std::proofs::Common::append_assoc))]
 pub fn append_ip4(ip: Ip4, into: &mut Vec<u8>) -> Result<(), NoMemory>
-    ensures { OnOk result (into.new.items ≡ into.old.items ++ ip4_text ip) }
+    ensures ok { OnOk result (into.new.items ≡ into.old.items ++ ip4_text ip) }
+    ensures err { OnErr result (StandsInFront into.old.items into.new.items) }
 {
     let number = ip.number;
     append_dotted(number >> 24, into)?;
@@ -76,7 +79,8 @@ pub fn append_ip4(ip: Ip4, into: &mut Vec<u8>) -> Result<(), NoMemory>
 /// Appends the address, a slash and the length, or a front of that where memory runs out.
 #[tactic(auto, unfolding(crate::specs::AddressText::net4_text), using(std::proofs::Common::append_assoc))]
 pub fn append_net4(net: Net4, into: &mut Vec<u8>) -> Result<(), NoMemory>
-    ensures { OnOk result (into.new.items ≡ into.old.items ++ net4_text net) }
+    ensures ok { OnOk result (into.new.items ≡ into.old.items ++ net4_text net) }
+    ensures err { OnErr result (StandsInFront into.old.items into.new.items) }
 {
     append_ip4(net.ip, into)?;
     append_bytes(b"/", into)?;

@@ -9,22 +9,30 @@ ghost use Rattle.net_types.specs.declared.text_lines.LineFault.TheVariants as fa
 use crate::cutting::split_at_byte;
 use crate::fault::NoMemory;
 use std::alloc::{AllocError, AllocFailed, Global};
+use std::fmt::Display;
+use thiserror::Error;
 
 /// Why a step was not made.
-#[derive(Clone, Copy, PartialEq, Eq)]
+#[derive(Clone, Copy, Debug, PartialEq, Eq, Error)]
+#[error_bound(C: Display)]
 pub enum LineFault<C> {
     /// The line may not stand there, or the text may not end there.
+    #[error(transparent)]
     Bad(C),
     /// Memory ran out.
+    #[error("NoMemory")]
     NoMemory,
 }
 
 /// Why a text of lines gives no value.
-#[derive(Clone, Copy, Debug, PartialEq, Eq)]
+#[derive(Clone, Copy, Debug, PartialEq, Eq, Error)]
+#[error_bound(C: Display)]
 pub enum TextFault<C> {
     /// The first bad line, counted from 1, and its cause. Where a text ends early, that is the line after its last.
+    #[error("line {line}: {cause}")]
     Bad { line: usize, cause: C },
     /// Memory ran out.
+    #[error("NoMemory")]
     NoMemory,
 }
 

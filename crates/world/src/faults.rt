@@ -1,6 +1,10 @@
+use thiserror::Error;
+
 /// Why a device call gave nothing: the device failed, or memory ran out.
-#[derive(Clone, Copy, Debug, PartialEq, Eq)]
+#[derive(Clone, Copy, Debug, PartialEq, Eq, Error)]
 pub enum DeviceAnswer {
+    #[error("Failed")]
     Failed,
+    #[error("NoMemory")]
     NoMemory,
 }
