@@ -17,7 +17,9 @@ hardware address. `na=IAID:T1:T2:ITEM+ITEM..` is an IA_NA, an ITEM is ADDRESS/PR
 alone; `pd` is an IA_PD likewise, whose ITEM is PREFIX/LENGTH/PREFERRED/VALID; `dns` has addresses, parted by commas, and `search` names.
 
 A line `lease4 INTERFACE WORD..` becomes `file INTERFACE.lease4 HEX`: the lease that KEPT gives, but for the lines that
-the words name. `lease6 INTERFACE WORD..` likewise, by KEPT6; `duid DUID` becomes the file of a DUID.
+the words name; one without a value is left out. A lease with `version=1` has no `mac` and no `confirmed`. `again=NAME` has that
+line twice, `lines=N` the first N lines alone. `lease6 INTERFACE WORD..` likewise, with `/` for blanks in `ia` and `addr`; `duid DUID`
+becomes the file of a DUID.
 """
 
 import ipaddress
@@ -53,19 +55,30 @@ DEFAULTS6 = {
     "search": "",
 }
 KINDS6 = {"advertise": 2, "reply": 7}
-# The lines of a kept DHCPv6 lease, but for the server.
-KEPT6 = {"t1": "1500600", "t2": "2400600", "na": "1", "addr": "2001:db8::5/3000600/6000600"}
-# The lines of a kept lease; those with a number are options.
+# The lines of a kept lease of each family; those with a number are options.
 KEPT = {
-    "address": "10.0.0.50/24",
-    "server": "10.0.0.1",
-    "servermac": "02:00:00:00:00:fe",
-    "first": "100",
-    "lease": "3600",
-    "t1": "1800",
-    "t2": "3150",
-    "3": "0a000001",
-    "6": "0a000001",
+    "lease4": {
+        "mac": "",
+        "confirmed": "200",
+        "address": "10.0.0.50/24",
+        "server": "10.0.0.1",
+        "servermac": "02:00:00:00:00:fe",
+        "first": "100",
+        "lease": "3600",
+        "t1": "1800",
+        "t2": "3150",
+        "3": "0a000001",
+        "6": "0a000001",
+    },
+    "lease6": {
+        "mac": "",
+        "confirmed": "200",
+        "server": SERVER6,
+        "t1": "1500600",
+        "t2": "2400600",
+        "ia": "na 1",
+        "addr": "2001:db8::5 3000600 6000600",
+    },
 }
 
 
@@ -246,23 +259,18 @@ def words_of(words):
     return dict(word.split("=", 1) for word in words)
 
 
-def kept(name, words):
-    """The file of a kept lease."""
-    lines = ["dhcpcd-lease4 1", f"interface {name}"]
-    for key, value in {**KEPT, **words}.items():
-        if value:
-            lines.append(f"option {key} {value}" if key.isdigit() else f"{key} {value}")
-    text = "".join(line + "\n" for line in [*lines, "end"])
-    return f"file {name}.lease4 {text.encode().hex()}\n"
-
-
-def kept6(name, words):
-    """The file of a kept DHCPv6 lease of one address."""
-    lease = {**KEPT6, "server": SERVER6, **words}
-    addr = " ".join(lease["addr"].split("/"))
-    lines = ["dhcpcd-lease6 1", f"interface {name}", f"server {lease['server']}", f"t1 {lease['t1']}", f"t2 {lease['t2']}"]
-    text = "".join(line + "\n" for line in [*lines, f"ia na {lease['na']}", f"addr {addr}", "end"])
-    return f"file {name}.lease6 {text.encode().hex()}\n"
+def kept(kind, name, own, words):
+    """The file of a kept lease of either family. The hardware address is the interface's own where none is named."""
+    version = words.pop("version", "2")
+    again = words.pop("again", "")
+    count = int(words.pop("lines", "99"))
+    lease = {**KEPT[kind], "mac": own, **words}
+    lines = [f"dhcpcd-{kind} {version}", f"interface {name}"]
+    for key, value in lease.items():
+        if value and not (version == "1" and key in ("mac", "confirmed")):
+            lines += [f"option {key} {value}" if key.isdigit() else f"{key} {value}"] * (2 if key == again else 1)
+    text = "".join(line + "\n" for line in [*lines, "end"][:count])
+    return f"file {name}.{kind} {text.encode().hex() or '-'}\n"
 
 
 def spell(lines):
@@ -271,14 +279,15 @@ def spell(lines):
     for line in lines:
         words = line.split()
         if words[:1] == ["if"]:
-            own[words[1]] = words[3]
+            own[words[1]] = own[words[2]] = words[3]
         if words[:1] == ["turn"] and (words[3] in OPTIONS or words[3] in KINDS6 or words[3] == "arp"):
             spelled = frame(words[3], own[words[4]], words_of(words[5:]))
             line = " ".join(words[:3] + ["frame", words[4], spelled.hex() or "-"]) + "\n"
         if words[:1] == ["lease4"]:
-            line = kept(words[1], words_of(words[2:]))
+            line = kept("lease4", words[1], own[words[1]], words_of(words[2:]))
         if words[:1] == ["lease6"]:
-            line = kept6(words[1], words_of(words[2:]))
+            said = [word.replace("/", " ") if word.startswith(("ia=", "addr=")) else word for word in words[2:]]
+            line = kept("lease6", words[1], own[words[1]], words_of(said))
         if words[:1] == ["duid"]:
             line = f"file duid {(words[1] + chr(10)).encode().hex()}\n"
         yield line

@@ -63,7 +63,7 @@ def joined(lines):
 
 def use_public_networks():
     """Has what drafts leave out be of public networks too."""
-    for table in (frames.DEFAULTS, frames.DEFAULTS6, frames.ARP, frames.KEPT, frames.KEPT6, *frames.OPTIONS.values()):
+    for table in (frames.DEFAULTS, frames.DEFAULTS6, frames.ARP, *frames.KEPT.values(), *frames.OPTIONS.values()):
         table.update({key: replaced(value) for key, value in table.items()})
 
 

@@ -1,10 +1,10 @@
--- Where nothing is new of an interface, its rows are as before, and what it tells the resolver; where it says nothing either, its kept
--- leases.
-use Rattle.std.proofs.Common.{◌≡◌, ◌+◌, ◌≤◌, ℕ, List, [], ◌∷◌, ◌++◌, map, length, refl, sym, ap, subst, ◌∙◌, arith, length-append}
+-- Where nothing is new of an interface, its rows are as before, and what it tells the resolver; where it didn't lose a kept lease of
+-- DHCPv4 either, its kept leases.
+use Rattle.std.proofs.Common.{◌≡◌, ◌+◌, ◌≤◌, ℕ, true, false, ◌&&◌, not, Option, Some, None, List, [], ◌∷◌, ◌++◌, map, length, refl, sym, ap, subst, ◌∙◌, arith, length-append}
+use Rattle.std.specs.Option.{is_some}
 use Rattle.net_types.specs.declared.address.Mac.{Mac}
 use Rattle.client_model.specs.declared.interfaces.Iface.{Iface}
-use Rattle.client_model.specs.IfaceSteps.{IfaceStep, news_of}
-use Rattle.client_model.specs.Clients.{sends_of}
+use Rattle.client_model.specs.IfaceSteps.{news_of}
 use Rattle.client_model.specs.IfaceTurns.{Turn, iface_turned}
 use Rattle.client_model.proofs.QuietKept.{keeps_in_quiet}
 use Rattle.client_model.proofs.SameInterfaces.{turned_same}
@@ -16,9 +16,11 @@ none_more : {X : Type 0} (before more : List X) → length (before ++ more) ≤ 
 none_more before [] few = refl
 none_more before (x ∷ more) few = let sum : length (before ++ x ∷ more) ≡ length before + length (x ∷ more) = length-append before (x ∷ more) in absurd (omega arith)
 
-none_mapped : {X Y : Type 0} (f : X → Y) (xs : List X) → map f xs ≡ [] → xs ≡ []
-none_mapped f [] none = refl
-none_mapped f (x ∷ xs) none = cc
+-- no lease is kept any more, or a lease that is kept is the one of before
+all_kept : {X : Type 0} (old new : Option X) → (is_some old && not (is_some new)) ≡ false → (is_some new ≡ true → new ≡ old) → new ≡ old
+all_kept None None stays same = refl
+all_kept (Some x) None stays same = absurd cc
+all_kept old (Some y) stays same = same refl
 
 pub no_more : (told counted before after : ℕ) → told ≡ before → counted ≡ after → counted ≤ told → after ≤ before
 no_more told counted before after e f few = omega (arith, e, f, few)
@@ -29,12 +31,6 @@ module _ (own : List Mac) (turn : Turn) (iface new : Iface) (before after : Aske
       let sum : length after.news ≡ length (before.news ++ news_of (iface_turned own turn iface)) = ap length goes.tells in
       none_more before.news (news_of (iface_turned own turn iface)) (omega arith)
 
-  none_said : length after.sends ≤ length before.sends → (iface_turned own turn iface).said ≡ []
-  none_said few =
-      let step : IfaceStep = iface_turned own turn iface in
-      let sum : length after.sends ≡ length (before.sends ++ sends_of step) = ap length goes.offers in
-      none_mapped _ step.said (none_more before.sends (sends_of step) (omega arith))
-
   pub keeps_shown : length after.news ≤ length before.news → KeepsShown iface new
   keeps_shown few =
       let same : KeepsShown iface (iface_turned own turn iface).iface = record {
@@ -43,8 +39,10 @@ module _ (own : List Mac) (turn : Turn) (iface new : Iface) (before after : Aske
       } in
       subst (λ (one : Iface). KeepsShown iface one) (sym goes.goes_on) same
 
-  pub keeps_leases : length after.news ≤ length before.news → length after.sends ≤ length before.sends → KeepsLeases iface new
-  keeps_leases few quiet = record {
-    kept4 = ap (λ (i : Iface). i.dhcp4.kept) goes.goes_on ∙ (keeps_in_quiet own turn iface).kept4 (no_news few) (none_said quiet);
+  pub keeps_leases : length after.news ≤ length before.news → (is_some iface.dhcp4.kept && not (is_some new.dhcp4.kept)) ≡ false → KeepsLeases iface new
+  keeps_leases few stays = record {
+    kept4 = all_kept iface.dhcp4.kept new.dhcp4.kept stays
+        (λ some. ap (λ (i : Iface). i.dhcp4.kept) goes.goes_on
+        ∙ (keeps_in_quiet own turn iface).same4 (no_news few) (ap (λ (i : Iface). is_some i.dhcp4.kept) (sym goes.goes_on) ∙ some));
     kept6 = ap (λ (i : Iface). i.dhcp6.kept) goes.goes_on ∙ (keeps_in_quiet own turn iface).kept6 (no_news few);
   }

@@ -1,6 +1,7 @@
-ghost use Rattle.std.specs.Prelude.{◌≡◌, ◌<◌, ◌^◌, ◌++◌, [], IfOk, IfSome, map, option_map};
+ghost use Rattle.std.specs.Prelude.{◌≡◌, ◌++◌, [], IfOk, IfSome, map, option_map};
 ghost use Rattle.std.specs.List.{AllByRecursion};
 ghost use Rattle.std.specs.String.{string_bytes};
+ghost use Rattle.net_types.specs.Moments.{IsMoment};
 ghost use Rattle.machine.specs.Moment.{moment_of};
 ghost use Rattle.world.specs.HookCalls.{job_of};
 ghost use Rattle.world.specs.Rows.{IsRow};
@@ -149,7 +150,7 @@ pub struct Stepped {
 
 /// One turn: what comes of it, and what the outside is asked.
 pub fn step(core: Core, turn: Turn<'_>) -> Result<Stepped, NoMemory>
-    requires { turn.at < 10 ^ 15 }
+    requires { IsMoment turn.at }
     ensures steps { IfOk result (λ done. Steps (client_turned (turn_of turn.entry) core) done.core (asked_in done.outs)) }
     ensures jobs { IfOk result (λ done. map job_of done.jobs.items ≡ (client_turned (turn_of turn.entry) core).jobs) }
     ensures on_interfaces { IfOk result (λ done. AllByRecursion IsOnInterface (sends_in done.outs)) }

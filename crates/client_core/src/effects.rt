@@ -10,7 +10,7 @@ use std::alloc::AllocError;
 #[derive(Clone, Copy, PartialEq, Eq)]
 pub enum Changes {
     Nothing,
-    /// The leases that it keeps.
+    /// The leases that it keeps: one of them is kept no more.
     Leases,
     /// These, its rows, and what it tells the resolver.
     All,

@@ -1,4 +1,5 @@
-ghost use Rattle.std.specs.Prelude.{◌≡◌, ◌<◌, ◌^◌, ◌++◌, List, [], Some, map, IfOk, OnOk};
+ghost use Rattle.std.specs.Prelude.{◌≡◌, ◌&&◌, ◌++◌, not, List, [], Some, is_some, map, IfOk, OnOk};
+ghost use Rattle.net_types.specs.Moments.{IsMoment};
 ghost use Rattle.world.specs.HookCalls.{job_of};
 ghost use Rattle.world.specs.declared.rows.HostRow.{HostRow};
 ghost use Rattle.settings.specs.Fitting.{FitsManaged};
@@ -19,33 +20,48 @@ use crate::hook_jobs::make_jobs;
 use crate::kept::{Kept, Renewed};
 use client_model::Iface;
 use host_tables::{Diff, Diffs};
-use iface_core::{Outs, Turn, iface_turn};
+use iface_core::{Outs, Turn, iface_kept, iface_turn};
 use net_types::{IfIndex, Mac, NoMemory};
 use std::alloc::Global;
 use world::HookJob;
 
-/// A turn of an interface. Where nothing is new its rows are as before, and what it tells the resolver; where it says nothing either,
-/// its kept leases.
+/// Whether an interface keeps a DHCPv4 lease, held or not.
+fn keeps_lease(iface: &Iface) -> bool
+    ensures { result ≡ is_some iface.now.dhcp4.kept }
+{
+    iface_kept(iface).is_some()
+}
+
+/// Whether a lease that was kept before isn't kept after.
+fn is_lost(before: bool, after: bool) -> bool
+    ensures { result ≡ (before && not after) }
+{
+    before && !after
+}
+
+/// A turn of an interface. Where nothing is new its rows are as before, what it tells the resolver, and its kept leases; but one of
+/// DHCPv4 is given up where its address is declined.
 fn turn_iface(
     iface: &mut Iface,
     turn: &Turn<'_>,
     own: &[Mac],
     outs: &mut Outs,
 ) -> Result<Changes, NoMemory>
-    requires at { turn.now.at < 10 ^ 15 }
+    requires at { IsMoment turn.now.at }
     requires fits { FitsManaged iface.old.managed }
     ensures goes { OnOk result (Goes (iface_turned own.now (turn_of turn.now) iface.old) iface.new (asked_in outs.old) (asked_in outs.new)) }
     ensures leaves { IfOk result (λ changes. LeavesBut changes iface.old iface.new) }
 {
     let told = outs.news.len();
-    let said = outs.sends.len();
+    let had_lease = keeps_lease(iface);
     iface_turn(iface, turn, own, outs)?;
     let is_new = outs.news.len() > told;
-    let has_said = outs.sends.len() > said;
     if is_new {
         return Ok(Changes::All);
     }
-    if has_said {
+    let has_lease = keeps_lease(iface);
+    let is_gone = is_lost(had_lease, has_lease);
+    if is_gone {
         return Ok(Changes::Leases);
     }
     Ok(Changes::Nothing)
@@ -126,7 +142,7 @@ pub fn turn_all(
     outs: &mut Outs,
     jobs: &mut Vec<HookJob>,
 ) -> Result<AllTurned, NoMemory>
-    requires at { turn.now.at < 10 ^ 15 }
+    requires at { IsMoment turn.now.at }
     requires running { IsRunning ifaces.old kept.old }
     requires told { (asked_in outs.old).told ≡ [] }
     ensures goes { OnOk result (GoAll (iface_turned own.now (turn_of turn.now)) ifaces.old ifaces.new (asked_in outs.old) (asked_in outs.new)) }

@@ -1,10 +1,13 @@
 -- The lease with which an interface begins: that of its file, where the file's text is a lease of this interface.
-use Rattle.std.specs.Prelude.{◌≡◌, ℕ, bytes_eq, if◌then◌else◌, List, Option, Some, None, option_and_then}
+use Rattle.std.specs.Prelude.{◌≡◌, ℕ, Bool, true, ◌&&◌, bytes_eq, if◌then◌else◌, List, Option, Some, None, option_and_then}
+use Rattle.net_types.specs.declared.address.Mac.{Mac}
+use Rattle.net_types.specs.declared.interface.IfSpec.{IfSpec}
 use Rattle.net_types.specs.declared.interface.Name.{Name}
 use Rattle.net_types.specs.FirstBadLine.{IsSpelled}
 use Rattle.net_types.specs.LineReading.{run}
 use Rattle.net_types.specs.NameText.{name_text}
 use Rattle.net_types.specs.TextLines.{Line}
+use Rattle.lease_text.specs.declared.lease.Origin.{Origin}
 use Rattle.lease_text.specs.LeaseLines.{SpellsLease4}
 use Rattle.lease_text.specs.LeaseReading.{step, start, given}
 use Rattle.lease_text.specs.Leases.{LeaseContent}
@@ -28,15 +31,24 @@ pub record IsReading (text : List ℕ) (lease : LeaseContent) : Type 0 where
 
 -- ---- the lease of an interface
 
+-- what was granted to this hardware address, where it is told to which
+abbrev pub is_granted_to : Mac → Option Origin → Bool
+is_granted_to mac None = true
+is_granted_to mac (Some origin) = bytes_eq origin.mac.bytes mac.bytes
+
+-- what has the name of the interface and was granted to it
+abbrev pub is_own : IfSpec → Name → Option Origin → Bool
+is_own spec name origin = bytes_eq (name_text name) (name_text spec.name) && is_granted_to spec.mac origin
+
 -- that of another interface counts as none
-abbrev pub own_lease : Name → LeaseContent → Option LeaseContent
-own_lease name lease = if bytes_eq (name_text lease.name) (name_text name) then Some lease else None
+abbrev pub own_lease : IfSpec → LeaseContent → Option LeaseContent
+own_lease spec lease = if is_own spec lease.name lease.origin then Some lease else None
 
 -- what a file keeps that was read; one that isn't there, couldn't be read, or has another text keeps no lease
-abbrev pub kept_by : Name → Reading → Option LeaseContent
-kept_by name (Found bytes) = option_and_then (own_lease name) (lease_spelled bytes)
-kept_by name Missing = None
-kept_by name Unread = None
+abbrev pub kept_by : IfSpec → Reading → Option LeaseContent
+kept_by spec (Found bytes) = option_and_then (own_lease spec) (lease_spelled bytes)
+kept_by spec Missing = None
+kept_by spec Unread = None
 
 -- a managed interface, the DUID of the host, and the leases that were kept for the interface
 pub record Beginning : Type 0 where

@@ -1,14 +1,14 @@
 -- The DHCPv6 lease with which an interface begins: that of its file, where the file's text is a lease of this interface.
-use Rattle.std.specs.Prelude.{◌≡◌, ℕ, bytes_eq, if◌then◌else◌, List, Option, Some, None, option_and_then}
-use Rattle.net_types.specs.declared.interface.Name.{Name}
+use Rattle.std.specs.Prelude.{◌≡◌, ℕ, if◌then◌else◌, List, Option, Some, None, option_and_then}
+use Rattle.net_types.specs.declared.interface.IfSpec.{IfSpec}
 use Rattle.net_types.specs.FirstBadLine.{IsSpelled}
 use Rattle.net_types.specs.LineReading.{run}
-use Rattle.net_types.specs.NameText.{name_text}
 use Rattle.net_types.specs.TextLines.{Line}
 use Rattle.lease6_text.specs.LeaseLines.{SpellsLease6}
 use Rattle.lease6_text.specs.LeaseReading.{step, start, given}
 use Rattle.lease6_text.specs.Leases.{Lease6Content}
 use Rattle.world.specs.StoreCalls.{Reading, Found, Missing, Unread}
+use Rattle.client_model.specs.KeptLeases.{is_own}
 use Rattle.client_model.specs.TextsByLine.{lines_in}
 
 -- ---- the lease that a text spells
@@ -26,12 +26,12 @@ pub record IsReading6 (text : List ℕ) (lease : Lease6Content) : Type 0 where
 
 -- ---- the lease of an interface
 
--- that of another interface counts as none
-abbrev pub own_lease6 : Name → Lease6Content → Option Lease6Content
-own_lease6 name lease = if bytes_eq (name_text lease.name) (name_text name) then Some lease else None
+-- that of another interface, or of another hardware address, counts as none
+abbrev pub own_lease6 : IfSpec → Lease6Content → Option Lease6Content
+own_lease6 spec lease = if is_own spec lease.name lease.origin then Some lease else None
 
 -- what a file keeps that was read; one that isn't there, couldn't be read, or has another text keeps no lease
-abbrev pub kept6_by : Name → Reading → Option Lease6Content
-kept6_by name (Found bytes) = option_and_then (own_lease6 name) (lease6_spelled bytes)
-kept6_by name Missing = None
-kept6_by name Unread = None
+abbrev pub kept6_by : IfSpec → Reading → Option Lease6Content
+kept6_by spec (Found bytes) = option_and_then (own_lease6 spec) (lease6_spelled bytes)
+kept6_by spec Missing = None
+kept6_by spec Unread = None

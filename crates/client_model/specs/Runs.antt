@@ -1,5 +1,6 @@
 -- Runs over a list of turns, the newest first: that of one interface alone, and that of the client.
-use Rattle.std.specs.Prelude.{◌≡◌, ◌≢◌, ℕ, List, [], ◌∷◌, map, flat_map}
+use Rattle.std.specs.Prelude.{◌≡◌, ◌≢◌, ℕ, true, List, [], ◌∷◌, map, flat_map}
+use Rattle.std.specs.Option.{is_some}
 use Rattle.net_types.specs.declared.address.Mac.{Mac}
 use Rattle.world.specs.declared.wakes.Event.{Event}
 use Rattle.world.specs.declared.wakes.Event.TheVariants.{Frame, Carrier, Duplicate, Release, Rebind, Stop, Quiet, End}
@@ -47,10 +48,12 @@ IsQuietElsewhere = (own : List Mac) (turn : Turn) (iface : Iface) → NamesOther
     → iface_turned own turn iface ≡ iface_turned own (record turn { event = Quiet; bytes = [] }) iface
 
 -- A turn of an interface of which nothing is new leaves its rows, what it tells the resolver, and the DHCPv6 lease that it keeps;
--- where it says nothing either, the DHCPv4 lease.
+-- where it says nothing either, the DHCPv4 lease. The DHCPv4 lease that it keeps after any such turn is the one that it kept before.
 pub record KeepsInQuiet (own : List Mac) (turn : Turn) (iface : Iface) : Type 0 where
   pub rows : news_of (iface_turned own turn iface) ≡ [] → iface_rows (iface_turned own turn iface).iface ≡ iface_rows iface
   pub parts : news_of (iface_turned own turn iface) ≡ [] → iface_parts (iface_turned own turn iface).iface ≡ iface_parts iface
   pub kept6 : news_of (iface_turned own turn iface) ≡ [] → (iface_turned own turn iface).iface.dhcp6.kept ≡ iface.dhcp6.kept
   pub kept4 : news_of (iface_turned own turn iface) ≡ [] → (iface_turned own turn iface).said ≡ []
+      → (iface_turned own turn iface).iface.dhcp4.kept ≡ iface.dhcp4.kept
+  pub same4 : news_of (iface_turned own turn iface) ≡ [] → is_some (iface_turned own turn iface).iface.dhcp4.kept ≡ true
       → (iface_turned own turn iface).iface.dhcp4.kept ≡ iface.dhcp4.kept

@@ -76,7 +76,7 @@ pub fn kept_texts_are_leases6()
 {}
 
 /// Law: an interface's rows, what it tells the resolver, and the DHCPv6 lease that it keeps change only in turns of which
-/// something is new, and the DHCPv4 lease that it keeps only in those or where it says something.
+/// something is new, and the DHCPv4 lease that it keeps only in those or where it says something, and then none is kept any more.
 pub fn rows_and_leases_stay_in_quiet_turns()
     ensures { (own : List Mac) (turn : Turn) (iface : Iface) → KeepsInQuiet own turn iface }
 {}

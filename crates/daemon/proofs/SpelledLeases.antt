@@ -2,7 +2,7 @@
 use Rattle.std.proofs.Common.{ℕ, ◌≡◌, List, Option, Some, None, refl, sym, ap, ◌∙◌}
 use Rattle.std.specs.Prelude.{option_and_then}
 use Rattle.net_types.specs.declared.fault.BadText.{BadText}
-use Rattle.net_types.specs.declared.interface.Name.{Name}
+use Rattle.net_types.specs.declared.interface.IfSpec.{IfSpec}
 use Rattle.net_types.specs.FirstBadLine.{FirstBad, IsSpelled}
 use Rattle.lease_text.specs.Bounds.{FitsLease}
 use Rattle.lease_text.specs.Leases.{LeaseContent}
@@ -28,9 +28,9 @@ spelled_fits text lease spelled = spelled.spells.1.fits
 
 -- ---- the lease that a text keeps for an interface
 
-pub none_kept : (name : Name) (text : List ℕ) (lease : Option LeaseContent) → lease ≡ lease_spelled text → lease ≡ None → None ≡ option_and_then (own_lease name) (lease_spelled text)
-none_kept name text lease is none = ap (option_and_then (own_lease name)) (sym none ∙ is)
+pub none_kept : (spec : IfSpec) (text : List ℕ) (lease : Option LeaseContent) → lease ≡ lease_spelled text → lease ≡ None → None ≡ option_and_then (own_lease spec) (lease_spelled text)
+none_kept spec text lease is none = ap (option_and_then (own_lease spec)) (sym none ∙ is)
 
-pub one_kept : (name : Name) (text : List ℕ) (lease : Option LeaseContent) (one : LeaseContent) (kept : Option LeaseContent) → lease ≡ lease_spelled text → lease ≡ Some one → kept ≡ own_lease name one
-    → kept ≡ option_and_then (own_lease name) (lease_spelled text)
-one_kept name text lease one kept is some kept_is = kept_is ∙ ap (option_and_then (own_lease name)) (sym some ∙ is)
+pub one_kept : (spec : IfSpec) (text : List ℕ) (lease : Option LeaseContent) (one : LeaseContent) (kept : Option LeaseContent) → lease ≡ lease_spelled text → lease ≡ Some one → kept ≡ own_lease spec one
+    → kept ≡ option_and_then (own_lease spec) (lease_spelled text)
+one_kept spec text lease one kept is some kept_is = kept_is ∙ ap (option_and_then (own_lease spec)) (sym some ∙ is)

@@ -2,7 +2,7 @@
 use Rattle.std.proofs.Common.{ℕ, ◌≡◌, List, Option, Some, None, refl, sym, ap, ◌∙◌}
 use Rattle.std.specs.Prelude.{option_and_then}
 use Rattle.net_types.specs.declared.fault.BadText.{BadText}
-use Rattle.net_types.specs.declared.interface.Name.{Name}
+use Rattle.net_types.specs.declared.interface.IfSpec.{IfSpec}
 use Rattle.net_types.specs.FirstBadLine.{FirstBad, IsSpelled}
 use Rattle.lease6_text.specs.Bounds.{HasText6}
 use Rattle.lease6_text.specs.Leases.{Lease6Content}
@@ -28,9 +28,9 @@ spelled_fits6 text lease spelled = spelled.spells.1
 
 -- ---- the lease that a text keeps for an interface
 
-pub none_kept6 : (name : Name) (text : List ℕ) (lease : Option Lease6Content) → lease ≡ lease6_spelled text → lease ≡ None → None ≡ option_and_then (own_lease6 name) (lease6_spelled text)
-none_kept6 name text lease is none = ap (option_and_then (own_lease6 name)) (sym none ∙ is)
+pub none_kept6 : (spec : IfSpec) (text : List ℕ) (lease : Option Lease6Content) → lease ≡ lease6_spelled text → lease ≡ None → None ≡ option_and_then (own_lease6 spec) (lease6_spelled text)
+none_kept6 spec text lease is none = ap (option_and_then (own_lease6 spec)) (sym none ∙ is)
 
-pub one_kept6 : (name : Name) (text : List ℕ) (lease : Option Lease6Content) (one : Lease6Content) (kept : Option Lease6Content) → lease ≡ lease6_spelled text → lease ≡ Some one → kept ≡ own_lease6 name one
-    → kept ≡ option_and_then (own_lease6 name) (lease6_spelled text)
-one_kept6 name text lease one kept is some kept_is = kept_is ∙ ap (option_and_then (own_lease6 name)) (sym some ∙ is)
+pub one_kept6 : (spec : IfSpec) (text : List ℕ) (lease : Option Lease6Content) (one : Lease6Content) (kept : Option Lease6Content) → lease ≡ lease6_spelled text → lease ≡ Some one → kept ≡ own_lease6 spec one
+    → kept ≡ option_and_then (own_lease6 spec) (lease6_spelled text)
+one_kept6 spec text lease one kept is some kept_is = kept_is ∙ ap (option_and_then (own_lease6 spec)) (sym some ∙ is)

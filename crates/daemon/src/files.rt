@@ -90,12 +90,11 @@ fn begin_with(
     ensures is { IfOk result (λ begun. beginning_of begun ≡ loading.beginning_of duid.now.bytes.items (loading.loaded managed.now (option_map got_reading lease4.now) (option_map got_reading lease6.now))) }
     ensures fit { IfOk result (λ begun. FitsBeginning (beginning_of begun)) }
 {
-    let name = &managed.spec.name;
     Ok(Beginning {
         managed: managed.to_owned(alloc)?,
         duid: duid_copied(alloc, duid)?,
-        kept4: first_lease(alloc, name, lease4)?,
-        kept6: first_lease6(alloc, name, lease6)?,
+        kept4: first_lease(alloc, &managed.spec, lease4)?,
+        kept6: first_lease6(alloc, &managed.spec, lease6)?,
     })
 }
 

@@ -3,13 +3,13 @@ ghost use Rattle.std.specs.Prelude.{◌≡◌, IfOk, IfSome, option_and_then, op
 ghost use Rattle.lease_file.specs.FileReads.{got_reading};
 ghost use Rattle.lease_text.specs.Bounds.{FitsLease};
 ghost use Rattle.lease_text.specs.Leases.{lease_content};
-ghost use Rattle.client_model.specs.KeptLeases.{lease_spelled, own_lease, kept_by};
+ghost use Rattle.client_model.specs.KeptLeases.{is_granted_to, is_own, kept_by, lease_spelled, own_lease};
 
 use crate::names::is_same;
 use client_model::kept_texts_are_leases;
 use lease_file::Got;
-use lease_text::{Lease4, read_lease4};
-use net_types::{Name, NoMemory, TextFault};
+use lease_text::{Lease4, Origin, read_lease4};
+use net_types::{IfSpec, Mac, Name, NoMemory, TextFault};
 use std::alloc::Global;
 
 /// The lease that a text spells.
@@ -26,13 +26,30 @@ fn lease_of(alloc: Global, text: &[u8]) -> Result<Option<Lease4>, NoMemory>
     }
 }
 
+/// Whether what comes from there was granted to a hardware address. What doesn't tell may have been.
+fn is_granted_to(mac: Mac, origin: Option<Origin>) -> bool
+    ensures { result ≡ is_granted_to mac origin }
+{
+    match origin {
+        None => true,
+        Some(origin) => origin.mac == mac,
+    }
+}
+
+/// Whether a lease with this name and origin is one of the interface.
+pub fn is_own(spec: &IfSpec, name: &Name, origin: Option<Origin>) -> bool
+    ensures { result ≡ is_own spec.now name.now origin }
+{
+    is_same(name, &spec.name) && is_granted_to(spec.mac, origin)
+}
+
 /// A lease of this interface. That of another counts as none.
-fn own_lease(name: &Name, lease: Lease4) -> Option<Lease4>
+fn own_lease(spec: &IfSpec, lease: Lease4) -> Option<Lease4>
     requires { FitsLease (lease_content lease) }
-    ensures own { option_map lease_content result ≡ own_lease name.now (lease_content lease) }
+    ensures own { option_map lease_content result ≡ own_lease spec.now (lease_content lease) }
     ensures fits { IfSome (option_map lease_content result) FitsLease }
 {
-    if is_same(&lease.name, name) {
+    if is_own(spec, &lease.name, lease.origin) {
         Some(lease)
     } else {
         None
@@ -41,23 +58,23 @@ fn own_lease(name: &Name, lease: Lease4) -> Option<Lease4>
 
 /// The lease that the text of a file keeps for an interface.
 #[tactic(auto, using(crate::proofs::SpelledLeases::none_kept, crate::proofs::SpelledLeases::one_kept))]
-fn kept_in(alloc: Global, name: &Name, text: &[u8]) -> Result<Option<Lease4>, NoMemory>
-    ensures kept { IfOk result (λ kept. option_map lease_content kept ≡ option_and_then (own_lease name.now) (lease_spelled text.now)) }
+fn kept_in(alloc: Global, spec: &IfSpec, text: &[u8]) -> Result<Option<Lease4>, NoMemory>
+    ensures kept { IfOk result (λ kept. option_map lease_content kept ≡ option_and_then (own_lease spec.now) (lease_spelled text.now)) }
     ensures fits { IfOk result (λ kept. IfSome (option_map lease_content kept) FitsLease) }
 {
     match lease_of(alloc, text)? {
         None => Ok(None),
-        Some(lease) => Ok(own_lease(name, lease)),
+        Some(lease) => Ok(own_lease(spec, lease)),
     }
 }
 
 /// The lease that a file keeps for an interface. One that isn't there, couldn't be read, or has another text keeps none.
-fn kept_by(alloc: Global, name: &Name, got: &Got) -> Result<Option<Lease4>, NoMemory>
-    ensures kept { IfOk result (λ kept. option_map lease_content kept ≡ kept_by name.now (got_reading got.now)) }
+fn kept_by(alloc: Global, spec: &IfSpec, got: &Got) -> Result<Option<Lease4>, NoMemory>
+    ensures kept { IfOk result (λ kept. option_map lease_content kept ≡ kept_by spec.now (got_reading got.now)) }
     ensures fits { IfOk result (λ kept. IfSome (option_map lease_content kept) FitsLease) }
 {
     match got {
-        Got::Text(text) => kept_in(alloc, name, text),
+        Got::Text(text) => kept_in(alloc, spec, text),
         Got::Missing => Ok(None),
         Got::Unread => Ok(None),
     }
@@ -66,14 +83,14 @@ fn kept_by(alloc: Global, name: &Name, got: &Got) -> Result<Option<Lease4>, NoMe
 /// The lease with which an interface begins, by what reading its file gave. Nothing is read where DHCPv4 doesn't run.
 pub fn first_lease(
     alloc: Global,
-    name: &Name,
+    spec: &IfSpec,
     read: &Option<Got>,
 ) -> Result<Option<Lease4>, NoMemory>
-    ensures kept { IfOk result (λ kept. option_map lease_content kept ≡ option_and_then (kept_by name.now) (option_map got_reading read.now)) }
+    ensures kept { IfOk result (λ kept. option_map lease_content kept ≡ option_and_then (kept_by spec.now) (option_map got_reading read.now)) }
     ensures fits { IfOk result (λ kept. IfSome (option_map lease_content kept) FitsLease) }
 {
     match read {
-        Some(got) => kept_by(alloc, name, got),
+        Some(got) => kept_by(alloc, spec, got),
         None => Ok(None),
     }
 }

@@ -5,11 +5,11 @@ ghost use Rattle.lease6_text.specs.Bounds.{HasText6};
 ghost use Rattle.lease6_text.specs.Leases.{lease6_content};
 ghost use Rattle.client_model.specs.KeptLeases6.{lease6_spelled, own_lease6, kept6_by};
 
-use crate::names::is_same;
+use crate::leases4::is_own;
 use client_model::kept_texts_are_leases6;
 use lease_file::Got;
 use lease6_text::{Lease6, read_lease6};
-use net_types::{Name, NoMemory, TextFault};
+use net_types::{IfSpec, NoMemory, TextFault};
 use std::alloc::Global;
 
 /// The lease that a text spells.
@@ -26,13 +26,13 @@ fn lease_of(alloc: Global, text: &[u8]) -> Result<Option<Lease6>, NoMemory>
     }
 }
 
-/// A lease of this interface. That of another counts as none.
-fn own_lease(name: &Name, lease: Lease6) -> Option<Lease6>
+/// A lease of this interface. That of another, or of another hardware address, counts as none.
+fn own_lease(spec: &IfSpec, lease: Lease6) -> Option<Lease6>
     requires { HasText6 (lease6_content lease) }
-    ensures own { option_map lease6_content result ≡ own_lease6 name.now (lease6_content lease) }
+    ensures own { option_map lease6_content result ≡ own_lease6 spec.now (lease6_content lease) }
     ensures fits { IfSome (option_map lease6_content result) HasText6 }
 {
-    if is_same(&lease.name, name) {
+    if is_own(spec, &lease.name, lease.origin) {
         Some(lease)
     } else {
         None
@@ -41,23 +41,23 @@ fn own_lease(name: &Name, lease: Lease6) -> Option<Lease6>
 
 /// The lease that the text of a file keeps for an interface.
 #[tactic(auto, using(crate::proofs::SpelledLeases6::none_kept6, crate::proofs::SpelledLeases6::one_kept6))]
-fn kept_in(alloc: Global, name: &Name, text: &[u8]) -> Result<Option<Lease6>, NoMemory>
-    ensures kept { IfOk result (λ kept. option_map lease6_content kept ≡ option_and_then (own_lease6 name.now) (lease6_spelled text.now)) }
+fn kept_in(alloc: Global, spec: &IfSpec, text: &[u8]) -> Result<Option<Lease6>, NoMemory>
+    ensures kept { IfOk result (λ kept. option_map lease6_content kept ≡ option_and_then (own_lease6 spec.now) (lease6_spelled text.now)) }
     ensures fits { IfOk result (λ kept. IfSome (option_map lease6_content kept) HasText6) }
 {
     match lease_of(alloc, text)? {
         None => Ok(None),
-        Some(lease) => Ok(own_lease(name, lease)),
+        Some(lease) => Ok(own_lease(spec, lease)),
     }
 }
 
 /// The lease that a file keeps for an interface. One that isn't there, couldn't be read, or has another text keeps none.
-fn kept_by(alloc: Global, name: &Name, got: &Got) -> Result<Option<Lease6>, NoMemory>
-    ensures kept { IfOk result (λ kept. option_map lease6_content kept ≡ kept6_by name.now (got_reading got.now)) }
+fn kept_by(alloc: Global, spec: &IfSpec, got: &Got) -> Result<Option<Lease6>, NoMemory>
+    ensures kept { IfOk result (λ kept. option_map lease6_content kept ≡ kept6_by spec.now (got_reading got.now)) }
     ensures fits { IfOk result (λ kept. IfSome (option_map lease6_content kept) HasText6) }
 {
     match got {
-        Got::Text(text) => kept_in(alloc, name, text),
+        Got::Text(text) => kept_in(alloc, spec, text),
         Got::Missing => Ok(None),
         Got::Unread => Ok(None),
     }
@@ -66,14 +66,14 @@ fn kept_by(alloc: Global, name: &Name, got: &Got) -> Result<Option<Lease6>, NoMe
 /// The lease with which an interface begins, by what reading its file gave. Nothing is read where DHCPv6 doesn't run.
 pub fn first_lease6(
     alloc: Global,
-    name: &Name,
+    spec: &IfSpec,
     read: &Option<Got>,
 ) -> Result<Option<Lease6>, NoMemory>
-    ensures kept { IfOk result (λ kept. option_map lease6_content kept ≡ option_and_then (kept6_by name.now) (option_map got_reading read.now)) }
+    ensures kept { IfOk result (λ kept. option_map lease6_content kept ≡ option_and_then (kept6_by spec.now) (option_map got_reading read.now)) }
     ensures fits { IfOk result (λ kept. IfSome (option_map lease6_content kept) HasText6) }
 {
     match read {
-        Some(got) => kept_by(alloc, name, got),
+        Some(got) => kept_by(alloc, spec, got),
         None => Ok(None),
     }
 }

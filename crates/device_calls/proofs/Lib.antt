@@ -2,3 +2,4 @@ pub mod Printings
 pub mod Programs
 pub mod Doing
 pub mod Running
+pub mod Begun

@@ -5,3 +5,4 @@ pub mod Worlds
 pub mod Telling
 pub mod Printing
 pub mod Does
+pub mod Fronts

@@ -1,9 +1,11 @@
 -- Words ask for one thing.
-use Rattle.std.proofs.Common.{ℕ, ◌≡◌, false, true, List, [], ◌∷◌, codes, refl, sym, ap, ⊎_elim, ◌∙◌}
+use Rattle.std.proofs.Common.{ℕ, ◌≡◌, ◌⊎◌, false, true, List, [], ◌∷◌, codes, refl, sym, ap, ⊎_elim, ◌∙◌}
 use Rattle.std.specs.Prelude.{bytes_eq}
+use Rattle.net_types.specs.declared.address.Mac.{Mac}
 use Rattle.net_types.specs.declared.interface.IfSpec.{IfSpec}
+use Rattle.net_types.specs.declared.interface.Name.{Name}
 use Rattle.live_words.specs.LiveWords.{AsksLive}
-use Rattle.dhcpcd.specs.Words.{AskReplay, AskCheck, AskLive, AskMake, AsksMake, AskWork}
+use Rattle.dhcpcd.specs.Words.{AskReplay, AskCheck, AskDump, AskImport, AskLive, AskMake, AsksImport, AsksMake, AskWork}
 
 first_word : List (List ℕ) → List ℕ
 first_word [] = []
@@ -40,9 +42,50 @@ pub not_live_make : (words : List (List ℕ)) → AskLive words → AskMake word
 unfolding first_word
 not_live_make words live make = apart words (codes "live") (codes "make") refl refl (ap first_word live.1.says) (ap first_word make.1.says)
 
+pub not_replay_dump : (words : List (List ℕ)) → AskReplay words → AskDump words → ⊥
+unfolding first_word
+not_replay_dump words replay dump = apart words (codes "replay") (codes "dump") refl refl (ap first_word replay) (ap first_word dump)
+
+pub not_check_dump : (words : List (List ℕ)) → AskCheck words → AskDump words → ⊥
+unfolding first_word
+not_check_dump words check dump = apart words (codes "check") (codes "dump") refl refl (ap first_word check) (ap first_word dump)
+
+pub not_live_dump : (words : List (List ℕ)) → AskLive words → AskDump words → ⊥
+unfolding first_word
+not_live_dump words live dump = apart words (codes "live") (codes "dump") refl refl (ap first_word live.1.says) (ap first_word dump)
+
+pub not_make_dump : (words : List (List ℕ)) → AskMake words → AskDump words → ⊥
+unfolding first_word
+not_make_dump words make dump = apart words (codes "make") (codes "dump") refl refl (ap first_word make.1.says) (ap first_word dump)
+
+pub not_replay_import : (words : List (List ℕ)) → AskReplay words → AskImport words → ⊥
+unfolding first_word
+not_replay_import words replay import = apart words (codes "replay") (codes "import") refl refl (ap first_word replay) (ap first_word import.2.says)
+
+pub not_check_import : (words : List (List ℕ)) → AskCheck words → AskImport words → ⊥
+unfolding first_word
+not_check_import words check import = apart words (codes "check") (codes "import") refl refl (ap first_word check) (ap first_word import.2.says)
+
+pub not_live_import : (words : List (List ℕ)) → AskLive words → AskImport words → ⊥
+unfolding first_word
+not_live_import words live import = apart words (codes "live") (codes "import") refl refl (ap first_word live.1.says) (ap first_word import.2.says)
+
+pub not_make_import : (words : List (List ℕ)) → AskMake words → AskImport words → ⊥
+unfolding first_word
+not_make_import words make import = apart words (codes "make") (codes "import") refl refl (ap first_word make.1.says) (ap first_word import.2.says)
+
+pub not_dump_import : (words : List (List ℕ)) → AskDump words → AskImport words → ⊥
+unfolding first_word
+not_dump_import words dump import = apart words (codes "dump") (codes "import") refl refl (ap first_word dump) (ap first_word import.2.says)
+
 -- No words ask for two works.
-pub ruleset asked_apart = (not_both, not_replay_live, not_check_live, not_replay_make, not_check_make, not_live_make)
+pub ruleset asked_apart = (not_both, not_replay_live, not_check_live, not_replay_make, not_check_make, not_live_make, not_replay_dump, not_check_dump, not_live_dump, not_make_dump, not_replay_import, not_check_import, not_live_import, not_make_import, not_dump_import)
 
 -- words that ask for no work
-pub none_asked : (words : List (List ℕ)) → (AskReplay words → ⊥) → (AskCheck words → ⊥) → ((rounds : ℕ) → AsksMake words rounds → ⊥) → ((specs : List IfSpec) → AsksLive words specs → ⊥) → AskWork words → ⊥
-none_asked words replay check make live asks = ⊎_elim replay (λ more. ⊎_elim check (λ others. ⊎_elim (λ asked. live asked.0 asked.1) (λ asked. make asked.0 asked.1) others) more) asks
+pub none_asked : (words : List (List ℕ)) → (AskReplay words → ⊥) → (AskCheck words → ⊥) → (AskDump words → ⊥) → ((rounds : ℕ) → AsksMake words rounds → ⊥)
+    → ((name : Name) (mac : Mac) → AsksImport words name mac → ⊥) → ((specs : List IfSpec) → AsksLive words specs → ⊥) → AskWork words → ⊥
+none_asked words replay check dump make import live asks =
+    let imports : AskDump words ⊎ AskImport words → ⊥ = ⊎_elim dump (λ asked. import asked.0 asked.1 asked.2) in
+    let makes = ⊎_elim (λ asked. make asked.0 asked.1) imports in
+    let lives = ⊎_elim (λ asked. live asked.0 asked.1) makes in
+    ⊎_elim replay (⊎_elim check lives) asks

@@ -1,11 +1,15 @@
 -- The text that `check` writes.
-use Rattle.std.proofs.Common.{ℕ, ◌≡◌, List, ◌++◌, Option, codes, ap, subst, ◌∙◌, append_assoc}
+use Rattle.std.proofs.Common.{ℕ, ◌≡◌, List, ◌++◌, Option, Ok, Err, codes, refl, ap, ◌∙◌, append_assoc}
 use Rattle.std.specs.Prelude.{map}
 use Rattle.script_model.specs.Lines.{lines_text}
 use Rattle.device_calls.specs.Printing.{Prints}
-use Rattle.daemon.specs.Streams.{WritesBytes, WritesSome}
 use Rattle.conf_text.specs.Configurations.{NoticeContent, Configuration}
-use Rattle.dhcpcd.specs.Checks.{check_text}
+use Rattle.conf_text.proofs.OneLaws.{configuration_one}
+use Rattle.dhcpcd.specs.declared.status.Status.{Status}
+use Rattle.dhcpcd.specs.declared.status.Status.TheVariants as status
+use Rattle.dhcpcd.specs.Checks.{TellsConfiguration, check_text, checking}
+use Rattle.dhcpcd.specs.Refusals.{IsConfRefused}
+use Rattle.dhcpcd.specs.Works.{IsDecided, MayRefuse, Serves}
 use Rattle.dhcpcd.specs.Replays.{notice_line}
 
 -- the notices, and then `ok`
@@ -14,8 +18,46 @@ all_said t u v said conf same p e =
     e ∙ ap (λ (x : List ℕ). x ++ codes "ok\n") (p.appended ∙ ap (λ (ns : List NoticeContent). t ++ lines_text (map notice_line ns)) same)
     ∙ append_assoc t (lines_text (map notice_line conf.notices)) (codes "ok\n")
 
-pub written_as : (old new : Option (List ℕ)) (text other : List ℕ) → text ≡ other → WritesBytes old new text → WritesBytes old new other
-written_as old new text other e w = subst (WritesBytes old new) e w
+-- ---- the work
 
-pub some_as : (old new : Option (List ℕ)) (text other : List ℕ) → text ≡ other → WritesSome old new text → WritesSome old new other
-some_as old new text other e w = subst (WritesSome old new) e w
+err_ok : {A B : Type 0} {a : A} {b : B} → Err b ≡ Ok a → ⊥
+err_ok e = cc
+
+-- a configuration has no fault
+pub checking_is_decided : IsDecided checking
+checking_is_decided bytes text (status.Conf fault) gives refuses = err_ok (configuration_one bytes (Err fault) (Ok gives.conf) refuses gives.configured)
+checking_is_decided bytes text status.Done gives refuses = absurd refuses
+checking_is_decided bytes text status.Usage gives refuses = absurd refuses
+checking_is_decided bytes text (status.Script fault) gives refuses = absurd refuses
+checking_is_decided bytes text status.ReadFault gives refuses = absurd refuses
+checking_is_decided bytes text status.WriteFault gives refuses = absurd refuses
+checking_is_decided bytes text status.LinkFault gives refuses = absurd refuses
+checking_is_decided bytes text status.TurnsOver gives refuses = absurd refuses
+checking_is_decided bytes text (status.Lease line) gives refuses = absurd refuses
+checking_is_decided bytes text (status.Capture what) gives refuses = absurd refuses
+checking_is_decided bytes text status.TooLong gives refuses = absurd refuses
+checking_is_decided bytes text status.NoMemory gives refuses = absurd refuses
+
+pub configuration_serves : (input : Option (List ℕ)) → TellsConfiguration input → Serves checking input
+configuration_serves input tells = record {
+  bytes = tells.bytes;
+  text = check_text tells.conf;
+  told = tells.told;
+  in_limit = tells.in_limit;
+  gives = record { conf = tells.conf; configured = tells.configured; says = refl };
+}
+
+-- a configuration that isn't read is refused
+pub refused_check : (bytes : List ℕ) (answer : Status) → IsConfRefused bytes answer → MayRefuse (checking.Refuses bytes) answer
+refused_check bytes (status.Conf fault) refused = (tt, refused)
+refused_check bytes status.NoMemory refused = tt
+refused_check bytes status.Done refused = absurd refused
+refused_check bytes status.Usage refused = absurd refused
+refused_check bytes (status.Script fault) refused = absurd refused
+refused_check bytes status.ReadFault refused = absurd refused
+refused_check bytes status.WriteFault refused = absurd refused
+refused_check bytes status.LinkFault refused = absurd refused
+refused_check bytes status.TurnsOver refused = absurd refused
+refused_check bytes (status.Lease line) refused = absurd refused
+refused_check bytes (status.Capture what) refused = absurd refused
+refused_check bytes status.TooLong refused = absurd refused

@@ -3,12 +3,12 @@ use Rattle.std.proofs.Common.{ℕ, ◌≡◌, ◌≤◌, List, [], length, Optio
 use Rattle.script_model.specs.ScriptTexts.{ScriptLines}
 use Rattle.conf_text.specs.Configurations.{Configuration, IsConfOf}
 use Rattle.conf_text.specs.declared.answers.ConfFault.{ConfFault}
-use Rattle.daemon.specs.Streams.{WritesFront, WritesSome}
+use Rattle.daemon.specs.Streams.{WritesFront}
 use Rattle.dhcpcd.specs.declared.status.Status.{Status}
 use Rattle.dhcpcd.specs.declared.status.Status.TheVariants as status
-use Rattle.dhcpcd.specs.Checks.{IsCheckStopped, IsCheckAnswer, TellsConfiguration, check_text}
+use Rattle.dhcpcd.specs.Checks.{TellsConfiguration}
 use Rattle.dhcpcd.specs.Input.{limit, IsInput, IsTooLong}
-use Rattle.dhcpcd.specs.Refusals.{IsNoScript, IsRefused, IsConfRefused}
+use Rattle.dhcpcd.specs.Refusals.{IsNoScript, IsRefused}
 use Rattle.dhcpcd.specs.Replays.{IsScript, transcript}
 use Rattle.dhcpcd.specs.Statuses.{TellsScript, IsStopped, IsAnswer, HasStatusCause, StopsWriting, Completes}
 use Rattle.conf_text.proofs.OneLaws.{configuration_one}
@@ -26,6 +26,8 @@ stops_writing A status.ReadFault fault memory stops = absurd stops
 stops_writing A status.WriteFault fault memory stops = fault
 stops_writing A status.LinkFault fault memory stops = absurd stops
 stops_writing A status.TurnsOver fault memory stops = absurd stops
+stops_writing A (status.Lease line) fault memory stops = absurd stops
+stops_writing A (status.Capture what) fault memory stops = absurd stops
 stops_writing A status.TooLong fault memory stops = absurd stops
 stops_writing A status.NoMemory fault memory stops = memory
 
@@ -36,14 +38,6 @@ stopped_answer answer input old new bytes script conf read within is front stops
   where
     stopped : IsStopped input old new
     stopped = record { bytes = bytes; script = script; conf = conf; read = read; in_limit = within; is_script = is; written = front }
-
-pub stopped_check : (answer : Status) (input old new : Option (List ℕ)) (bytes : List ℕ) (conf : Configuration) → IsInput input bytes → length bytes ≤ limit → IsConfOf bytes (Ok conf)
-    → WritesSome old new (check_text conf) → StopsWriting answer → IsCheckAnswer answer input old new
-stopped_check answer input old new bytes conf read within is some stops =
-    stops_writing (λ (s : Status). IsCheckAnswer s input old new) answer stopped (inr stopped) stops
-  where
-    stopped : IsCheckStopped input old new
-    stopped = record { bytes = bytes; conf = conf; read = read; in_limit = within; configured = is; written = some }
 
 -- ---- nothing was written
 
@@ -56,27 +50,17 @@ refused_answer status.ReadFault input old new bytes read within same refused = a
 refused_answer status.WriteFault input old new bytes read within same refused = absurd refused
 refused_answer status.LinkFault input old new bytes read within same refused = absurd refused
 refused_answer status.TurnsOver input old new bytes read within same refused = absurd refused
+refused_answer (status.Lease line) input old new bytes read within same refused = absurd refused
+refused_answer (status.Capture what) input old new bytes read within same refused = absurd refused
 refused_answer status.TooLong input old new bytes read within same refused = absurd refused
 refused_answer status.NoMemory input old new bytes read within same refused = inl same
-
-pub refused_check : (answer : Status) (input old new : Option (List ℕ)) (bytes : List ℕ) → IsInput input bytes → length bytes ≤ limit → new ≡ old → IsConfRefused bytes answer → IsCheckAnswer answer input old new
-refused_check status.Done input old new bytes read within same refused = absurd refused
-refused_check status.Usage input old new bytes read within same refused = absurd refused
-refused_check (status.Script fault) input old new bytes read within same refused = absurd refused
-refused_check (status.Conf fault) input old new bytes read within same refused = record { bytes = bytes; read = read; in_limit = within; why = refused; unwritten = same }
-refused_check status.ReadFault input old new bytes read within same refused = absurd refused
-refused_check status.WriteFault input old new bytes read within same refused = absurd refused
-refused_check status.LinkFault input old new bytes read within same refused = absurd refused
-refused_check status.TurnsOver input old new bytes read within same refused = absurd refused
-refused_check status.TooLong input old new bytes read within same refused = absurd refused
-refused_check status.NoMemory input old new bytes read within same refused = inl same
 
 -- ---- a good input is refused by nothing
 
 some_is : {A : Type 0} {a b : A} → Some a ≡ Some b → a ≡ b
 some_is e = cc
 
-read_is : (input : Option (List ℕ)) (told read : List ℕ) → input ≡ Some told → IsInput input read → told ≡ read
+pub read_is : (input : Option (List ℕ)) (told read : List ℕ) → input ≡ Some told → IsInput input read → told ≡ read
 read_is None told read is h = let never : ⊥ = cc in absurd never
 read_is (Some input) told read is h = sym (some_is is) ∙ h
 
@@ -105,18 +89,7 @@ completes status.ReadFault input old new a b p q tells read wrote answer cause =
 completes status.WriteFault input old new a b p q tells read wrote answer cause = absurd (omega (arith, wrote, cause.1))
 completes status.LinkFault input old new a b p q tells read wrote answer cause = absurd answer
 completes status.TurnsOver input old new a b p q tells read wrote answer cause = absurd answer
+completes (status.Lease line) input old new a b p q tells read wrote answer cause = absurd answer
+completes (status.Capture what) input old new a b p q tells read wrote answer cause = absurd answer
 completes status.TooLong input old new a b p q tells read wrote answer cause = absurd (not_too_long input tells.bytes tells.told tells.in_limit answer.0)
 completes status.NoMemory input old new a b p q tells read wrote answer cause = tt
-
--- a configuration over such streams was checked, or memory was wanted
-pub check_completes : (answer : Status) (input old new : Option (List ℕ)) (a b p q : ℕ) → TellsConfiguration input → b ≡ a → q ≡ p → IsCheckAnswer answer input old new → HasStatusCause answer a b p q → Completes answer
-check_completes status.Done input old new a b p q tells read wrote answer cause = tt
-check_completes status.Usage input old new a b p q tells read wrote answer cause = absurd answer
-check_completes (status.Script fault) input old new a b p q tells read wrote answer cause = absurd answer
-check_completes (status.Conf fault) input old new a b p q tells read wrote answer cause = configured input answer.bytes fault tells answer.read answer.why
-check_completes status.ReadFault input old new a b p q tells read wrote answer cause = absurd (omega (arith, read, cause.0))
-check_completes status.WriteFault input old new a b p q tells read wrote answer cause = absurd (omega (arith, wrote, cause.1))
-check_completes status.LinkFault input old new a b p q tells read wrote answer cause = absurd answer
-check_completes status.TurnsOver input old new a b p q tells read wrote answer cause = absurd answer
-check_completes status.TooLong input old new a b p q tells read wrote answer cause = absurd (not_too_long input tells.bytes tells.told tells.in_limit answer.0)
-check_completes status.NoMemory input old new a b p q tells read wrote answer cause = tt

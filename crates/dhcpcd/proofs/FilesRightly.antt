@@ -32,7 +32,7 @@ use Rattle.dhcpcd.proofs.Refusals.{in_force, ifaces_fit}
 abbrev InOrder : List StoreFile → Type 0
 InOrder files = InNameOrder file_name files
 
-put_in_turn : (sorted files : List StoreFile) → InOrder sorted → InOrder (put_files sorted files)
+pub put_in_turn : (sorted files : List StoreFile) → InOrder sorted → InOrder (put_files sorted files)
 put_in_turn sorted [] order = order
 put_in_turn sorted (file ∷ files) order = put_in_turn (put_file file sorted) files (put_in_order file_name file sorted order)
 
@@ -44,7 +44,7 @@ undone_in_order : (undo : List UndoneFile) (files : List StoreFile) → InOrder 
 undone_in_order [] files order = order
 undone_in_order (u ∷ undo) files order = set_in_order u.name (content_of u.undo) (undone undo files) (undone_in_order undo files order)
 
-picked_in_order : (pick : Pick) (told : StoreTold) → InOrder told.files → InOrder (files_left pick told)
+pub picked_in_order : (pick : Pick) (told : StoreTold) → InOrder told.files → InOrder (files_left pick told)
 picked_in_order Old told order = undone_in_order told.undo told.files order
 picked_in_order New told order = order
 

@@ -17,7 +17,7 @@ use Rattle.script_model.specs.ScriptTexts.{ScriptLines, LifeScript}
 use Rattle.script_model.specs.Scripts.{FitInterfaces, FitsScript, FitsBytes, FitsGiven, FitsLife}
 use Rattle.turn_model.specs.Lives.{Met}
 use Rattle.device_calls.specs.Worlds.{World}
-use Rattle.device_calls.proofs.Running.{run_coming}
+use Rattle.device_calls.proofs.Running.{run_coming, run_makes}
 use Rattle.turn_model.specs.Opening.{opening_asks}
 use Rattle.turn_model.specs.Foretold.{opening_of, foretold_life, told_turns}
 use Rattle.turn_model.specs.HostInLife.{Running, running_opened, running_turned, running_after}
@@ -32,6 +32,7 @@ use Rattle.lease_evidence.proofs.Joining.{LeaseRelation}
 use Rattle.evidence.proofs.Items.{items_have_basis}
 use Rattle.evidence.proofs.Leasing.{leases_based}
 use Rattle.evidence.proofs.HostRests.{opening_rests, turns_rest}
+use Rattle.evidence.proofs.Starts.{opening_starts}
 use Rattle.evidence.proofs.Foretold.{foretold}
 use Rattle.dhcpcd.specs.Replays.{IsScript, configuration_text, managed_in, failing_in, at_first, Failing, Between, world_in, after_life}
 use Rattle.dhcpcd.proofs.LifeLeft.{left_in_order}
@@ -119,6 +120,7 @@ module _ (text : List ℕ) (conf : Configuration) (is : IsConfOf text (Ok conf))
     life_holds = record {
       opening_holds = opening_holds managed specs world shares sorted;
       turns_hold = λ earlier given. turn_in_life managed specs world shares sorted earlier given;
+      opening_starts = opening_starts managed specs (opening_of managed specs world) (run_makes (opening_asks managed specs world.link.told.begin) world);
       opening_rests = λ well. opening_rests LeaseRelation leases_based items_have_basis managed specs world fit shares others numbered sorted well;
       turns_rest = λ earlier given coming turn well.
           subst (λ (ms : List Met). RestOnEvidence managed specs (opening_of managed specs world) ms (lived_on managed specs world earlier given).world.host.told.rows) (handled_mets earlier given coming turn)

@@ -1,10 +1,12 @@
 pub mod OneReading
 pub mod Endings
+pub mod WorkLaws
 pub mod HeadLines
 pub mod Inputs
 pub mod OneWord
 pub mod AskedApart
 pub mod CheckTexts
+pub mod InputWorks
 pub mod Refusals
 pub mod ManagedApart
 pub mod SharesApart
@@ -15,8 +17,10 @@ pub mod FirstNames
 pub mod Forgetting
 pub mod HostRightly
 pub mod FilesRightly
+pub mod FilesWhole
 pub mod Replayed
 pub mod LiveAnswers
 pub mod LinesApart
 pub mod MakeLaws
+pub mod ImportLaws
 pub mod MakeAnswers

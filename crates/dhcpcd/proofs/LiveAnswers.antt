@@ -20,6 +20,7 @@ use Rattle.dhcpcd.specs.Living.{Asked, Around, around, asked, head_of, IsServed,
 use Rattle.dhcpcd.specs.Refusals.{IsConfRefused}
 use Rattle.dhcpcd.specs.Statuses.{HasStatusCause, StopsReading, StopsWriting}
 use Rattle.dhcpcd.proofs.Endings.{configured, not_too_long}
+use Rattle.file_evidence.proofs.StoreRuns.{foretold_whole}
 use Rattle.dhcpcd.proofs.FilesRightly.{life_keeps}
 use Rattle.dhcpcd.proofs.HostRightly.{life_holds}
 use Rattle.dhcpcd.proofs.Refusals.{in_force}
@@ -49,6 +50,8 @@ head_cut answer ask out out_to seen front stops = answers answer stops
     answers status.WriteFault stops = inl cut
     answers status.LinkFault stops = absurd stops
     answers status.TurnsOver stops = absurd stops
+    answers (status.Lease line) stops = absurd stops
+    answers (status.Capture what) stops = absurd stops
     answers status.TooLong stops = absurd stops
     answers status.NoMemory stops = inl cut
 
@@ -78,6 +81,7 @@ module _ (text : List ℕ) (conf : Configuration) (is : IsConfOf text (Ok conf))
       lived = life;
       host = if_told (world_of told.seen_from) _ (λ world sound. life_holds text conf is specs fits world sound.rows sound.coming);
       files = if_told (world_of told.seen_from) _ (λ world sound. life_keeps text conf is specs fits world sound.files);
+      whole = if_told (world_of told.seen_from) _ (λ world sound. foretold_whole (managed_of conf specs) specs world sound);
     }
 
     pub live_answer : (answer : Status) → IsLifeAnswer answer (asked text conf specs turns) told → IsLiveAnswer answer specs turns input told
@@ -89,6 +93,8 @@ module _ (text : List ℕ) (conf : Configuration) (is : IsConfOf text (Ok conf))
     live_answer status.WriteFault life = lived status.WriteFault life
     live_answer status.LinkFault life = lived status.LinkFault life
     live_answer status.TurnsOver life = lived status.TurnsOver life
+    live_answer (status.Lease line) life = absurd life
+    live_answer (status.Capture what) life = absurd life
     live_answer status.TooLong life = absurd life
     live_answer status.NoMemory life = inr (lived status.NoMemory life)
 
@@ -103,6 +109,8 @@ unread_live status.ReadFault specs turns input told same stops long = same
 unread_live status.WriteFault specs turns input told same stops long = absurd stops
 unread_live status.LinkFault specs turns input told same stops long = absurd stops
 unread_live status.TurnsOver specs turns input told same stops long = absurd stops
+unread_live (status.Lease line) specs turns input told same stops long = absurd stops
+unread_live (status.Capture what) specs turns input told same stops long = absurd stops
 unread_live status.TooLong specs turns input told same stops long = (long refl, same)
 unread_live status.NoMemory specs turns input told same stops long = inl same
 
@@ -118,6 +126,8 @@ refused_live status.ReadFault specs turns input told text same read within refus
 refused_live status.WriteFault specs turns input told text same read within refused = absurd refused
 refused_live status.LinkFault specs turns input told text same read within refused = absurd refused
 refused_live status.TurnsOver specs turns input told text same read within refused = absurd refused
+refused_live (status.Lease line) specs turns input told text same read within refused = absurd refused
+refused_live (status.Capture what) specs turns input told text same read within refused = absurd refused
 refused_live status.TooLong specs turns input told text same read within refused = absurd refused
 refused_live status.NoMemory specs turns input told text same read within refused = inl same
 
@@ -139,5 +149,7 @@ live_completes status.ReadFault specs turns input told a b p q tells read wrote 
 live_completes status.WriteFault specs turns input told a b p q tells read wrote linked answer cause = absurd (omega (arith, wrote, cause.1))
 live_completes status.LinkFault specs turns input told a b p q tells read wrote linked answer cause = absurd (linked refl)
 live_completes status.TurnsOver specs turns input told a b p q tells read wrote linked answer cause = tt
+live_completes (status.Lease line) specs turns input told a b p q tells read wrote linked answer cause = absurd answer
+live_completes (status.Capture what) specs turns input told a b p q tells read wrote linked answer cause = absurd answer
 live_completes status.TooLong specs turns input told a b p q tells read wrote linked answer cause = absurd (not_too_long input tells.bytes tells.told tells.in_limit answer.0)
 live_completes status.NoMemory specs turns input told a b p q tells read wrote linked answer cause = tt

@@ -41,6 +41,8 @@ refused_unread status.ReadFault bytes refused = absurd refused
 refused_unread status.WriteFault bytes refused = absurd refused
 refused_unread status.LinkFault bytes refused = absurd refused
 refused_unread status.TurnsOver bytes refused = absurd refused
+refused_unread (status.Lease line) bytes refused = absurd refused
+refused_unread (status.Capture what) bytes refused = absurd refused
 refused_unread status.TooLong bytes refused = absurd refused
 refused_unread status.NoMemory bytes refused = tt
 
@@ -53,6 +55,8 @@ refused_conf status.ReadFault bytes script read refused = absurd refused
 refused_conf status.WriteFault bytes script read refused = absurd refused
 refused_conf status.LinkFault bytes script read refused = absurd refused
 refused_conf status.TurnsOver bytes script read refused = absurd refused
+refused_conf (status.Lease line) bytes script read refused = absurd refused
+refused_conf (status.Capture what) bytes script read refused = absurd refused
 refused_conf status.TooLong bytes script read refused = absurd refused
 refused_conf status.NoMemory bytes script read refused = tt
 

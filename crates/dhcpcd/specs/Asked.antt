@@ -3,11 +3,13 @@ use Rattle.std.specs.Prelude.{ℕ, List, Option, Some, None}
 use Rattle.dhcpcd.specs.declared.words.Work.{Work}
 use Rattle.dhcpcd.specs.declared.words.Work.TheVariants as work
 use Rattle.live_words.specs.LiveWords.{AsksLive}
-use Rattle.dhcpcd.specs.Words.{AskReplay, AskCheck, AsksMake, AskWork}
+use Rattle.dhcpcd.specs.Words.{AskReplay, AskCheck, AskDump, AsksImport, AsksMake, AskWork}
 
 abbrev pub AsksFor : List (List ℕ) → Option Work → Type 0
 AsksFor words (Some work.Replay) = AskReplay words
 AsksFor words (Some work.Check) = AskCheck words
 AsksFor words (Some (work.Live specs)) = AsksLive words specs
 AsksFor words (Some (work.Make rounds)) = AsksMake words rounds
+AsksFor words (Some work.Dump) = AskDump words
+AsksFor words (Some (work.Import on)) = AsksImport words on.name on.mac
 AsksFor words None = AskWork words → ⊥

@@ -6,6 +6,7 @@ use Rattle.settings.specs.declared.interfaces.Managed.{Managed}
 use Rattle.script_model.specs.ScriptTexts.{LifeScript}
 use Rattle.device_calls.specs.Worlds.{World}
 use Rattle.turn_model.specs.FilesInLife.{KeepsFiles}
+use Rattle.file_evidence.specs.WholeFiles.{LivesWhole}
 use Rattle.turn_model.specs.Foretold.{ran_opening, ran_turn}
 use Rattle.turn_model.specs.HostInLife.{running_opened, life_run}
 use Rattle.dhcpcd.specs.HostHeld.{lived_on}
@@ -24,3 +25,10 @@ abbrev pub AllKeepRightly : List Managed → List IfSpec → Failing → Between
 AllKeepRightly managed specs failing between [] = Unit {0}
 AllKeepRightly managed specs failing between (life ∷ lives) =
     KeepsRightly managed specs (world_in failing between life) × AllKeepRightly managed specs failing (after_life managed specs failing between life) lives
+
+-- In each life of a script, whatever those before it and their crashes left, the files are whole at each moment: a crash leaves of each
+-- one of its choices since that life's entry. The store is sound throughout.
+abbrev pub AllStayWhole : List Managed → List IfSpec → Failing → Between → List LifeScript → Type 0
+AllStayWhole managed specs failing between [] = Unit {0}
+AllStayWhole managed specs failing between (life ∷ lives) =
+    LivesWhole managed specs (world_in failing between life) × AllStayWhole managed specs failing (after_life managed specs failing between life) lives

@@ -1,9 +1,15 @@
 -- What is asked for with an input that serves for it, and devices that don't fail.
 use Rattle.std.specs.Prelude.{ℕ, ◌≡◌, Bool, true, List, [], Option, Some}
+use Rattle.net_types.specs.declared.address.Mac.{Mac}
+use Rattle.net_types.specs.declared.interface.Name.{Name}
 use Rattle.device_calls.specs.Worlds.{Seen}
+use Rattle.capture_script.specs.CapturedScripts.{spec_of}
 use Rattle.dhcpcd.specs.Checks.{TellsConfiguration}
+use Rattle.dhcpcd.specs.Dumping.{dumping}
+use Rattle.dhcpcd.specs.Importing.{importing}
 use Rattle.dhcpcd.specs.Statuses.{TellsScript}
-use Rattle.dhcpcd.specs.Words.{AskReplay, AskCheck, AskLive}
+use Rattle.dhcpcd.specs.Words.{AskReplay, AskCheck, AskDump, AskLive, AsksImport}
+use Rattle.dhcpcd.specs.Works.{Serves}
 
 -- `replay` is asked for, and the input tells a script
 abbrev pub AskGoodReplay : (words : List (List ℕ)) → (input : Option (List ℕ)) → Type 0
@@ -12,6 +18,14 @@ AskGoodReplay words input = AskReplay words × TellsScript input
 -- `check` is asked for, and the input tells a configuration
 abbrev pub AskGoodCheck : (words : List (List ℕ)) → (input : Option (List ℕ)) → Type 0
 AskGoodCheck words input = AskCheck words × TellsConfiguration input
+
+-- `dump` is asked for, and the input tells a lease
+abbrev pub AskGoodDump : (words : List (List ℕ)) → (input : Option (List ℕ)) → Type 0
+AskGoodDump words input = AskDump words × Serves dumping input
+
+-- `import` is asked for, and the input tells a capture
+abbrev pub AskGoodImport : (words : List (List ℕ)) → (input : Option (List ℕ)) → Type 0
+AskGoodImport words input = (name : Name) × (mac : Mac) × AsksImport words name mac × Serves (importing (spec_of name mac)) input
 
 -- `live` is asked for, and the input tells a configuration
 abbrev pub AskGoodLive : (words : List (List ℕ)) → (input : Option (List ℕ)) → Type 0

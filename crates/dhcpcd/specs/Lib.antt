@@ -9,10 +9,14 @@ pub mod FilesHeld
 pub mod Refusals
 pub mod Settling
 pub mod Statuses
+pub mod Works
 pub mod Checks
+pub mod Dumping
+pub mod Importing
 pub mod Words
 pub mod GoodAsks
 pub mod MakeReading
+pub mod ImportReading
 pub mod Making
 pub mod Living
 pub mod Asked

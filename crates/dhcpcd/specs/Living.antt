@@ -1,6 +1,7 @@
 -- What `live` writes and answers: a configuration is read, and one life is lived over the devices.
 use Rattle.std.specs.Prelude.{ℕ, ◌≡◌, ◌<◌, ◌≤◌, ◌⊎◌, List, [], ◌∷◌, ◌++◌, length, Option, Ok, Err, IfSome}
 use Rattle.net_types.specs.declared.interface.IfSpec.{IfSpec}
+use Rattle.world.specs.SoundStores as stores
 use Rattle.script_model.specs.Lines.{Line}
 use Rattle.script_model.specs.Lines as lines
 use Rattle.replay_text.specs.Blocks.{parts_of}
@@ -8,6 +9,7 @@ use Rattle.replay_text.specs.ScriptContent.{conf_lines}
 use Rattle.conf_text.specs.Configurations.{Configuration, NoticeContent, IsConfOf}
 use Rattle.conf_text.specs.Settings.{managed_of}
 use Rattle.device_calls.specs.Worlds.{Seen, world_of}
+use Rattle.file_evidence.specs.WholeFiles.{LivesWhole}
 use Rattle.live_words.specs.LiveWords.{AsksLive}
 use Rattle.daemon.specs.declared.serving.ServeEnd.{ServeEnd}
 use Rattle.daemon.specs.declared.serving.ServeEnd.TheVariants as ends
@@ -104,7 +106,7 @@ abbrev pub IsUntouched : Around → Type 0
 IsUntouched told = (told.out_to ≡ told.out_from) × (told.seen_to ≡ told.seen_from)
 
 -- The input was a configuration, and this became of its life. Over devices that tell what they hold, the host and the store hold
--- what they shall.
+-- what they shall, and over a sound store files are whole at each moment.
 pub record IsLived (answer : Status) (specs : List IfSpec) (turns : ℕ) (input : Option (List ℕ)) (told : Around) : Type 0 where
   pub text : List ℕ
   pub conf : Configuration
@@ -114,6 +116,7 @@ pub record IsLived (answer : Status) (specs : List IfSpec) (turns : ℕ) (input 
   pub lived : IsLifeAnswer answer (asked text conf specs turns) told
   pub host : IfSome (world_of told.seen_from) (λ world. IsSound world → HoldsRightly (managed_of conf specs) specs world)
   pub files : IfSome (world_of told.seen_from) (λ world. IsSound world → KeepsRightly (managed_of conf specs) specs world)
+  pub whole : IfSome (world_of told.seen_from) (λ world. stores.IsSound world.store.told → LivesWhole (managed_of conf specs) specs world)
 
 -- the configuration was refused, for this
 abbrev pub IsLiveRefusal : (because : List ℕ → Type 0) → Option (List ℕ) → Around → Type 0
@@ -125,6 +128,8 @@ IsLiveAnswer status.Usage specs turns input told = ⊥
 IsLiveAnswer (status.Script fault) specs turns input told = ⊥
 IsLiveAnswer (status.Conf fault) specs turns input told = IsLiveRefusal (λ text. IsConfOf text (Err fault)) input told
 IsLiveAnswer status.ReadFault specs turns input told = IsUntouched told
+IsLiveAnswer (status.Lease line) specs turns input told = ⊥
+IsLiveAnswer (status.Capture cause) specs turns input told = ⊥
 IsLiveAnswer status.TooLong specs turns input told = IsTooLong input × IsUntouched told
 IsLiveAnswer status.NoMemory specs turns input told = IsUntouched told ⊎ IsLived status.NoMemory specs turns input told
 IsLiveAnswer answer specs turns input told = IsLived answer specs turns input told

@@ -10,7 +10,7 @@ use Rattle.dhcpcd.specs.Replays.{IsScript, managed_in, failing_in, at_first, tra
 use Rattle.replay_text.specs.FirstFaults.{IsFault}
 use Rattle.dhcpcd.specs.Refusals.{IsConfFault, IsRefusal}
 use Rattle.dhcpcd.specs.HostHeld.{AllHoldRightly}
-use Rattle.dhcpcd.specs.FilesHeld.{AllKeepRightly}
+use Rattle.dhcpcd.specs.FilesHeld.{AllKeepRightly, AllStayWhole}
 
 -- the exit status
 abbrev pub status_number : Status → ℕ
@@ -24,8 +24,10 @@ status_number status.LinkFault = 7
 status_number status.TurnsOver = 8
 status_number status.TooLong = 9
 status_number status.NoMemory = 10
+status_number (status.Lease line) = 13
+status_number (status.Capture cause) = 14
 
--- the input was a script, and its transcript was written; in its lives the host and the store hold what they shall
+-- the input was a script, and its transcript was written; in its lives the host and the store hold what they shall, and files are whole
 pub record IsReplayed (input : Option (List ℕ)) (old new : Option (List ℕ)) : Type 0 where
   pub bytes : List ℕ
   pub script : ScriptLines
@@ -36,6 +38,7 @@ pub record IsReplayed (input : Option (List ℕ)) (old new : Option (List ℕ)) 
   pub written : WritesLines old new (transcript script conf)
   pub host : AllHoldRightly (managed_in script conf) script.ifaces (failing_in script.fails) (at_first script.rows script.files script.polls) script.lives
   pub files : AllKeepRightly (managed_in script conf) script.ifaces (failing_in script.fails) (at_first script.rows script.files script.polls) script.lives
+  pub whole : AllStayWhole (managed_in script conf) script.ifaces (failing_in script.fails) (at_first script.rows script.files script.polls) script.lives
 
 -- the input was a script, and a front of the bytes of its transcript was written
 pub record IsStopped (input : Option (List ℕ)) (old new : Option (List ℕ)) : Type 0 where
@@ -66,6 +69,8 @@ IsAnswer status.ReadFault input old new = new ≡ old
 IsAnswer status.WriteFault input old new = IsStopped input old new
 IsAnswer status.LinkFault input old new = ⊥
 IsAnswer status.TurnsOver input old new = ⊥
+IsAnswer (status.Lease line) input old new = ⊥
+IsAnswer (status.Capture cause) input old new = ⊥
 IsAnswer status.TooLong input old new = IsTooLong input × (new ≡ old)
 IsAnswer status.NoMemory input old new = (new ≡ old) ⊎ IsStopped input old new
 

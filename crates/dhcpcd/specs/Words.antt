@@ -1,6 +1,10 @@
 -- What the words of the program ask for.
 use Rattle.std.specs.Prelude.{ℕ, ◌≡◌, ◌≤◌, ◌⊎◌, List, [], ◌∷◌, codes, decimal}
+use Rattle.net_types.specs.declared.address.Mac.{Mac}
 use Rattle.net_types.specs.declared.interface.IfSpec.{IfSpec}
+use Rattle.net_types.specs.declared.interface.Name.{Name}
+use Rattle.net_types.specs.AddressText.{FitsMac, mac_text}
+use Rattle.net_types.specs.NameText.{FitsName, name_text}
 use Rattle.live_words.specs.LiveWords.{AsksLive, BeginsLive}
 use Rattle.dhcpcd.specs.declared.status.Status.{Status}
 use Rattle.dhcpcd.specs.declared.status.Status.TheVariants as status
@@ -26,9 +30,22 @@ pub record AsksMake (words : List (List ℕ)) (rounds : ℕ) : Type 0 where
 abbrev pub AskMake : List (List ℕ) → Type 0
 AskMake words = (rounds : ℕ) × AsksMake words rounds
 
+-- the words are `dump` alone
+abbrev pub AskDump : List (List ℕ) → Type 0
+AskDump words = words ≡ codes "dump" ∷ []
+
+-- the words are `import`, the name of an interface and its hardware address, as they are printed
+pub record AsksImport (words : List (List ℕ)) (name : Name) (mac : Mac) : Type 0 where
+  pub says : words ≡ codes "import" ∷ name_text name ∷ mac_text mac ∷ []
+  pub named : FitsName name
+  pub addressed : FitsMac mac
+
+abbrev pub AskImport : List (List ℕ) → Type 0
+AskImport words = (name : Name) × (mac : Mac) × AsksImport words name mac
+
 -- the words are of one of these forms
 abbrev pub AskWork : List (List ℕ) → Type 0
-AskWork words = AskReplay words ⊎ (AskCheck words ⊎ (AskLive words ⊎ AskMake words))
+AskWork words = AskReplay words ⊎ (AskCheck words ⊎ (AskLive words ⊎ (AskMake words ⊎ (AskDump words ⊎ AskImport words))))
 
 -- what words of none of these forms are answered; only those that begin with `live` may want memory
 abbrev pub IsUsage : List (List ℕ) → Status → Type 0

@@ -2,7 +2,9 @@
 #![tactic(auto)]
 
 mod checking;
+mod dumping;
 mod heads;
+mod importing;
 mod input;
 mod laws;
 mod lives;
@@ -14,6 +16,7 @@ mod running;
 mod settling;
 mod status;
 mod words;
+mod working;
 mod writing;
 
 pub use laws::hooks_change_nothing;

@@ -1,6 +1,7 @@
 ghost use Rattle.std.specs.Prelude.{◌≡◌};
 ghost use Rattle.dhcpcd.specs.Statuses.{status_number};
 
+use capture_script::CaptureCause;
 use conf_text::ConfFault;
 use replay_text::ScriptFault;
 use world::NoMemory;
@@ -25,6 +26,10 @@ pub enum Status {
     /// The input is longer than its limit.
     TooLong,
     NoMemory,
+    /// The input is no lease file; its first bad line, from 1.
+    Lease { line: u64 },
+    /// The input is no capture of packets that can be imported.
+    Capture(CaptureCause),
 }
 
 impl From<NoMemory> for Status {
@@ -53,6 +58,8 @@ impl Status {
             Status::TurnsOver => 8,
             Status::TooLong => 9,
             Status::NoMemory => 10,
+            Status::Lease { .. } => 13,
+            Status::Capture(_) => 14,
         }
     }
 }

@@ -3,11 +3,13 @@ ghost use Rattle.std.specs.Prelude.{◌≡◌, [], ◌∷◌, true, map, IfOk, I
 ghost use Rattle.std.specs.String.{string_bytes};
 ghost use Rattle.live_words.specs.LiveWords.{BeginsLive, IsLiveRead};
 ghost use Rattle.dhcpcd.specs.Asked.{AsksFor};
+ghost use Rattle.dhcpcd.specs.ImportReading.{IsImportRead, import_at, taken_on_at};
 ghost use Rattle.dhcpcd.specs.MakeReading.{IsMakeRead, make_at, rounds_at};
 
+use crate::importing::Import;
 use live_words::{Interfaces, LiveWords, read_live};
 use made_script::MOST_ROUNDS;
-use net_types::number_of;
+use net_types::{mac_of, name_of, number_of};
 use std::alloc::Global;
 use world::NoMemory;
 
@@ -22,6 +24,10 @@ pub enum Work {
     Live(Interfaces),
     /// `make`: a script of so many rounds is lived in memory.
     Make(u64),
+    /// `dump`: a lease file is read, and its variables are written.
+    Dump,
+    /// `import`: a capture of packets on this interface is read, and its script written.
+    Import(Import),
 }
 
 fn is_same(given: &str, word: &str) -> bool
@@ -77,6 +83,40 @@ fn make_rounds(words: &[String]) -> Option<u64>
     make_of(words)
 }
 
+/// On which interface a capture was taken.
+#[tactic(auto, unfolding(crate::specs::ImportReading::taken_on_at))]
+fn taken_on(name: &str, mac: &str) -> Option<Import>
+    ensures { result ≡ taken_on_at name.now mac.now }
+{
+    let name = name_of(name.as_bytes())?;
+    let mac = mac_of(mac.as_bytes())?;
+    Some(Import { name, mac })
+}
+
+#[tactic(auto, unfolding(crate::specs::ImportReading::import_at))]
+fn import_of(words: &[String]) -> Option<Import>
+    ensures { result ≡ import_at (map string_bytes words.now) }
+{
+    match words {
+        [work, name, mac] => {
+            if work.as_str() == "import" {
+                taken_on(name, mac)
+            } else {
+                None
+            }
+        }
+        _ => None,
+    }
+}
+
+/// The interface that `import NAME MAC` names, or none where the words aren't of this form.
+#[tactic(auto, using(crate::proofs::ImportLaws::import_read))]
+fn imported_on(words: &[String]) -> Option<Import>
+    ensures { IsImportRead (map string_bytes words.now) result }
+{
+    import_of(words)
+}
+
 /// The interfaces that the words of `live` name, or none where the words aren't of its form.
 fn live_interfaces(alloc: Global, words: &[String]) -> Result<Option<Interfaces>, NoMemory>
     ensures read { IfOk result (IsLiveRead (map string_bytes words.now)) }
@@ -99,8 +139,14 @@ pub fn work_of(alloc: Global, words: &[String]) -> Result<Option<Work>, NoMemory
     if is_alone(words, "check") {
         return Ok(Some(Work::Check));
     }
+    if is_alone(words, "dump") {
+        return Ok(Some(Work::Dump));
+    }
     if let Some(rounds) = make_rounds(words) {
         return Ok(Some(Work::Make(rounds)));
+    }
+    if let Some(on) = imported_on(words) {
+        return Ok(Some(Work::Import(on)));
     }
     match live_interfaces(alloc, words)? {
         Some(interfaces) => Ok(Some(Work::Live(interfaces))),

@@ -1,16 +1,17 @@
 //! The devices of `live`, made of its words.
-ghost use Rattle.std.specs.Prelude.{◌≡◌, false, IfOk, is_some, map};
+ghost use Rattle.std.specs.Prelude.{◌≡◌, false, IfOk, map};
 ghost use Rattle.std.specs.String.{string_bytes};
 ghost use Rattle.edges.specs.Ports.{port_named};
 ghost use Rattle.dhcpcd_prog.specs.Named.{word_at};
 
 use daemon::Devices;
-use edges::{ChildHooks, CommandHost, FolderStore, LoopLink};
+use edges::{ChildHooks, ChildWatch, CommandHost, FolderStore, LoopLink};
+use std::process::SystemProcess;
 use world::NoMemory;
 
 /// The outside on this machine.
 pub type Machine<'a> = Devices<
-    LoopLink<&'a HostRuntime>,
+    LoopLink<&'a HostRuntime, ChildWatch<SystemProcess>>,
     FolderStore<&'a HostRuntime>,
     CommandHost<&'a HostRuntime>,
     ChildHooks<&'a HostRuntime>,
@@ -33,13 +34,15 @@ pub fn devices<'a>(rt: &'a HostRuntime, words: &[String]) -> Result<Machine<'a>,
     ensures folder { IfOk result (λ machine. string_bytes machine.store.dir ≡ word_at 3 (map string_bytes words.now)) }
     ensures host { IfOk result (λ machine. string_bytes machine.host.script ≡ word_at 4 (map string_bytes words.now)) }
     ensures hooks { IfOk result (λ machine. string_bytes machine.hooks.script ≡ word_at 4 (map string_bytes words.now)) }
-    ensures child { IfOk result (λ machine. is_some machine.hooks.child ≡ false) }
+    ensures child { IfOk result (λ machine. machine.hooks.running ≡ false) }
 {
     let script = word(words, 4);
+    let hooks = ChildHooks::new(rt, script)?;
+    let watch = hooks.watch()?;
     Ok(Devices {
-        link: LoopLink::new(rt, word(words, 1), word(words, 2)),
+        link: LoopLink::new(rt, watch, word(words, 1), word(words, 2)),
         store: FolderStore::new(rt, word(words, 3))?,
         host: CommandHost::new(rt, script)?,
-        hooks: ChildHooks::new(rt, script)?,
+        hooks,
     })
 }

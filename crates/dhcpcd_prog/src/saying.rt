@@ -5,7 +5,7 @@ fn line(rt: &HostRuntime, status: Status) -> Result<()> {
     match status {
         Status::Done => Ok(()),
         Status::Usage => eprintln!(rt;
-            "dhcpcd: usage: replay / check / live PORT PEER DIR SCRIPT IFACE.. / make N"
+            "dhcpcd: usage: replay / check / live PORT PEER DIR SCRIPT IFACE.. / make N / dump / import NAME MAC"
         ),
         Status::Script(fault) => eprintln!(rt; "dhcpcd: {fault}"),
         Status::Conf(fault) => eprintln!(rt; "dhcpcd: {fault}"),
@@ -15,6 +15,8 @@ fn line(rt: &HostRuntime, status: Status) -> Result<()> {
         Status::TurnsOver => eprintln!(rt; "dhcpcd: turns used up"),
         Status::TooLong => eprintln!(rt; "dhcpcd: input too long"),
         Status::NoMemory => eprintln!(rt; "dhcpcd: no memory"),
+        Status::Lease { line } => eprintln!(rt; "dhcpcd: lease line {line}"),
+        Status::Capture(cause) => eprintln!(rt; "dhcpcd: capture: {cause}"),
     }
 }
 

@@ -11,6 +11,8 @@ usage: dhcpcd replay < SCRIPT > TRANSCRIPT
        dhcpcd check < CONFIGURATION
        dhcpcd live PORT PEER DIR SCRIPT IFACE.. < CONFIGURATION > TRANSCRIPT
        dhcpcd make N
+       dhcpcd dump < LEASEFILE
+       dhcpcd import NAME ADDRESS < CAPTURE > SCRIPT
        dhcpcd --help
        dhcpcd --version
 
@@ -23,6 +25,9 @@ and PEER of 127.0.0.1. Files lie in DIR; SCRIPT keeps the addresses and routes o
 the host, and is the hook where the configuration names none. contrib/linux has
 what makes real interfaces of this, and its README.md how to begin.
 make lives a script of its own for N rounds, 1 to 100, and counts its calls.
+dump writes the variables that hooks are told of a lease file of either family.
+import makes a script of a packet capture (pcap, Ethernet) that was taken on the
+interface NAME with the hardware address ADDRESS: its frames come in again.
 An input has at most 16777216 bytes.
 
 exit status, with a line on standard error for each but 0:
@@ -36,6 +41,8 @@ exit status, with a line on standard error for each but 0:
    8  as many wakes as are allowed were handled
    9  the input is too long
   10  no memory
+  13  the input is no lease file; its first bad line is told
+  14  the input is no such capture; the cause is told
 ";
 
 /// What `--version` prints.

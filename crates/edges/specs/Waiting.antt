@@ -1,16 +1,28 @@
 -- How long the loopback link waits, and what ends a wait.
-use Rattle.std.specs.Prelude.{ℕ, Bool, true, false, ◌-◌, min, max, Option, None, Some}
+use Rattle.std.specs.Prelude.{ℕ, Bool, true, false, ◌+◌, ◌-◌, ◌/◌, min, max, nat_le, Option, None, Some, if◌then◌else◌}
 use Rattle.std.specs.declared.io.ErrorKind.{ErrorKind}
 use Rattle.std.specs.declared.io.ErrorKind.TheVariants as kind
-use Rattle.edges.specs.declared.links.TheConstants.{IDLE, LONGEST}
+use Rattle.edges.specs.declared.children.Seen.{Seen}
+use Rattle.edges.specs.declared.children.Seen.TheVariants.{NoChild, Runs, Ended}
+use Rattle.edges.specs.declared.links.TheConstants.{IDLE, LONGEST, SHORT, GLANCE}
 
--- Until the moment asked for, in milliseconds, but no shorter than one and no longer than the system takes. Where no moment
--- is asked for, as long as a link without work does.
-abbrev pub patience : Option ℕ → ℕ → ℕ
-patience None now = IDLE
-patience (Some until) now = min (max (until - now) 1) LONGEST
+-- The moment at which a wait that begins now ends, in milliseconds: the one asked for, or after a while where none is.
+abbrev pub wait_end : Option ℕ → ℕ → ℕ
+wait_end None now = min (now + IDLE) 18446744073709551615
+wait_end (Some until) now = until
 
--- A wait is over without a datagram where its time ran out, which the system says in two ways, or a signal came.
+-- A wait is made of pieces. The system ends each late by an eighth of it at most, and so a piece that isn't short leaves that
+-- much of the wait for others; the last one is short.
+abbrev pub piece_of : ℕ → ℕ
+piece_of left = if nat_le left SHORT then max left 1 else min (left - left / 8) LONGEST
+
+-- While a child runs it is looked at in between. One that has ended leaves but a look at what came.
+abbrev pub glancing : Seen → ℕ → ℕ
+glancing NoChild piece = piece
+glancing Runs piece = min piece GLANCE
+glancing Ended piece = 1
+
+-- A piece is over without a datagram where its time ran out, which the system says in two ways, or a signal came.
 abbrev pub is_over : ErrorKind → Bool
 is_over kind.WouldBlock = true
 is_over kind.TimedOut = true

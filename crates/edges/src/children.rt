@@ -1,10 +1,13 @@
-ghost use Rattle.std.specs.Prelude.{◌≡◌, false, is_some, IfOk};
+ghost use Rattle.std.specs.Prelude.{◌≡◌, false, IfOk};
 ghost use Rattle.std.specs.String.{string_bytes};
 
 use crate::faults::Faults;
 use std::alloc::{AllocError, Global};
+use std::cell::RefCell;
+use std::io;
 use std::os::unix::process::ExitStatusExt;
-use std::process::{Child, Command, ExitStatus, Processes, Stdio};
+use std::process::{Child, Command, ExitStatus, OpenProcess, Processes, Stdio};
+use std::rc::Rc;
 use world::{DeviceAnswer, Failed, HookJob, Hooks, NoMemory, Poll};
 
 /// What a shell adds to the number of the signal that ended a child.
@@ -30,12 +33,70 @@ fn job_call(alloc: Global, script: &str, job: &HookJob) -> Result<Command, Alloc
     Ok(call)
 }
 
+/// What is seen of the child that hooks run.
+#[derive(Clone, Copy, PartialEq, Eq)]
+pub enum Seen {
+    NoChild,
+    Runs,
+    Ended,
+}
+
+/// What sees whether a child of this process has ended.
+pub trait Watch {
+    fn look(&self) -> Seen;
+}
+
+/// The place of the child that hooks run. Those who watch it share the place.
+type Place<P> = Rc<RefCell<Option<Child<P>>>>;
+
+/// Who watches the child that hooks run.
+#[derive(Drop)]
+pub struct ChildWatch<P: OpenProcess + Drop> {
+    place: Place<P>,
+}
+
+impl<P: OpenProcess + Drop> Watch for ChildWatch<P> {
+    /// A child that can't be asked runs on.
+    fn look(&self) -> Seen {
+        let Ok(mut place) = self.place.try_borrow_mut() else {
+            return Seen::Runs;
+        };
+        match &mut *place {
+            None => Seen::NoChild,
+            Some(child) => match child.try_wait() {
+                Ok(Some(_)) => Seen::Ended,
+                _ => Seen::Runs,
+            },
+        }
+    }
+}
+
+/// How the child in a place ended; `None` where it runs on, or there is none.
+fn asked<P: OpenProcess + Drop>(place: &Place<P>) -> io::Result<Option<ExitStatus>> {
+    match place.try_borrow_mut() {
+        Ok(mut place) => match &mut *place {
+            Some(child) => child.try_wait(),
+            None => Ok(None),
+        },
+        Err(_) => Ok(None),
+    }
+}
+
+/// Puts a child, or none, in its place, and says which one was there.
+fn put<P: OpenProcess + Drop>(place: &Place<P>, child: Option<Child<P>>) -> Option<Child<P>> {
+    match place.try_replace(child) {
+        Ok(before) => before,
+        Err(_) => None,
+    }
+}
+
 /// Hook scripts as children of this process, one at a time. What they do isn't told.
 #[derive(Drop)]
 pub struct ChildHooks<R: Processes + AllocGlobal + Drop> {
     rt: R,
     script: String,
-    child: Option<Child<R::Started>>,
+    place: Place<R::Started>,
+    running: bool,
     faults: Faults,
 }
 
@@ -43,15 +104,27 @@ impl<R: Processes + AllocGlobal + Drop> ChildHooks<R> {
     /// Hooks whose own script has this path. Nothing runs yet.
     pub fn new(rt: R, script: &str) -> Result<ChildHooks<R>, NoMemory>
         ensures script { IfOk result (λ hooks. string_bytes hooks.script ≡ script.now) }
-        ensures idle { IfOk result (λ hooks. is_some hooks.child ≡ false) }
+        ensures idle { IfOk result (λ hooks. hooks.running ≡ false) }
     {
-        match String::from_str(rt.alloc(), script) {
-            Ok(script) => Ok(ChildHooks {
-                rt,
-                script,
-                child: None,
-                faults: Faults::none(),
-            }),
+        let (Ok(script), Ok(place)) = (
+            String::from_str(rt.alloc(), script),
+            Rc::new(rt.alloc(), RefCell::new(None)),
+        ) else {
+            return Err(NoMemory);
+        };
+        Ok(ChildHooks {
+            rt,
+            script,
+            place,
+            running: false,
+            faults: Faults::none(),
+        })
+    }
+
+    /// Who watches the child that runs, and each later one.
+    pub fn watch(&self) -> Result<ChildWatch<R::Started>, NoMemory> {
+        match self.place.clone() {
+            Ok(place) => Ok(ChildWatch { place }),
             Err(_) => Err(NoMemory),
         }
     }
@@ -72,7 +145,7 @@ impl<R: Processes + AllocGlobal + Drop> Hooks for ChildHooks<R> {
 
     ghost faults = { λ hooks. hooks.faults.count };
 
-    ghost running = { λ hooks. is_some hooks.child };
+    ghost running = { λ hooks. hooks.running };
 
     ghost told = { λ hooks. None };
 
@@ -84,7 +157,8 @@ impl<R: Processes + AllocGlobal + Drop> Hooks for ChildHooks<R> {
         };
         match call.spawn(&self.rt) {
             Ok(child) => {
-                self.child = Some(child);
+                put(&self.place, Some(child));
+                self.running = true;
                 Ok(())
             }
             Err(_) => Err(self.faults.counted(DeviceAnswer::Failed)),
@@ -92,14 +166,11 @@ impl<R: Processes + AllocGlobal + Drop> Hooks for ChildHooks<R> {
     }
 
     fn poll(&mut self) -> Result<Poll, Failed> {
-        let polled = match &mut self.child {
-            Some(child) => child.try_wait(),
-            None => Ok(None),
-        };
-        match polled {
+        match asked(&self.place) {
             Ok(None) => Ok(Poll::Running),
             Ok(Some(status)) => {
-                self.child = None;
+                put(&self.place, None);
+                self.running = false;
                 Ok(Poll::Ended(status_number(status)))
             }
             Err(_) => self.faults.failed(Poll::Running),
@@ -107,7 +178,8 @@ impl<R: Processes + AllocGlobal + Drop> Hooks for ChildHooks<R> {
     }
 
     fn abandon(&mut self) {
-        let Some(mut child) = self.child.take() else {
+        self.running = false;
+        let Some(mut child) = put(&self.place, None) else {
             return;
         };
         // only a child that was ended is waited for

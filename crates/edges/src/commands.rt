@@ -9,7 +9,7 @@ ghost use Rattle.world.specs.Rows.{IsRow};
 
 use crate::faults::{Faults, reason};
 use net_types::split_at_byte;
-use replay_text::{print_row, read_row};
+use row_texts::{print_row, read_row};
 use std::alloc::{AllocError, Global};
 use std::collections::BTreeSet;
 use std::process::{Command, Processes, Stdio};

@@ -3,7 +3,7 @@
 ghost use Rattle.std.specs.Prelude.{◌≡◌};
 
 use crate::datagrams::{CARRIER, DUPLICATE, FRAME, FRAME_LIMIT, REBIND, RELEASE, STOP};
-use crate::links::{IDLE, LONGEST};
+use crate::links::{GLANCE, IDLE, LONGEST, SHORT};
 use crate::salts::{FIRST, SECOND, STRIDE};
 
 /// Law: the kinds of the loopback link's datagrams, the bytes of a frame, and how long a wait lasts, in milliseconds.
@@ -17,6 +17,8 @@ pub fn datagrams_are_these()
     ensures stop { STOP ≡ 6 }
     ensures idle { IDLE ≡ 60000 }
     ensures longest { LONGEST ≡ 4294967295 }
+    ensures short { SHORT ≡ 200 }
+    ensures glance { GLANCE ≡ 10 }
 {}
 
 /// Law: the numbers of SplitMix64.

@@ -13,10 +13,11 @@ mod datagrams;
 mod faults;
 mod folder;
 mod links;
+mod moments;
 mod salts;
 mod streams;
 
-pub use children::ChildHooks;
+pub use children::{ChildHooks, ChildWatch, Seen, Watch};
 pub use commands::CommandHost;
 pub use constants::{datagrams_are_these, salts_are_these};
 pub use folder::FolderStore;

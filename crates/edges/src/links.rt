@@ -1,54 +1,70 @@
 ghost use Rattle.std.specs.Prelude.{◌≡◌, ◌<◌, ◌≤◌, ◌-◌, ◌^◌, length, IfOk, IfSome, IsSome};
 ghost use Rattle.edges.specs.Ports.{port_named};
-ghost use Rattle.edges.specs.Waiting.{patience, is_over};
+ghost use Rattle.edges.specs.Waiting.{wait_end, piece_of, glancing, is_over};
 ghost use Rattle.world.specs.Causes.{HasCause};
 ghost use Rattle.world.specs.LinkCalls.{frame_len};
 
+use crate::children::{Seen, Watch};
 use crate::datagrams::{FRAME_LIMIT, HEAD, frame_datagram, taken};
 use crate::faults::Faults;
+use crate::moments::Moments;
 use crate::salts::Salts;
 use net_types::{IfIndex, number_of};
 use rand_core::Rng;
 use std::io::ErrorKind;
 use std::net::{Ipv4Addr, Net, SocketAddr, SocketAddrV4, UdpSocket};
 use std::rt::Clock;
-use std::time::{Duration, SystemTime, UNIX_EPOCH};
+use std::time::Duration;
 use world::{Begin, DeviceAnswer, Event, Failed, Link, Wake};
 
 /// How many milliseconds the link waits where no moment is asked for.
 pub(crate) const IDLE: u64 = 60_000;
 
-/// How many milliseconds a wait lasts at most.
+/// How many milliseconds a piece of a wait lasts at most.
 pub(crate) const LONGEST: u64 = 0xffff_ffff;
+
+/// How many milliseconds a last piece of a wait lasts at most.
+pub(crate) const SHORT: u64 = 200;
+
+/// After how many milliseconds a child that runs is looked at again.
+pub(crate) const GLANCE: u64 = 10;
 
 /// One more than the last port.
 const PORT_LIMIT: u64 = 65_536;
 
-/// The moment of the machine's clock, in milliseconds since 1970.
-fn moment(clock: &impl Clock) -> Result<u64, Failed> {
-    let Ok(now) = SystemTime::now(clock) else {
-        return Err(Failed);
-    };
-    let Ok(passed) = now.duration_since(UNIX_EPOCH) else {
-        return Err(Failed);
-    };
-    match u64::try_from(passed.as_millis()) {
-        Ok(at) => Ok(at),
-        Err(_) => Err(Failed),
-    }
-}
-
-/// How many milliseconds the link waits from the moment `now`.
-fn patience(until: Option<u64>, now: u64) -> u64
-    ensures { result ≡ patience until now }
+/// When a wait that begins now ends.
+fn wait_end(until: Option<u64>, now: u64) -> u64
+    ensures { result ≡ wait_end until now }
 {
     match until {
-        Some(until) => until.saturating_sub(now).max(1).min(LONGEST),
-        None => IDLE,
+        Some(until) => until,
+        None => now.saturating_add(IDLE),
     }
 }
 
-/// Whether a wait is over without a datagram: its time ran out, or a signal cut it short, as after a pause of the process.
+/// How many milliseconds the next piece of a wait lasts, of which so many are left.
+fn piece_of(left: u64) -> u64
+    ensures { result ≡ piece_of left }
+{
+    if left <= SHORT {
+        left.max(1)
+    } else {
+        (left - left / 8).min(LONGEST)
+    }
+}
+
+/// The same where a child is looked at in between.
+fn glancing(seen: Seen, piece: u64) -> u64
+    ensures { result ≡ glancing seen piece }
+{
+    match seen {
+        Seen::NoChild => piece,
+        Seen::Runs => piece.min(GLANCE),
+        Seen::Ended => 1,
+    }
+}
+
+/// Whether a piece of a wait is over without a datagram: its time ran out, or a signal cut it short, as after a pause of the process.
 fn is_over(kind: ErrorKind) -> bool
     ensures { result ≡ is_over kind }
 {
@@ -68,17 +84,19 @@ fn port_of(word: &str) -> u16
     }
 }
 
-/// The socket, the clock and the random words of a link.
+/// The socket, the clock and the random words of a link, and who watches the child that hooks run.
 #[derive(Drop)]
-struct Wire<R: Net + Clock + AllocGlobal + Drop> {
+struct Wire<R: Net + Clock + AllocGlobal + Drop, W: Watch + Drop> {
     rt: R,
+    watch: W,
     port: u16,
     peer: u16,
     socket: Option<UdpSocket>,
+    moments: Option<Moments>,
     salts: Salts,
 }
 
-impl<R: Net + Clock + AllocGlobal + Drop> Wire<R> {
+impl<R: Net + Clock + AllocGlobal + Drop, W: Watch + Drop> Wire<R, W> {
     fn peer(&self) -> SocketAddr {
         SocketAddr::V4(SocketAddrV4::new(Ipv4Addr::LOCALHOST, self.peer))
     }
@@ -103,7 +121,9 @@ impl<R: Net + Clock + AllocGlobal + Drop> Wire<R> {
     /// All interfaces have carrier at first.
     fn begin(&mut self) -> Result<Begin, Failed> {
         self.bind()?;
-        let at = moment(&self.rt)?;
+        let moments = Moments::begin(&self.rt)?;
+        let at = moments.begun();
+        self.moments = Some(moments);
         self.salts = Salts::begun_by(at);
         Ok(Begin {
             at,
@@ -112,15 +132,21 @@ impl<R: Net + Clock + AllocGlobal + Drop> Wire<R> {
         })
     }
 
-    /// Receives a datagram and says how long it is; `None` where nothing came in time, or not from the peer.
-    fn receive(&self, until: Option<u64>, datagram: &mut [u8]) -> Result<Option<usize>, Failed>
+    fn moment(&mut self) -> Result<u64, Failed> {
+        match &mut self.moments {
+            Some(moments) => moments.now(&self.rt),
+            None => Err(Failed),
+        }
+    }
+
+    /// Receives a datagram of the peer within so many milliseconds and says how long it is; `None` where none came.
+    fn receive(&self, piece: u64, datagram: &mut [u8]) -> Result<Option<usize>, Failed>
         ensures { IfOk result (λ got. IfSome got (λ len. len ≤ length datagram.new)) }
     {
         let Some(socket) = &self.socket else {
             return Err(Failed);
         };
-        let wait = Duration::from_millis(patience(until, moment(&self.rt)?));
-        let Ok(()) = socket.set_read_timeout(Some(wait)) else {
+        let Ok(()) = socket.set_read_timeout(Some(Duration::from_millis(piece))) else {
             return Err(Failed);
         };
         match socket.recv_from(datagram) {
@@ -131,22 +157,51 @@ impl<R: Net + Clock + AllocGlobal + Drop> Wire<R> {
         }
     }
 
-    fn next_event(&self, until: Option<u64>, buf: &mut [u8]) -> Result<Event, Failed>
-        ensures room { IfOk result (λ event. frame_len event ≤ length buf.new) }
+    /// The event of a datagram that comes within so many milliseconds.
+    fn heard(&self, piece: u64, buf: &mut [u8]) -> Result<Option<Event>, Failed>
+        ensures room { IfOk result (λ heard. IfSome heard (λ event. frame_len event ≤ length buf.new)) }
     {
         // one byte more than the longest, so that a longer one is told from it
         let mut datagram = [0; HEAD + FRAME_LIMIT + 1];
-        match self.receive(until, &mut datagram)? {
-            Some(len) => Ok(taken(&datagram[..len], buf)),
-            None => Ok(Event::Quiet),
+        match self.receive(piece, &mut datagram)? {
+            Some(len) => Ok(Some(taken(&datagram[..len], buf))),
+            None => Ok(None),
         }
+    }
+
+    /// A piece of a wait, and what ends the wait: a datagram, the end of a child, or its moment.
+    fn piece(&mut self, end: u64, buf: &mut [u8]) -> Result<Option<Event>, Failed>
+        ensures room { IfOk result (λ heard. IfSome heard (λ event. frame_len event ≤ length buf.new)) }
+    {
+        let left = end.saturating_sub(self.moment()?);
+        let piece = glancing(self.watch.look(), piece_of(left));
+        if let Some(event) = self.heard(piece, buf)? {
+            return Ok(Some(event));
+        }
+        if self.watch.look() == Seen::Ended || end <= self.moment()? {
+            Ok(Some(Event::Quiet))
+        } else {
+            Ok(None)
+        }
+    }
+
+    fn next_event(&mut self, until: Option<u64>, buf: &mut [u8]) -> Result<Event, Failed>
+        ensures room { IfOk result (λ event. frame_len event ≤ length buf.new) }
+    {
+        let end = wait_end(until, self.moment()?);
+        'pieces: for _ in 0..u64::MAX {
+            if let Some(event) = self.piece(end, buf)? {
+                return Ok(event);
+            }
+        }
+        Ok(Event::Quiet)
     }
 
     fn wait(&mut self, until: Option<u64>, buf: &mut [u8]) -> Result<Wake, Failed>
         ensures room { IfOk result (λ wake. frame_len wake.event ≤ length buf.new) }
     {
         let event = self.next_event(until, buf)?;
-        let at = moment(&self.rt)?;
+        let at = self.moment()?;
         Ok(Wake {
             at,
             salt: self.salts.next_u64(),
@@ -170,18 +225,19 @@ impl<R: Net + Clock + AllocGlobal + Drop> Wire<R> {
 
 /// Interfaces whose frames are datagrams on the loopback address. What comes isn't told.
 ///
-/// A datagram from the peer's port is one event; any other is a wake without one. A send reaches the peer, or nobody.
+/// A datagram from the peer's port is one event; any other is passed over. The end of a child ends a wait. A send reaches the
+/// peer, or nobody.
 #[derive(Drop)]
-pub struct LoopLink<R: Net + Clock + AllocGlobal + Drop> {
-    wire: Wire<R>,
+pub struct LoopLink<R: Net + Clock + AllocGlobal + Drop, W: Watch + Drop> {
+    wire: Wire<R, W>,
     faults: Faults,
     send_faults: Faults,
     begins: u64,
 }
 
-impl<R: Net + Clock + AllocGlobal + Drop> LoopLink<R> {
+impl<R: Net + Clock + AllocGlobal + Drop, W: Watch + Drop> LoopLink<R, W> {
     /// A link between two ports of 127.0.0.1, its own and the peer's. A word that is no port stands for 0. Nothing is opened yet.
-    pub fn new(rt: R, port: &str, peer: &str) -> LoopLink<R>
+    pub fn new(rt: R, watch: W, port: &str, peer: &str) -> LoopLink<R, W>
         ensures port { result.wire.port ≡ port_named port.now }
         ensures peer { result.wire.peer ≡ port_named peer.now }
         ensures begins { result.begins ≡ 0 }
@@ -189,9 +245,11 @@ impl<R: Net + Clock + AllocGlobal + Drop> LoopLink<R> {
         LoopLink {
             wire: Wire {
                 rt,
+                watch,
                 port: port_of(port),
                 peer: port_of(peer),
                 socket: None,
+                moments: None,
                 salts: Salts::begun_by(0),
             },
             faults: Faults::none(),
@@ -216,7 +274,7 @@ impl<R: Net + Clock + AllocGlobal + Drop> LoopLink<R> {
 }
 
 #[tactic(auto, using(crate::proofs::Causing::counted_cause))]
-impl<R: Net + Clock + AllocGlobal + Drop> Link for LoopLink<R> {
+impl<R: Net + Clock + AllocGlobal + Drop, W: Watch + Drop> Link for LoopLink<R, W> {
     ghost use Rattle.std.specs.Prelude.{None};
 
     ghost faults = { λ link. link.faults.count };

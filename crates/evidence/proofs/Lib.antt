@@ -12,3 +12,4 @@ pub mod Leasing
 pub mod Lives
 pub mod Items
 pub mod EndingProofs
+pub mod Starts

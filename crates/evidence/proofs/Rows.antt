@@ -58,7 +58,7 @@ either true b e = inl refl
 either false b e = inr e
 
 -- a row of two tables is one of the first or one of the second
-in_either : (row : HostRow) (first later : List HostRow) → has_row (first ++ later) row ≡ true → (has_row first row ≡ true) ⊎ (has_row later row ≡ true)
+pub in_either : (row : HostRow) (first later : List HostRow) → has_row (first ++ later) row ≡ true → (has_row first row ≡ true) ⊎ (has_row later row ≡ true)
 in_either row first later has = either _ _ (sym (list_any-append (is_at (row_cmp row)) first later) ∙ has)
 
 -- ---- what the wanted rows have, some interface gives
@@ -149,12 +149,12 @@ module _ (index : IfIndex) (net : Net) where
 
   -- ---- the basis
 
-  record OfStatic (outlet : Outlet) (static : Option Net4) : Type 0 where
-    address : Net4
-    is_static : static ≡ Some address
-    same : Addr index net ≡ Addr outlet.iface (Family.V4 address)
+  pub record OfStatic (outlet : Outlet) (static : Option Net4) : Type 0 where
+    pub address : Net4
+    pub is_static : static ≡ Some address
+    pub same : Addr index net ≡ Addr outlet.iface (Family.V4 address)
 
-  of_static : (outlet : Outlet) (in_force : Bool) (static : Option Net4) (router : Option Ip4) → has_row (static_rows outlet in_force static router) (Addr index net) ≡ true
+  pub of_static : (outlet : Outlet) (in_force : Bool) (static : Option Net4) (router : Option Ip4) → has_row (static_rows outlet in_force static router) (Addr index net) ≡ true
       → (in_force ≡ true) × OfStatic outlet static
   of_static outlet false static router has = cc
   of_static outlet true None router has = cc
@@ -168,12 +168,12 @@ module _ (index : IfIndex) (net : Net) where
     },
   )
 
-  record OfStatic6 (outlet : Outlet) (static : Option Net6) : Type 0 where
-    address : Net6
-    is_static : static ≡ Some address
-    same : Addr index net ≡ Addr outlet.iface (Family.V6 address)
+  pub record OfStatic6 (outlet : Outlet) (static : Option Net6) : Type 0 where
+    pub address : Net6
+    pub is_static : static ≡ Some address
+    pub same : Addr index net ≡ Addr outlet.iface (Family.V6 address)
 
-  of_static6 : (outlet : Outlet) (in_force : Bool) (static : Option Net6) → has_row (static6_rows outlet in_force static) (Addr index net) ≡ true
+  pub of_static6 : (outlet : Outlet) (in_force : Bool) (static : Option Net6) → has_row (static6_rows outlet in_force static) (Addr index net) ≡ true
       → (in_force ≡ true) × OfStatic6 outlet static
   of_static6 outlet false static has = cc
   of_static6 outlet true None has = cc
@@ -320,10 +320,10 @@ module _ (index : IfIndex) (net : Net) where
   of_local outlet None has = cc
   of_local outlet (Some addr) has = (addr, refl, of_address outlet (local_net addr) has)
 
-  same_index : (iface : IfIndex) (other : Net) → Addr index net ≡ Addr iface other → index ≡ iface
+  pub same_index : (iface : IfIndex) (other : Net) → Addr index net ≡ Addr iface other → index ≡ iface
   same_index iface other same = λ i. record { number = row_iface (same i) }
 
-  same_net : (iface : IfIndex) (other : Net) → Addr index net ≡ Addr iface other → net ≡ other
+  pub same_net : (iface : IfIndex) (other : Net) → Addr index net ≡ Addr iface other → net ≡ other
   same_net iface other same = ap row_net same
 
   module _ (site : Site) (clean : Type 0) (past : List Entry) where

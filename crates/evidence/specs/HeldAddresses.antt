@@ -16,10 +16,11 @@ use Rattle.settings.specs.ManagedRows.{SharesAreManaged, is_managed}
 use Rattle.host_model.specs.HostTable.{InRowOrder, NoneFails, unknown_table}
 use Rattle.client_model.specs.Clients.{rows_of}
 use Rattle.device_calls.specs.Worlds.{World}
-use Rattle.turn_model.specs.Lives.{OpeningMet, Met}
+use Rattle.turn_model.specs.Lives.{OpeningMet, IsOpening, Met}
 use Rattle.turn_model.specs.Foretold.{ran_turn, met_of, told_turns, opening_of}
 use Rattle.turn_model.specs.HostInLife.{Running, running_opened, running_turned, running_after, life_run, table_of}
-use Rattle.evidence.specs.Laws.{AreNumbered, AreSharedWithOthers, HasBasis}
+use Rattle.evidence.specs.StaticBasis.{StaticBasis}
+use Rattle.evidence.specs.Laws.{AreNumbered, AreSharedWithOthers, HasBasis, HasBasisOf}
 
 -- what the turns of a life meet
 abbrev pub mets_of : List Managed → Running → List Given → List Met
@@ -31,6 +32,15 @@ mets_of managed running (given ∷ coming) =
 abbrev pub RestOnEvidence : List Managed → List IfSpec → OpeningMet → List Met → List HostRow → Type 0
 RestOnEvidence managed specs opening mets rows = (index : IfIndex) (net : Net) → is_managed managed (Addr index net) ≡ true
     → has_row rows (Addr index net) ≡ true → HasBasis managed specs opening mets index net
+
+-- At an opening each address that the client wants is a static one, of an interface that has carrier.
+abbrev pub WantsStaticAlone : List Managed → List IfSpec → OpeningMet → Type 0
+WantsStaticAlone managed specs opening = (index : IfIndex) (net : Net) → has_row (rows_of opening.life.client) (Addr index net) ≡ true
+    → HasBasisOf StaticBasis managed specs opening [] index net
+
+-- so at each
+abbrev pub OpeningStarts : Type 0
+OpeningStarts = (managed : List Managed) (specs : List IfSpec) (opening : OpeningMet) → IsOpening managed specs opening → WantsStaticAlone managed specs opening
 
 -- so after an opening in which no host call failed
 abbrev pub OpeningRests : Type 0

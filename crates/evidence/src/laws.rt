@@ -5,7 +5,7 @@ ghost use Rattle.client_model.specs.Clients.{rows_of};
 ghost use Rattle.turn_model.specs.Lives.{IsOpening, life_after};
 ghost use Rattle.evidence_words.specs.Entries.{shown_of};
 ghost use Rattle.evidence.specs.Endings.{EndsWithCarrier, EndsWithStop, StaticEndsWithStop, StaticIsConfigured, StaticNeedsCarrier, StaticWaitsForCarrier};
-ghost use Rattle.evidence.specs.HeldAddresses.{ForetoldAreMet, OpeningRests, TurnsRest};
+ghost use Rattle.evidence.specs.HeldAddresses.{ForetoldAreMet, OpeningRests, OpeningStarts, TurnsRest};
 ghost use Rattle.evidence.specs.Laws.{AddressesHaveBasis, AreMade, CountedAreNumbered, OthersHaveBasis, site_of};
 ghost use Rattle.local_evidence.specs.LinkLocalBasis.{LinkLocalBasis};
 ghost use Rattle.evidence.specs.SevenTurns.{chosen_net, interface, opens, seven_shown, seven_turns};
@@ -28,6 +28,12 @@ pub fn held_addresses_have_a_basis()
     ensures opening { OpeningRests }
     ensures turns { TurnsRest }
     ensures foretold { ForetoldAreMet }
+{}
+
+/// Law: at the opening of a life, whatever leases were kept, the addresses that the client wants are static ones alone, each of an
+/// interface that has carrier.
+pub fn openings_want_static_addresses_alone()
+    ensures { OpeningStarts }
 {}
 
 /// Law: no address has a basis as a static one without carrier, nor after a stop, nor where it isn't configured.

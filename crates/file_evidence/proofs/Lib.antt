@@ -1,3 +1,2 @@
-mod Bringing
-pub mod SavedFiles
-pub mod RemovedFiles
+pub mod KeepingTurns
+pub mod StoreRuns

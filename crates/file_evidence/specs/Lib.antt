@@ -1,1 +1,1 @@
-pub mod WholeSavings
+pub mod WholeFiles

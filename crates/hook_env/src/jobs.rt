@@ -3,13 +3,20 @@ ghost use Rattle.std.specs.Prelude.{◌≡◌, ◌++◌, ◌∷◌, [], map, IfO
 ghost use Rattle.std.specs.String.{string_bytes};
 ghost use Rattle.world.specs.HookCalls.{job_of, variable_of};
 ghost use Rattle.hook_env.specs.Jobs.{carrier_word, held_variables, job_of_situation, job_said, job_value, job_variables, made_variables, variables_if};
+ghost use Rattle.hook_env.specs.Lease6Variables.{lease6_variables};
+ghost use Rattle.hook_env.specs.LeaseVariables.{lease_variables};
 ghost use Rattle.hook_env.specs.Situations.{held_content, situation_content};
+ghost use Rattle.hook_env.specs.declared.situation.Stage.TheVariants as stages;
+ghost use Rattle.lease_text.specs.Leases.{lease_content};
+ghost use Rattle.lease6_text.specs.Leases.{lease6_content};
 
 use crate::situation::{Held, Situation, Stage, tells_before, tells_now};
 use crate::telling::push_variable;
 use crate::telling4::{add_lease, add_net};
 use crate::telling6::{add_delegated, add_lease6};
 use crate::variables::{JOB_VARIABLES, JobVariable, job_word};
+use lease_text::Lease4;
+use lease6_text::Lease6;
 use net_types::NoMemory;
 use std::alloc::Global;
 use world::{HookJob, HookVar, add_variables, reason_text};
@@ -108,4 +115,22 @@ pub fn job(alloc: Global, situation: &Situation) -> Result<HookJob, NoMemory>
         script,
         vars,
     })
+}
+
+/// The variables of a held DHCPv4 lease, with `new_` before their names.
+pub fn lease_vars(alloc: Global, lease: &Lease4) -> Result<Vec<HookVar>, NoMemory>
+    ensures { IfOk result (λ vars. map variable_of vars.items ≡ lease_variables stages.Now (lease_content lease.now)) }
+{
+    let mut vars = Vec::new(alloc);
+    add_lease(&mut vars, Stage::Now, lease)?;
+    Ok(vars)
+}
+
+/// The variables of a held DHCPv6 lease, with `new_` before their names.
+pub fn lease6_vars(alloc: Global, lease: &Lease6) -> Result<Vec<HookVar>, NoMemory>
+    ensures { IfOk result (λ vars. map variable_of vars.items ≡ lease6_variables stages.Now (lease6_content lease.now)) }
+{
+    let mut vars = Vec::new(alloc);
+    add_lease6(&mut vars, Stage::Now, lease)?;
+    Ok(vars)
 }

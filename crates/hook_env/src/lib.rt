@@ -15,6 +15,6 @@ mod telling6;
 mod variables;
 
 pub use constants::variables_are_these;
-pub use jobs::job;
+pub use jobs::{job, lease_vars, lease6_vars};
 pub use situation::{Held, Situation, Stage};
 pub use variables::{JobVariable, Lease6Variable, NetVariable, OptionVariable};

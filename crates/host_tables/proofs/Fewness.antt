@@ -16,8 +16,9 @@ use Rattle.host_model.specs.Precedence.{is_kept, all_rows}
 use Rattle.host_tables.specs.declared.bringing.Bringing.{Bringing}
 use Rattle.host_tables.specs.declared.union.Union.{Union}
 use Rattle.host_tables.specs.Bringings.{bringing_cmp, bringing_cmp_total, bringing_eq_equivalence, has_bringing}
-use Rattle.host_tables.specs.Costs.{AreFew, most_steps, rows_exchanged, rows_of_all}
+use Rattle.host_tables.specs.Costs.{AreFew, HaveDigits, most_steps, rows_exchanged}
 use Rattle.host_tables.specs.Unions.{Unites}
+use Rattle.host_tables.proofs.Counting.{both_few}
 use Rattle.host_tables.proofs.Contending.{or_is, or_more, row_is}
 
 -- ---- the places' rows as bringings
@@ -86,25 +87,35 @@ few_of_new (x ∷ places) zero rows lt = let both = length-append rows (all_rows
 few_of_new (x ∷ places) (suc k) rows lt =
     let both = length-append x (all_rows (set places k rows)) in let more = few_of_new places k rows (omega arith) in omega arith
 
-pub are_few : (places : List (List HostRow)) (union : Union) (place : ℕ) (before after : List HostRow) (d : ℕ) → Unites places union → place < length places
-    → before ≡ get_or places place [] → rows_of_all places place after < 2 ^ d → AreFew d before after union
-are_few places union place before after d unites lt is few =
-    let brought = few_brought places union unites in
-    let wanted = few_wanted places union unites in
+pub are_few : (places : List (List HostRow)) (old new : Union) (place : ℕ) (before after : List HostRow) (d : ℕ) → Unites places old
+    → Unites (set places place after) new → place < length places → before ≡ get_or places place [] → HaveDigits d places place after → AreFew d before after old new
+are_few places old new place before after d unites unites_now lt is few =
+    let brought = few_brought places old unites in
+    let brings = few_brought (set places place after) new unites_now in
+    let wanted = few_wanted places old unites in
+    let wants = few_wanted (set places place after) new unites_now in
     let was = subst (λ (rows : List HostRow). length rows ≤ length (all_rows places)) (sym is) (few_of_one places place) in
     let will = few_of_new places place after lt in
     record {
-      brought = omega (arith, union.brought.ok.0);
-      wanted = omega (arith, union.wanted.ok.0);
-      changed = omega arith;
+      brought = omega (arith, old.brought.ok.0, few.before);
+      brings = omega (arith, new.brought.ok.0, few.now);
+      wanted = omega (arith, old.wanted.ok.0, few.before);
+      wants = omega (arith, new.wanted.ok.0, few.now);
+      changed = both_few (length before) (length after) d (omega (arith, few.before)) (omega (arith, few.now));
     }
 
 -- the steps of a change, by all rows of the places
-pub steps_of_tables : (places inside : List (List HostRow)) (union : Union) (place : ℕ) (before after rows : List HostRow) (start end : ℕ)
-    → inside ≡ places → Unites inside union → place < length inside → before ≡ get_or inside place [] → after ≡ rows
-    → ((d : ℕ) → AreFew d before after union → end ≤ start + most_steps (length before + length after) d)
-    → (d : ℕ) → rows_of_all places place rows < 2 ^ d → end ≤ start + most_steps (rows_exchanged places place rows) d
-steps_of_tables places inside union place before after rows start end view unites lt is same steps =
-    subst (λ (all : List (List HostRow)). (d : ℕ) → rows_of_all all place rows < 2 ^ d → end ≤ start + most_steps (rows_exchanged all place rows) d) view
-    (subst (λ (now : List HostRow). (d : ℕ) → rows_of_all inside place now < 2 ^ d → end ≤ start + most_steps (rows_exchanged inside place now) d) same
-    (λ d few. subst (λ (was : List HostRow). end ≤ start + most_steps (length was + length after) d) is (steps d (are_few inside union place before after d unites lt is few))))
+pub steps_of_tables : (places inside : List (List HostRow)) (old new : Union) (place : ℕ) (before after rows : List HostRow) (start end : ℕ)
+    → inside ≡ places → Unites inside old → Unites (set inside place after) new → place < length inside → before ≡ get_or inside place [] → after ≡ rows
+    → ((d : ℕ) → AreFew d before after old new → end ≤ start + most_steps (length before + length after) d)
+    → (d : ℕ) → HaveDigits d places place rows → end ≤ start + most_steps (rows_exchanged places place rows) d
+steps_of_tables places inside old new place before after rows start end view unites unites_now lt is same steps =
+    subst (λ (all : List (List HostRow)). (d : ℕ) → HaveDigits d all place rows → end ≤ start + most_steps (rows_exchanged all place rows) d) view
+    (subst (λ (now : List HostRow). (d : ℕ) → HaveDigits d inside place now → end ≤ start + most_steps (rows_exchanged inside place now) d) same
+    (λ d few. subst (λ (was : List HostRow). end ≤ start + most_steps (length was + length after) d) is
+    (steps d (are_few inside old new place before after d unites unites_now lt is few))))
+
+-- where nothing was changed there are none
+pub no_steps : (places : List (List HostRow)) (place : ℕ) (rows : List HostRow) (start end : ℕ) → end ≡ start
+    → (d : ℕ) → HaveDigits d places place rows → end ≤ start + most_steps (rows_exchanged places place rows) d
+no_steps places place rows start end same d few = omega (arith, same)

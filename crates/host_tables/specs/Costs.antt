@@ -23,13 +23,15 @@ pub record RoomFor (before after : List HostRow) (room : Room) (union : Union) :
   pub brought : HasRoom (length after) union.brought
   pub wanted : HasRoom (length before + length after) union.wanted
 
--- d halvings find each of the rows that such a change meets
-pub record AreFew (d : ℕ) (before after : List HostRow) (union : Union) : Type 0 where
-  pub brought : vec_len union.brought + length after < 2 ^ d
-  pub wanted : vec_len union.wanted < 2 ^ d
-  pub changed : length before + length after < 2 ^ d
+-- d halvings find each of the rows that stand, before a change from these rows to those and after it
+pub record AreFew (d : ℕ) (before after : List HostRow) (old new : Union) : Type 0 where
+  pub brought : vec_len old.brought < 2 ^ d
+  pub brings : vec_len new.brought < 2 ^ d
+  pub wanted : vec_len old.wanted < 2 ^ d
+  pub wants : vec_len new.wanted < 2 ^ d
+  pub changed : length before + length after < 2 ^ (d + 1)
 
--- the most steps for a change of so many rows among fewer than 2 ^ d
+-- the most steps for a change of so many rows, where the number of all that stand has d binary digits
 abbrev pub most_steps : (rows d : ℕ) → ℕ
 most_steps rows d = 8 * (rows + 1) * (d + 1)
 
@@ -37,6 +39,7 @@ most_steps rows d = 8 * (rows + 1) * (d + 1)
 abbrev pub rows_exchanged : (places : List (List HostRow)) → (place : ℕ) → (rows : List HostRow) → ℕ
 rows_exchanged places place rows = length (slice_index_or places place []) + length rows
 
--- the number of rows that all places bring before, and of those that they bring now
-abbrev pub rows_of_all : (places : List (List HostRow)) → (place : ℕ) → (rows : List HostRow) → ℕ
-rows_of_all places place rows = length (all_rows places) + length (all_rows (slice_set places place rows))
+-- no more than d binary digits have the number of rows that all places bring before, and that of those that they bring now
+pub record HaveDigits (d : ℕ) (places : List (List HostRow)) (place : ℕ) (rows : List HostRow) : Type 0 where
+  pub before : length (all_rows places) < 2 ^ d
+  pub now : length (all_rows (slice_set places place rows)) < 2 ^ d

@@ -46,6 +46,16 @@ fn take_each(set: &mut BTreeSet<HostRow>, rows: &[HostRow])
     }
 }
 
+/// The rows of a set, in order.
+fn rows_of(alloc: Global, set: &BTreeSet<HostRow>) -> Result<Vec<HostRow>, AllocError>
+    ensures { IfOk result (λ rows. rows.items ≡ set.now.keys) }
+{
+    if set.is_empty() {
+        return Ok(Vec::new(alloc));
+    }
+    set.iter().copied().collect(alloc)
+}
+
 impl Diffs {
     /// Nothing changes.
     pub fn none(alloc: Global) -> Diffs
@@ -73,8 +83,8 @@ impl Diffs {
         ensures { IfOk result (λ diff. (before after : List (List HostRow)) → Sums before after self → Differ before after diff) }
     {
         Ok(Diff {
-            gone: self.gone.iter().copied().collect(alloc)?,
-            come: self.come.iter().copied().collect(alloc)?,
+            gone: rows_of(alloc, &self.gone)?,
+            come: rows_of(alloc, &self.come)?,
         })
     }
 }

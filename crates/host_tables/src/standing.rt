@@ -18,7 +18,7 @@ fn head<L: Ledger>(brought: &[Bringing], row: HostRow, steps: &mut Steps<L>) -> 
     requires { InBringingOrder brought.now }
     ensures stands { (q : HostRow) → stands_at row (rows_in brought.now) q ≡ is_it result q }
     ensures grows { steps.old ≤ steps.new }
-    ensures steps { (n : ℕ) → length brought.now < 2 ^ n → steps.new ≤ steps.old + n }
+    ensures steps { (n : ℕ) → length brought.now < 2 ^ n → steps.new ≤ steps.old + n + 1 }
 {
     let target_row = target(row);
     let lowest = Bringing {
@@ -28,11 +28,8 @@ fn head<L: Ledger>(brought: &[Bringing], row: HostRow, steps: &mut Steps<L>) -> 
     match first_from(brought, &lowest, steps) {
         None => None,
         Some(first) => {
-            if target(first.row) == target_row {
-                Some(first.row)
-            } else {
-                None
-            }
+            let order = steps.compare(&target(first.row), &target_row);
+            if order.is_eq() { Some(first.row) } else { None }
         }
     }
 }
@@ -52,7 +49,7 @@ fn add_head<L: Ledger>(
     ensures len { vec_len heads.new ≤ vec_len heads.old + 1 }
     ensures capacity { vec_capacity heads.old ≤ vec_capacity heads.new }
     ensures grows { steps.old ≤ steps.new }
-    ensures steps { (n : ℕ) → length brought.now < 2 ^ n → vec_len heads.old < 2 ^ n → steps.new ≤ steps.old + 2 * n }
+    ensures steps { (n : ℕ) → length brought.now < 2 ^ n → vec_len heads.old < 2 ^ (n + 1) → steps.new ≤ steps.old + 2 * (n + 1) }
 {
     if let Some(head) = head(brought, row, steps) {
         put_in(heads, 0, head, steps);
@@ -73,7 +70,7 @@ fn add_heads<L: Ledger>(
     ensures len { vec_len heads.new ≤ vec_len heads.old + length rows.now }
     ensures capacity { vec_capacity heads.old ≤ vec_capacity heads.new }
     ensures grows { steps.old ≤ steps.new }
-    ensures steps { (n : ℕ) → length brought.now < 2 ^ n → vec_len heads.old + length rows.now < 2 ^ n → steps.new ≤ steps.old + length rows.now * (2 * n) }
+    ensures steps { (n : ℕ) → length brought.now < 2 ^ n → vec_len heads.old + length rows.now < 2 ^ (n + 1) → steps.new ≤ steps.old + length rows.now * (2 * (n + 1)) }
 {
     for row in rows {
         add_head(brought, *row, heads, steps);
@@ -95,8 +92,8 @@ pub fn heads_into<L: Ledger>(
     ensures heads { AreHeads before.now after.now (rows_in brought.now) heads.new.items }
     ensures len { vec_len heads.new ≤ length before.now + length after.now }
     ensures grows { steps.old ≤ steps.new }
-    ensures steps { (n : ℕ) → length brought.now < 2 ^ n → length before.now + length after.now < 2 ^ n
-        → steps.new ≤ steps.old + (length before.now + length after.now) * (2 * n) }
+    ensures steps { (n : ℕ) → length brought.now < 2 ^ n → length before.now + length after.now < 2 ^ (n + 1)
+        → steps.new ≤ steps.old + (length before.now + length after.now) * (2 * (n + 1)) }
 {
     add_heads(brought, before, heads, steps);
     add_heads(brought, after, heads, steps);

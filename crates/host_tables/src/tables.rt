@@ -1,9 +1,9 @@
-ghost use Rattle.std.specs.Prelude.{◌≡◌, ◌<◌, ◌≤◌, ◌+◌, ◌^◌, ℕ, [], ◌∷◌, ◌++◌, length, slice_index_or, slice_set, OnOk, OnErr, IfOk};
+ghost use Rattle.std.specs.Prelude.{◌≡◌, ◌<◌, ◌≤◌, ◌+◌, ℕ, [], ◌∷◌, ◌++◌, length, slice_index_or, slice_set, OnOk, OnErr, IfOk};
 ghost use Rattle.std.specs.List.{AllByRecursion};
 ghost use Rattle.world.specs.Rows.{IsRow};
 ghost use Rattle.host_model.specs.HostTable.{InRowOrder};
 ghost use Rattle.host_model.specs.Precedence.{wanted_of};
-ghost use Rattle.host_tables.specs.Costs.{most_steps, rows_exchanged, rows_of_all};
+ghost use Rattle.host_tables.specs.Costs.{HaveDigits, most_steps, rows_exchanged};
 ghost use Rattle.host_tables.specs.Unions.{Differ};
 
 use crate::host_rows::HostRows;
@@ -66,7 +66,7 @@ impl Tables {
     }
 
     /// Puts these rows in the place of those that this place brings, and answers what that makes of the wanted rows. The steps that
-    /// it takes grow with the number of these rows and of those before, and not with all. Where memory runs out all is as it was.
+    /// it takes, of which each is the comparison of two rows, grow with the number of these rows and of those before, and not with all. Where memory runs out all is as it was.
     pub fn change<L: Ledger>(
         &mut self,
         place: usize,
@@ -78,7 +78,7 @@ impl Tables {
         ensures differ { IfOk result (λ diff. Differ self.old (slice_set self.old place rows) diff) }
         ensures kept { OnErr result (self.new ≡ self.old) }
         ensures grows { steps.old ≤ steps.new }
-        ensures steps { (d : ℕ) → rows_of_all self.old place rows < 2 ^ d → steps.new ≤ steps.old + most_steps (rows_exchanged self.old place rows) d }
+        ensures steps { (d : ℕ) → HaveDigits d self.old place rows → steps.new ≤ steps.old + most_steps (rows_exchanged self.old place rows) d }
     {
         let before = self.places[place].as_slice();
         let diff = self

@@ -1,6 +1,6 @@
 //! The rows of all places in order: a change costs searches for its own rows, however many there are.
 
-ghost use Rattle.std.specs.Prelude.{◌+◌, ◌*◌, ◌^◌, ◌<◌, ◌≤◌, ℕ, [], length, vec_len, IfOk, OnErr};
+ghost use Rattle.std.specs.Prelude.{◌≡◌, ◌+◌, ◌*◌, ◌^◌, ◌<◌, ◌≤◌, ℕ, [], length, vec_len, IfOk, OnErr};
 ghost use Rattle.std.specs.Vec.{vec_capacity};
 ghost use Rattle.host_model.specs.HostTable.{InRowOrder};
 ghost use Rattle.host_tables.specs.Bringings.{InBringingOrder};
@@ -58,7 +58,7 @@ fn add_all<L: Ledger>(all: &mut Vec<HostRow>, rows: &[HostRow], steps: &mut Step
     requires room { HasRoom (length rows.now) all.old }
     ensures adds { AddsRows rows.now all.old.items all.new.items }
     ensures grows { steps.old ≤ steps.new }
-    ensures steps { (n : ℕ) → vec_len all.old + length rows.now < 2 ^ n → steps.new ≤ steps.old + length rows.now * n }
+    ensures steps { (n : ℕ) → vec_len all.new < 2 ^ n → steps.new ≤ steps.old + length rows.now * n }
 {
     for row in rows {
         put_in(all, 0, *row, steps);
@@ -114,7 +114,7 @@ impl Union {
         ensures brings { Brings place rows.now self.old self.new }
         ensures len { vec_len self.new.brought ≤ vec_len self.old.brought + length rows.now }
         ensures grows { steps.old ≤ steps.new }
-        ensures steps { (n : ℕ) → vec_len self.old.brought + length rows.now < 2 ^ n → steps.new ≤ steps.old + length rows.now * n }
+        ensures steps { (n : ℕ) → vec_len self.new.brought < 2 ^ n → steps.new ≤ steps.old + length rows.now * n }
     {
         for row in rows {
             put_in(&mut self.brought, 0, Bringing { row: *row, place }, steps);
@@ -135,7 +135,7 @@ impl Union {
         requires room { RoomFor before.now after.now room self.old }
         ensures exchanges { Exchanges place before.now after.now self.old self.new result }
         ensures grows { steps.old ≤ steps.new }
-        ensures steps { (d : ℕ) → AreFew d before.now after.now self.old → steps.new ≤ steps.old + most_steps (length before.now + length after.now) d }
+        ensures steps { (d : ℕ) → AreFew d before.now after.now self.old self.new → steps.new ≤ steps.old + most_steps (length before.now + length after.now) d }
     {
         let Room {
             mut stood,
@@ -167,8 +167,9 @@ impl Union {
         requires wanted { InRowOrder self.old.wanted.items }
         ensures exchanges { IfOk result (λ diff. Exchanges place before.now after.now self.old self.new diff) }
         ensures kept { OnErr result (KeepsRows self.old self.new) }
+        ensures unspent { OnErr result (steps.new ≡ steps.old) }
         ensures grows { steps.old ≤ steps.new }
-        ensures steps { (d : ℕ) → AreFew d before.now after.now self.old → steps.new ≤ steps.old + most_steps (length before.now + length after.now) d }
+        ensures steps { (d : ℕ) → AreFew d before.now after.now self.old self.new → steps.new ≤ steps.old + most_steps (length before.now + length after.now) d }
     {
         let count = before.len() + after.len();
         let room = Room::new(alloc, count)?;

@@ -1,8 +1,9 @@
 -- Steps that follow one another, and what was asked in them.
-use Rattle.std.proofs.Common.{◌≡◌, ◌<◌, ◌^◌, arith, ◌++◌, List, [], ◌∷◌, Bool, false, refl, sym, ap, subst, ◌∙◌, append_assoc, append-nil, ℕ}
+use Rattle.std.proofs.Common.{◌≡◌, arith, ◌++◌, List, [], ◌∷◌, Bool, false, refl, sym, ap, subst, ◌∙◌, append_assoc, append-nil, ℕ}
 use Rattle.std.specs.Prelude.{flat_map, map, is_some, option_to_list}
 use Rattle.std.proofs.lemmas.Grind.{flat_map-append}
 use Rattle.std.proofs.lemmas.List.{map-append}
+use Rattle.net_types.specs.Moments.{IsMoment}
 use Rattle.machine.specs.Moment.{is_due, moment_of}
 use Rattle.v4_client.specs.declared.states.Step4.{Step4}
 use Rattle.v4_client.specs.declared.states.News4.{News4}
@@ -31,7 +32,7 @@ use Rattle.client_model.proofs.SameInterfaces.{StepSame}
 use Rattle.iface_core.specs.Outcomes.{Asked, Follows, Goes, Tells, lease_told}
 
 -- a moment within the range is told as it is
-pub as_told : (at : ℕ) → at < 10 ^ 15 → moment_of at ≡ at
+pub as_told : (at : ℕ) → IsMoment at → moment_of at ≡ at
 as_told at h = grind (arith, h)
 
 -- nothing is asked in a silent step

@@ -1,6 +1,7 @@
 //! The DHCPv4 client of an interface, and what link-local makes of its news.
-ghost use Rattle.std.specs.Prelude.{◌≡◌, ◌<◌, ◌^◌, ◌∷◌, ◌++◌, true, is_some, option_map, IfOk, IfSome, OnOk};
+ghost use Rattle.std.specs.Prelude.{◌≡◌, ◌∷◌, ◌++◌, true, is_some, option_map, IfOk, IfSome, OnOk};
 ghost use Rattle.std.specs.Int.{w32, to_be_bytes};
+ghost use Rattle.net_types.specs.Moments.{IsMoment};
 ghost use Rattle.lease_text.specs.Bounds.{FitsLease};
 ghost use Rattle.lease6_text.specs.Bounds.{IsDuid};
 ghost use Rattle.lease_text.specs.Leases.{lease_content};
@@ -128,7 +129,7 @@ pub fn holds_lease(client: &Client4) -> bool
 
 /// Link-local after the client's news: a lease that is bound turns it off, and where one that was held has ended, it is armed.
 fn follow_local(iface: &mut Iface, held: bool, news: News4, at: u64)
-    requires { at < 10 ^ 15 }
+    requires { IsMoment at }
     ensures { iface.new ≡ record iface.old { local = run.followed iface.old.managed.conf at held news iface.old.local } }
 {
     match news {
@@ -150,7 +151,7 @@ fn follow(
     at: u64,
     outs: &mut Outs,
 ) -> Result<(), NoMemory>
-    requires at { at < 10 ^ 15 }
+    requires at { IsMoment at }
     requires fits { FitsManaged iface.old.managed }
     ensures { OnOk result (Follows at held (out_content out.now) iface.old iface.new (asked_in outs.old) (asked_in outs.new)) }
 {
@@ -163,7 +164,7 @@ fn follow(
 /// Ticks the client, which is due.
 #[tactic(auto, using(crate::proofs::Following::goes_dhcp4))]
 pub fn tick_dhcp4(iface: &mut Iface, at: u64, salt: u64, outs: &mut Outs) -> Result<(), NoMemory>
-    requires at { at < 10 ^ 15 }
+    requires at { IsMoment at }
     requires due { is_due (due_of iface.old.dhcp4.state) at ≡ true }
     requires fits { FitsManaged iface.old.managed }
     ensures { OnOk result (Goes (run.tick_dhcp4 at salt iface.old) iface.new (asked_in outs.old) (asked_in outs.new)) }
@@ -175,7 +176,7 @@ pub fn tick_dhcp4(iface: &mut Iface, at: u64, salt: u64, outs: &mut Outs) -> Res
 
 /// A client that is off begins, where DHCPv4 runs.
 pub fn begin_dhcp4(iface: &mut Iface, at: u64, salt: u64, outs: &mut Outs) -> Result<(), NoMemory>
-    requires at { at < 10 ^ 15 }
+    requires at { IsMoment at }
     requires fits { FitsManaged iface.old.managed }
     ensures { OnOk result (Goes (run.begin_dhcp4 at salt iface.old) iface.new (asked_in outs.old) (asked_in outs.new)) }
 {
@@ -189,7 +190,7 @@ pub fn begin_dhcp4(iface: &mut Iface, at: u64, salt: u64, outs: &mut Outs) -> Re
 
 /// A lease that is held is confirmed with any server, and a client that is off begins, where DHCPv4 runs.
 pub fn rebind_dhcp4(iface: &mut Iface, at: u64, salt: u64, outs: &mut Outs) -> Result<(), NoMemory>
-    requires at { at < 10 ^ 15 }
+    requires at { IsMoment at }
     requires fits { FitsManaged iface.old.managed }
     ensures { OnOk result (Goes (run.rebind_dhcp4 at salt iface.old) iface.new (asked_in outs.old) (asked_in outs.new)) }
 {
@@ -204,7 +205,7 @@ pub fn rebind_dhcp4(iface: &mut Iface, at: u64, salt: u64, outs: &mut Outs) -> R
 /// The carrier is gone: the client is off, and the kept lease stays kept.
 #[tactic(auto, using(crate::proofs::Following::goes_dhcp4))]
 pub fn drop_dhcp4(iface: &mut Iface, at: u64, salt: u64, outs: &mut Outs) -> Result<(), NoMemory>
-    requires at { at < 10 ^ 15 }
+    requires at { IsMoment at }
     requires fits { FitsManaged iface.old.managed }
     ensures { OnOk result (Goes (run.drop_dhcp4 at salt iface.old) iface.new (asked_in outs.old) (asked_in outs.new)) }
 {
@@ -222,7 +223,7 @@ pub fn stop_dhcp4(
     salt: u64,
     outs: &mut Outs,
 ) -> Result<(), NoMemory>
-    requires at { at < 10 ^ 15 }
+    requires at { IsMoment at }
     requires fits { FitsManaged iface.old.managed }
     ensures { OnOk result (Goes (run.stop_dhcp4 tell at salt iface.old) iface.new (asked_in outs.old) (asked_in outs.new)) }
 {
@@ -240,7 +241,7 @@ pub fn hear_packet(
     own: &[Mac],
     outs: &mut Outs,
 ) -> Result<(), NoMemory>
-    requires at { at < 10 ^ 15 }
+    requires at { IsMoment at }
     requires fits { FitsManaged iface.old.managed }
     ensures { OnOk result (Goes (run.dhcp4_packet own.now at salt arp.now iface.old) iface.new (asked_in outs.old) (asked_in outs.new)) }
 {
@@ -257,7 +258,7 @@ pub fn hear_message(
     salt: u64,
     outs: &mut Outs,
 ) -> Result<(), NoMemory>
-    requires at { at < 10 ^ 15 }
+    requires at { IsMoment at }
     requires fits { FitsManaged iface.old.managed }
     ensures { OnOk result (Goes (run.dhcp4_takes at salt (run.arrival_at at (heard_shown heard.now)) iface.old) iface.new (asked_in outs.old) (asked_in outs.new)) }
 {

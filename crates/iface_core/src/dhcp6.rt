@@ -1,5 +1,6 @@
 //! The DHCPv6 client of an interface.
-ghost use Rattle.std.specs.Prelude.{◌≡◌, ◌<◌, ◌^◌, true, map, option_map, IfOk, IfSome, OnOk};
+ghost use Rattle.std.specs.Prelude.{◌≡◌, true, map, option_map, IfOk, IfSome, OnOk};
+ghost use Rattle.net_types.specs.Moments.{IsMoment};
 ghost use Rattle.lease6_text.specs.Bounds.{FitsLease6};
 ghost use Rattle.lease6_text.specs.Leases.{lease6_content};
 ghost use Rattle.machine.specs.Moment.{is_due};
@@ -87,7 +88,7 @@ fn follow(iface: &Iface, out: &Out6, outs: &mut Outs) -> Result<(), NoMemory>
 
 /// Ticks the client, which is due.
 pub fn tick_dhcp6(iface: &mut Iface, at: u64, salt: u64, outs: &mut Outs) -> Result<(), NoMemory>
-    requires at { at < 10 ^ 15 }
+    requires at { IsMoment at }
     requires due { is_due (due_of iface.old.dhcp6) at ≡ true }
     requires fits { FitsManaged iface.old.managed }
     ensures { OnOk result (Goes (run.tick_dhcp6 at salt iface.old) iface.new (asked_in outs.old) (asked_in outs.new)) }
@@ -98,7 +99,7 @@ pub fn tick_dhcp6(iface: &mut Iface, at: u64, salt: u64, outs: &mut Outs) -> Res
 
 /// A client that is off begins, where DHCPv6 runs.
 pub fn begin_dhcp6(iface: &mut Iface, at: u64, salt: u64, outs: &mut Outs) -> Result<(), NoMemory>
-    requires at { at < 10 ^ 15 }
+    requires at { IsMoment at }
     requires fits { FitsManaged iface.old.managed }
     ensures { OnOk result (Goes (run.begin_dhcp6 at salt iface.old) iface.new (asked_in outs.old) (asked_in outs.new)) }
 {
@@ -111,7 +112,7 @@ pub fn begin_dhcp6(iface: &mut Iface, at: u64, salt: u64, outs: &mut Outs) -> Re
 
 /// Items that are held are asked for again of any server, and a client that is off begins, where DHCPv6 runs.
 pub fn rebind_dhcp6(iface: &mut Iface, at: u64, salt: u64, outs: &mut Outs) -> Result<(), NoMemory>
-    requires at { at < 10 ^ 15 }
+    requires at { IsMoment at }
     requires fits { FitsManaged iface.old.managed }
     ensures { OnOk result (Goes (run.rebind_dhcp6 at salt iface.old) iface.new (asked_in outs.old) (asked_in outs.new)) }
 {
@@ -124,7 +125,7 @@ pub fn rebind_dhcp6(iface: &mut Iface, at: u64, salt: u64, outs: &mut Outs) -> R
 
 /// The carrier is gone: the client is off, and the kept lease stays kept.
 pub fn drop_dhcp6(iface: &mut Iface, at: u64, salt: u64, outs: &mut Outs) -> Result<(), NoMemory>
-    requires at { at < 10 ^ 15 }
+    requires at { IsMoment at }
     requires fits { FitsManaged iface.old.managed }
     ensures { OnOk result (Goes (run.drop_dhcp6 at salt iface.old) iface.new (asked_in outs.old) (asked_in outs.new)) }
 {
@@ -150,7 +151,7 @@ pub fn stop_dhcp6(
     salt: u64,
     outs: &mut Outs,
 ) -> Result<(), NoMemory>
-    requires at { at < 10 ^ 15 }
+    requires at { IsMoment at }
     requires fits { FitsManaged iface.old.managed }
     ensures { OnOk result (Goes (run.stop_dhcp6 tell at salt iface.old) iface.new (asked_in outs.old) (asked_in outs.new)) }
 {
@@ -166,7 +167,7 @@ pub fn hear_message6(
     salt: u64,
     outs: &mut Outs,
 ) -> Result<(), NoMemory>
-    requires at { at < 10 ^ 15 }
+    requires at { IsMoment at }
     requires fits { FitsManaged iface.old.managed }
     ensures { OnOk result (Goes (run.dhcp6_takes at salt (heard_shown heard.now) iface.old) iface.new (asked_in outs.old) (asked_in outs.new)) }
 {
@@ -182,7 +183,7 @@ pub fn contest(
     salt: u64,
     outs: &mut Outs,
 ) -> Result<(), NoMemory>
-    requires at { at < 10 ^ 15 }
+    requires at { IsMoment at }
     requires fits { FitsManaged iface.old.managed }
     ensures { OnOk result (Goes (run.contested at salt addr iface.old) iface.new (asked_in outs.old) (asked_in outs.new)) }
 {

@@ -1,5 +1,6 @@
 //! A managed interface: how it opens, its carrier, and what it is told.
-ghost use Rattle.std.specs.Prelude.{◌≡◌, ◌<◌, ◌^◌, IfOk, IfSome, OnOk, option_map};
+ghost use Rattle.std.specs.Prelude.{◌≡◌, IfOk, IfSome, OnOk, option_map};
+ghost use Rattle.net_types.specs.Moments.{IsMoment};
 ghost use Rattle.lease_text.specs.Bounds.{FitsLease};
 ghost use Rattle.lease_text.specs.Leases.{lease_content};
 ghost use Rattle.lease6_text.specs.Bounds.{FitsLease6};
@@ -50,7 +51,7 @@ pub fn iface_open(
     outs: &mut Outs,
 ) -> Result<Iface, NoMemory>
     requires fits { FitsBeginning (beginning_of beginning) }
-    requires at { begin.at < 10 ^ 15 }
+    requires at { IsMoment begin.at }
     ensures { IfOk result (λ iface. Goes (run.opened begin.up begin.at begin.salt (beginning_of beginning)) iface (asked_in outs.old) (asked_in outs.new)) }
 {
     let index = beginning.managed.spec.index;
@@ -62,7 +63,7 @@ pub fn iface_open(
 
 /// The carrier that there is at the opening comes.
 fn carry_at_opening(iface: &mut Iface, begin: Begin, outs: &mut Outs) -> Result<(), NoMemory>
-    requires at { begin.at < 10 ^ 15 }
+    requires at { IsMoment begin.at }
     requires fits { FitsManaged iface.old.managed }
     ensures { OnOk result (Goes (run.carrier_at_opening (is_up begin.up (index_of iface.old)) begin.at begin.salt iface.old) iface.new (asked_in outs.old) (asked_in outs.new)) }
 {
@@ -99,7 +100,7 @@ fn rest(alloc: Global, beginning: Beginning) -> Result<Iface, AllocError>
 
 /// Machines that are off begin.
 fn begin(iface: &mut Iface, at: u64, salt: u64, outs: &mut Outs) -> Result<(), NoMemory>
-    requires at { at < 10 ^ 15 }
+    requires at { IsMoment at }
     requires fits { FitsManaged iface.old.managed }
     ensures { OnOk result (Goes (run.begins at salt iface.old) iface.new (asked_in outs.old) (asked_in outs.new)) }
 {
@@ -110,7 +111,7 @@ fn begin(iface: &mut Iface, at: u64, salt: u64, outs: &mut Outs) -> Result<(), N
 
 /// The machines are off, and nobody is told.
 fn drop_machines(iface: &mut Iface, at: u64, salt: u64, outs: &mut Outs) -> Result<(), NoMemory>
-    requires at { at < 10 ^ 15 }
+    requires at { IsMoment at }
     requires fits { FitsManaged iface.old.managed }
     ensures { OnOk result (Goes (run.machines_drop at salt iface.old) iface.new (asked_in outs.old) (asked_in outs.new)) }
 {
@@ -127,7 +128,7 @@ fn stop_machines(
     salt: u64,
     outs: &mut Outs,
 ) -> Result<(), NoMemory>
-    requires at { at < 10 ^ 15 }
+    requires at { IsMoment at }
     requires fits { FitsManaged iface.old.managed }
     ensures { OnOk result (Goes (run.machines_stop tell at salt iface.old) iface.new (asked_in outs.old) (asked_in outs.new)) }
 {
@@ -137,7 +138,7 @@ fn stop_machines(
 }
 
 fn gain_carrier(iface: &mut Iface, at: u64, salt: u64, outs: &mut Outs) -> Result<(), NoMemory>
-    requires at { at < 10 ^ 15 }
+    requires at { IsMoment at }
     requires fits { FitsManaged iface.old.managed }
     ensures { OnOk result (Goes (run.carrier_comes at salt iface.old) iface.new (asked_in outs.old) (asked_in outs.new)) }
 {
@@ -147,7 +148,7 @@ fn gain_carrier(iface: &mut Iface, at: u64, salt: u64, outs: &mut Outs) -> Resul
 }
 
 fn lose_carrier(iface: &mut Iface, at: u64, salt: u64, outs: &mut Outs) -> Result<(), NoMemory>
-    requires at { at < 10 ^ 15 }
+    requires at { IsMoment at }
     requires fits { FitsManaged iface.old.managed }
     ensures { OnOk result (Goes (run.carrier_goes at salt iface.old) iface.new (asked_in outs.old) (asked_in outs.new)) }
 {
@@ -164,7 +165,7 @@ pub fn carry(
     salt: u64,
     outs: &mut Outs,
 ) -> Result<(), NoMemory>
-    requires at { at < 10 ^ 15 }
+    requires at { IsMoment at }
     requires fits { FitsManaged iface.old.managed }
     ensures { OnOk result (Goes (run.carried at salt up iface.old) iface.new (asked_in outs.old) (asked_in outs.new)) }
 {
@@ -178,7 +179,7 @@ pub fn carry(
 
 /// What the machines hold is given back, and they are off.
 pub fn release(iface: &mut Iface, at: u64, salt: u64, outs: &mut Outs) -> Result<(), NoMemory>
-    requires at { at < 10 ^ 15 }
+    requires at { IsMoment at }
     requires fits { FitsManaged iface.old.managed }
     ensures { OnOk result (Goes (run.released at salt iface.old) iface.new (asked_in outs.old) (asked_in outs.new)) }
 {
@@ -187,7 +188,7 @@ pub fn release(iface: &mut Iface, at: u64, salt: u64, outs: &mut Outs) -> Result
 }
 
 fn rebind_machines(iface: &mut Iface, at: u64, salt: u64, outs: &mut Outs) -> Result<(), NoMemory>
-    requires at { at < 10 ^ 15 }
+    requires at { IsMoment at }
     requires fits { FitsManaged iface.old.managed }
     ensures { OnOk result (Goes (run.machines_rebind at salt iface.old) iface.new (asked_in outs.old) (asked_in outs.new)) }
 {
@@ -198,7 +199,7 @@ fn rebind_machines(iface: &mut Iface, at: u64, salt: u64, outs: &mut Outs) -> Re
 
 /// A lease that is held is confirmed anew, and machines that are off begin, where there is carrier.
 pub fn rebind(iface: &mut Iface, at: u64, salt: u64, outs: &mut Outs) -> Result<(), NoMemory>
-    requires at { at < 10 ^ 15 }
+    requires at { IsMoment at }
     requires fits { FitsManaged iface.old.managed }
     ensures { OnOk result (Goes (run.rebound at salt iface.old) iface.new (asked_in outs.old) (asked_in outs.new)) }
 {
@@ -222,7 +223,7 @@ fn told_at_stop(conf: &IfConf) -> Tell
 
 /// Nothing is in force after a stop, which is told last.
 pub fn halt(iface: &mut Iface, at: u64, salt: u64, outs: &mut Outs) -> Result<(), NoMemory>
-    requires at { at < 10 ^ 15 }
+    requires at { IsMoment at }
     requires fits { FitsManaged iface.old.managed }
     ensures { OnOk result (Goes (run.halted at salt iface.old) iface.new (asked_in outs.old) (asked_in outs.new)) }
 {

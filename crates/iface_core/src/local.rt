@@ -1,5 +1,6 @@
 //! The link-local machine of an interface.
-ghost use Rattle.std.specs.Prelude.{◌≡◌, ◌<◌, ◌^◌, OnOk, true};
+ghost use Rattle.std.specs.Prelude.{◌≡◌, OnOk, true};
+ghost use Rattle.net_types.specs.Moments.{IsMoment};
 ghost use Rattle.machine.specs.Moment.{is_due};
 ghost use Rattle.settings.specs.Fitting.{FitsManaged};
 ghost use Rattle.ipv4ll.specs.Table.{due_of, off};
@@ -40,7 +41,7 @@ fn fallback_of(conf: &IfConf) -> Fallback
 
 /// A lease is waited for until the timeout; with a timeout of 0 for ever.
 fn arm_for_lease(conf: &IfConf, local: &mut LinkLocal, at: u64)
-    requires { at < 10 ^ 15 }
+    requires { IsMoment at }
     ensures { local.new ≡ run.armed_for_lease conf.now at local.old }
 {
     if conf.timeout != 0 {
@@ -51,7 +52,7 @@ fn arm_for_lease(conf: &IfConf, local: &mut LinkLocal, at: u64)
 
 /// Arms link-local where it is off: due when a lease was waited for long enough where DHCPv4 runs, else at once.
 pub fn arm(conf: &IfConf, local: &mut LinkLocal, at: u64)
-    requires { at < 10 ^ 15 }
+    requires { IsMoment at }
     ensures { local.new ≡ run.armed conf.now at local.old }
 {
     if runs_dhcp4(conf) {
@@ -63,7 +64,7 @@ pub fn arm(conf: &IfConf, local: &mut LinkLocal, at: u64)
 
 /// Arms link-local where no lease is held.
 pub fn arm_unless_held(iface: &mut Iface, at: u64)
-    requires { at < 10 ^ 15 }
+    requires { IsMoment at }
     ensures { arms at iface.old ≡ silent iface.new }
 {
     if !holds_lease(&iface.dhcp4) {
@@ -81,7 +82,7 @@ pub fn drop_local(iface: &mut Iface)
 /// Ticks link-local, which is due.
 #[tactic(auto, using(crate::proofs::ToldLocals::goes_local))]
 pub fn tick_local(iface: &mut Iface, at: u64, salt: u64, outs: &mut Outs) -> Result<(), NoMemory>
-    requires at { at < 10 ^ 15 }
+    requires at { IsMoment at }
     requires due { is_due (due_of iface.old.local.state) at ≡ true }
     requires fits { FitsManaged iface.old.managed }
     ensures { OnOk result (Goes (run.tick_local at salt iface.old) iface.new (asked_in outs.old) (asked_in outs.new)) }
@@ -101,7 +102,7 @@ pub fn hear_local(
     own: &[Mac],
     outs: &mut Outs,
 ) -> Result<(), NoMemory>
-    requires at { at < 10 ^ 15 }
+    requires at { IsMoment at }
     requires fits { FitsManaged iface.old.managed }
     ensures { OnOk result (Goes (run.local_hears own.now at salt arp.now iface.old) iface.new (asked_in outs.old) (asked_in outs.new)) }
 {

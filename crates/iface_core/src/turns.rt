@@ -1,4 +1,5 @@
-ghost use Rattle.std.specs.Prelude.{◌≡◌, ◌==◌, ◌<◌, ◌^◌, OnOk, true};
+ghost use Rattle.std.specs.Prelude.{◌≡◌, ◌==◌, OnOk, true};
+ghost use Rattle.net_types.specs.Moments.{IsMoment};
 ghost use Rattle.machine.specs.Moment.{is_due};
 ghost use Rattle.settings.specs.Fitting.{FitsManaged};
 ghost use Rattle.world.specs.Rows.{IsInterface};
@@ -29,7 +30,7 @@ const ARP_KIND: u16 = 0x0806;
 
 /// A frame of the interface couldn't be sent in the turn before.
 pub fn iface_unsent(iface: &mut Iface, at: u64, salt: u64)
-    requires { at < 10 ^ 15 }
+    requires { IsMoment at }
     ensures { iface.new ≡ run.restarted at salt iface.old }
 {
     unsent4(&mut iface.dhcp4, at, salt);
@@ -44,7 +45,7 @@ pub fn iface_tick(
     salt: u64,
     outs: &mut Outs,
 ) -> Result<(), NoMemory>
-    requires at { at < 10 ^ 15 }
+    requires at { IsMoment at }
     requires due { is_due (run.machine_due machine iface.old) at ≡ true }
     requires fits { FitsManaged iface.old.managed }
     ensures { OnOk result (Goes (run.machine_ticked machine at salt iface.old) iface.new (asked_in outs.old) (asked_in outs.new)) }
@@ -63,7 +64,7 @@ fn tick_if_due(
     turn: &Turn<'_>,
     outs: &mut Outs,
 ) -> Result<(), NoMemory>
-    requires at { turn.now.at < 10 ^ 15 }
+    requires at { IsMoment turn.now.at }
     requires fits { FitsManaged iface.old.managed }
     ensures { OnOk result (Goes (run.machine_ticked machine turn.now.at turn.now.salt iface.old) iface.new (asked_in outs.old) (asked_in outs.new)) }
 {
@@ -82,7 +83,7 @@ pub fn iface_input(
     own: &[Mac],
     outs: &mut Outs,
 ) -> Result<(), NoMemory>
-    requires at { turn.now.at < 10 ^ 15 }
+    requires at { IsMoment turn.now.at }
     requires fits { FitsManaged iface.old.managed }
     ensures { OnOk result (Goes (input_of own.now turn.now iface.old) iface.new (asked_in outs.old) (asked_in outs.new)) }
 {
@@ -130,7 +131,7 @@ fn hear_arp(
     own: &[Mac],
     outs: &mut Outs,
 ) -> Result<(), NoMemory>
-    requires at { turn.now.at < 10 ^ 15 }
+    requires at { IsMoment turn.now.at }
     requires fits { FitsManaged iface.old.managed }
     ensures { OnOk result (Goes (hears_packet own.now turn.now.at turn.now.salt arp.now iface.old) iface.new (asked_in outs.old) (asked_in outs.new)) }
 {
@@ -145,7 +146,7 @@ fn hear_dhcp6(
     turn: &Turn<'_>,
     outs: &mut Outs,
 ) -> Result<(), NoMemory>
-    requires at { turn.now.at < 10 ^ 15 }
+    requires at { IsMoment turn.now.at }
     requires fits { FitsManaged iface.old.managed }
     ensures { OnOk result (Goes (hears_message6 turn.now.at turn.now.salt (heard6_in iface.old.managed.spec.mac bytes.now) iface.old) iface.new (asked_in outs.old) (asked_in outs.new)) }
 {
@@ -162,7 +163,7 @@ fn hear_server(
     turn: &Turn<'_>,
     outs: &mut Outs,
 ) -> Result<(), NoMemory>
-    requires at { turn.now.at < 10 ^ 15 }
+    requires at { IsMoment turn.now.at }
     requires fits { FitsManaged iface.old.managed }
     ensures { OnOk result (Goes (hears_server turn.now.at turn.now.salt bytes.now iface.old) iface.new (asked_in outs.old) (asked_in outs.new)) }
 {
@@ -180,7 +181,7 @@ fn hear(
     own: &[Mac],
     outs: &mut Outs,
 ) -> Result<(), NoMemory>
-    requires at { turn.now.at < 10 ^ 15 }
+    requires at { IsMoment turn.now.at }
     requires fits { FitsManaged iface.old.managed }
     ensures { OnOk result (Goes (hears own.now turn.now.at turn.now.salt bytes.now iface.old) iface.new (asked_in outs.old) (asked_in outs.new)) }
 {
@@ -203,7 +204,7 @@ fn arp_in_frame(bytes: &[u8]) -> Option<ArpView>
 
 /// A failed send of the turn before, where it was this interface's.
 fn restart(iface: &mut Iface, turn: &Turn<'_>)
-    requires at { turn.now.at < 10 ^ 15 }
+    requires at { IsMoment turn.now.at }
     requires index { IsInterface (index_of iface.old) }
     ensures { iface.new ≡ run.unsent_in turn.now.unsent turn.now.at turn.now.salt iface.old }
 {
@@ -214,7 +215,7 @@ fn restart(iface: &mut Iface, turn: &Turn<'_>)
 
 /// The ticks of the machines that are due, in order.
 fn tick_machines(iface: &mut Iface, turn: &Turn<'_>, outs: &mut Outs) -> Result<(), NoMemory>
-    requires at { turn.now.at < 10 ^ 15 }
+    requires at { IsMoment turn.now.at }
     requires fits { FitsManaged iface.old.managed }
     ensures { OnOk result (Goes (run.ticked turn.now.at turn.now.salt iface.old) iface.new (asked_in outs.old) (asked_in outs.new)) }
 {
@@ -230,7 +231,7 @@ pub fn iface_turn(
     own: &[Mac],
     outs: &mut Outs,
 ) -> Result<(), NoMemory>
-    requires at { turn.now.at < 10 ^ 15 }
+    requires at { IsMoment turn.now.at }
     requires fits { FitsManaged iface.old.managed }
     ensures { OnOk result (Goes (iface_turned own.now (turn_of turn.now) iface.old) iface.new (asked_in outs.old) (asked_in outs.new)) }
 {

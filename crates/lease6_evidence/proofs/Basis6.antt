@@ -85,7 +85,7 @@ module _ (site : Site) (ask : IaAsk) (net : Net6) where
   key = key_ask ask.kind ask.iaid
 
   revised : (message : Content6) → Revises ask net message → Revises key net message
-  revised message (inl m) = inl (record { said = m.said; among = m.among; item = m.item })
+  revised message (inl m) = inl (record { said = m.said; gives = m.gives; item = m.item })
   revised message (inr u) = inr u
 
   leaves : (e : Entry) (past : List Entry) → Leaves site key net e past → Leaves site ask net e past
@@ -102,7 +102,7 @@ module _ (site : Site) (ask : IaAsk) (net : Net6) where
     opened = h.opened;
     message = h.message;
     reply = h.reply;
-    mentions = record { said = h.mentions.said; among = h.mentions.among; item = h.mentions.item };
+    mentions = record { said = h.mentions.said; gives = h.mentions.gives; item = h.mentions.item };
     some = h.some;
     valid = is_valid e.moment h.mentions.said.valid now until h.until_is live;
   }

@@ -9,19 +9,20 @@ use Rattle.net_types.specs.declared.address.Net6.{Net6}
 use Rattle.v6_options.specs.declared.ia.IaKind.{IaKind}
 use Rattle.v6_options.specs.declared.ia.IaKind.TheVariants.{Na}
 use Rattle.v6_options.specs.declared.ia.ItemSaid.{ItemSaid}
-use Rattle.v6_options.specs.Ias.{IaContent}
+use Rattle.v6_options.specs.Ias.{IaContent, ias_in}
 use Rattle.v6_options.specs.Statuses.{success}
 use Rattle.v6_message.specs.Replies.{Content6}
 use Rattle.v6_frames.specs.Heard.{HeardMessage6}
 use Rattle.v6_client.specs.declared.settings.IaAsk.{IaAsk}
 use Rattle.v6_client.specs.Reading.{are_ordered, front_items, is_unbound, no_binding, read_items, saids_of}
+use Rattle.v6_client_laws.proofs.Given.{bindings_are_known, items_are_given}
 use Rattle.world.specs.declared.wakes.Event.{Event}
 use Rattle.world.specs.declared.wakes.Event.TheVariants.{Frame, Carrier, Duplicate, Release, Rebind, Stop, Quiet, End}
 use Rattle.evidence_words.specs.Entries.{Entry}
 use Rattle.evidence_words.specs.Inputs.{GoesOn, Site, carrier_after, has_carrier, index_at}
 use Rattle.evidence_words.specs.Probed.{EachAfter}
-use Rattle.lease6_evidence.specs.Ends6.{Answers6, EndsBy, IsReleased, IsStopped, IsUnknown, IsUsedTwice, IsWithdrawn, LosesCarrier, NamesNot, WasAnswered}
-use Rattle.lease6_evidence.specs.ItemBasis.{Gives, ItemBasis, Leaves, NotContested, said_for}
+use Rattle.lease6_evidence.specs.Ends6.{Answers6, EndsBy, IsReleased, IsStopped, IsUnknown, IsUsedTwice, IsWithdrawn, LosesCarrier, NamesNot, WasAnswered, said_for}
+use Rattle.lease6_evidence.specs.ItemBasis.{Gives, ItemBasis, Leaves, NotContested}
 use Rattle.lease6_evidence.specs.Replies6.{FirstReply, NoReply, message6_at, message6_on}
 use Rattle.lease6_evidence.proofs.LawProofs.{named}
 
@@ -174,7 +175,8 @@ module _ (site : Site) (ask : IaAsk) (net : Net6) (now : ℕ) (e : Entry) (earli
   given_among : (message : Content6) → message6_at site e ≡ Some message → (gives : Gives site ask net now e earlier)
       → Contains (said_for ask message) gives.mentions.said
   given_among message came gives =
-      subst (λ (m : Content6). Contains (said_for ask m) gives.mentions.said) (given_is message came gives) gives.mentions.among
+      subst (λ (m : Content6). Contains (said_for ask m) gives.mentions.said) (given_is message came gives)
+      ((items_are_given ask (ias_in gives.message.options) gives.mentions.said).whole gives.mentions.gives)
 
   withdrawn_gives : IsWithdrawn site ask net e earlier → Gives site ask net now e earlier → ⊥
   withdrawn_gives gone gives =
@@ -186,7 +188,11 @@ module _ (site : Site) (ask : IaAsk) (net : Net6) (now : ℕ) (e : Entry) (earli
   withdrawn_leaves : IsWithdrawn site ask net e earlier → Leaves site ask net e earlier → ⊥
   withdrawn_leaves gone leaves =
       leaves.unrevised gone.reply.opened gone.reply.message (first_of site e earlier gone.reply)
-      (inl (record { said = gone.said; among = gone.among; item = gone.item }))
+      (inl (record {
+        said = gone.said;
+        gives = (items_are_given ask (ias_in gone.reply.message.options) gone.said).sound gone.among;
+        item = gone.item;
+      }))
 
   nothing_said : (ia : IaContent) → ia.status ≡ no_binding → read_items ia ≡ []
   nothing_said ia status =
@@ -203,7 +209,8 @@ module _ (site : Site) (ask : IaAsk) (net : Net6) (now : ℕ) (e : Entry) (earli
   unknown_leaves : IsUnknown site ask net e earlier → Leaves site ask net e earlier → ⊥
   unknown_leaves gone leaves =
       leaves.unrevised gone.reply.opened gone.reply.message (first_of site e earlier gone.reply)
-      (inr (ap is_unbound gone.is_its ∙ eq-eqb gone.ia.status no_binding gone.status))
+      (inr ((bindings_are_known ask (ias_in gone.reply.message.options)).0
+      (ap is_unbound gone.is_its ∙ eq-eqb gone.ia.status no_binding gone.status)))
 
 pub ends_when_withdrawn : EndsBy IsWithdrawn
 ends_when_withdrawn =

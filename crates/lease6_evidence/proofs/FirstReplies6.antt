@@ -11,6 +11,7 @@ use Rattle.v6_client.specs.Answers.{awaited, chosen, takes_replies}
 use Rattle.v6_client.specs.Clients.{ClientContent, PleaContent, holds}
 use Rattle.v6_client.specs.Reading.{serves}
 use Rattle.v6_client.specs.Saying.{lease_server, plea_server}
+use Rattle.v6_client_laws.proofs.Given.{messages_serve}
 use Rattle.evidence_words.specs.Entries.{Entry}
 use Rattle.evidence_words.specs.Inputs.{Site}
 use Rattle.lease6_evidence.specs.Exchanges6.{Numbered6, Seen6, seen6_in}
@@ -39,6 +40,7 @@ module _ (site : Site) (e : Entry) (past : List Entry) (last : Option ℕ) (sol_
   asked_first state xid opened message is always h first =
       takes_good site message last sol_max kept plea state opened
       (plain_awaits site past last (lease_server kept) (plea_server plea) state xid opened is always h) first.good.good
+      ((messages_serve (asks_at site) message).1 first.good.serves)
 
   held_first : (state : State6) (opened : Numbered6) (message : Content6) → holds state ≡ true → OnSeen state (Some opened)
       → FirstReply site opened message e past → Takes6 (here state) message

@@ -26,9 +26,11 @@ use Rattle.v6_client.specs.Reading.{ia_for, is_unbound}
 use Rattle.v6_client.specs.Taking.{Meeting, carried, ia_granted, ias_granted, is_carried, is_named, item_from, taken_by}
 use Rattle.v6_client.specs.Times.{moment_after}
 use Rattle.v6_client.proofs.TakenFits.{had_fit, kind_is}
+use Rattle.v6_client_laws.proofs.Given.{bindings_are_known, items_are_given}
 use Rattle.evidence_words.specs.Entries.{Entry}
 use Rattle.evidence_words.specs.Inputs.{Site}
-use Rattle.lease6_evidence.specs.ItemBasis.{Leaves, Revises, said_for}
+use Rattle.lease6_evidence.specs.Ends6.{said_for}
+use Rattle.lease6_evidence.specs.ItemBasis.{Leaves, Revises}
 use Rattle.lease6_evidence.specs.Replies6.{asks_at, message6_at}
 use Rattle.lease6_evidence.proofs.Basis6.{GivesUntil, HeldIa, HeldIas, HeldItem, key_ask, filter_all}
 use Rattle.lease6_evidence.proofs.ExchangeStates.{IsFirst}
@@ -110,7 +112,7 @@ module _ (site : Site) (e : Entry) (past : List Entry) (message : Content6) (fir
         opened = first.opened;
         message = message;
         reply = first.first;
-        mentions = record { said = said; among = among; item = refl };
+        mentions = record { said = said; gives = (items_are_given ask (ias_in message.options) said).sound among; item = refl };
         some = above_none said.valid some;
         until_is = refl;
       },
@@ -171,8 +173,10 @@ module _ (site : Site) (e : Entry) (past : List Entry) (message : Content6) (fir
         one_is x y h = cc
 
     not_revised : (net : Net6) → AllByRecursion (λ said. said.net ≢ net) saids → unbound ≡ false → Revises key net message → ⊥
-    not_revised net unnamed bound (inl m) = of_contained (λ said. said.net ≢ net) saids unnamed m.said m.among m.item
-    not_revised net unnamed bound (inr u) = absurd (both_ways unbound bound u)
+    not_revised net unnamed bound (inl m) =
+        of_contained (λ said. said.net ≢ net) saids unnamed m.said
+        ((items_are_given ask (ias_in message.options) m.said).whole m.gives) m.item
+    not_revised net unnamed bound (inr u) = absurd (both_ways unbound bound ((bindings_are_known ask (ias_in message.options)).1 u))
 
     leaves_it : (item : Item6) → AllByRecursion (λ said. said.net ≢ item.net) saids → unbound ≡ false
         → Leaves site key item.net e past

@@ -24,6 +24,7 @@ use Rattle.v6_client.specs.Reading.{serves}
 use Rattle.v6_client.specs.Runs.{Turned6, answered, hears_turned, rested, stepped}
 use Rattle.v6_client.specs.Saying.{lease_server, plea_server}
 use Rattle.v6_client.specs.Steps.{rests}
+use Rattle.v6_client_laws.proofs.Given.{messages_serve}
 use Rattle.client_model.specs.ClientSettings6.{site6_of}
 use Rattle.evidence_words.specs.Entries.{Entry}
 use Rattle.evidence_words.specs.Inputs.{Site}
@@ -183,8 +184,8 @@ module _ (site : Site) (message : Content6) (last : Option ℕ) (sol_max : ℕ) 
 
   -- a good Reply is taken
   pub takes_good : (state : State6) (x : Numbered6) → AwaitsIn state x → answers site x.exchange message ≡ true
-      → Takes6 (c state) message
-  takes_good state x a good =
+      → serves (asks_at site) message ≡ true → Takes6 (c state) message
+  takes_good state x a good served =
       let parts : IsAnswer site x.exchange message = answer_parts site x.exchange message good in
       record {
         counted = and_from _ _
@@ -192,7 +193,7 @@ module _ (site : Site) (message : Content6) (last : Option ℕ) (sol_max : ℕ) 
             (sym (same_xid message.xid x.exchange.xid parts.xid))) parts.client)
             (sym (a.servers message.server) ∙ parts.server);
         kind = reply_is message.kind parts.reply;
-        taken = and_from _ _ (a.takes message.rapid ∙ parts.rapid) parts.served;
+        taken = and_from _ _ (a.takes message.rapid ∙ parts.rapid) served;
       }
 
   -- and what is taken is a good Reply
@@ -211,8 +212,11 @@ module _ (site : Site) (message : Content6) (last : Option ℕ) (sol_max : ℕ) 
         client = client_and_xid.1;
         server = a.servers message.server ∙ counting.1;
         rapid = sym (a.takes message.rapid) ∙ taking.0;
-        served = taking.1;
       })
+
+  pub served_taken : (state : State6) → Takes6 (c state) message → serves (asks_at site) message ≡ true
+  served_taken state t =
+      (and_parts (takes_replies (message.rapid && site.managed.conf.dhcp6.rapid) state) (serves (asks_at site) message) t.taken).1
 
 module _ (site : Site) (e : Entry) (past : List Entry) (message : Content6) (came : message6_at site e ≡ Some message) where
   same_message : (other : Content6) → message6_at site e ≡ Some other → message ≡ other
@@ -236,11 +240,14 @@ module _ (site : Site) (e : Entry) (past : List Entry) (message : Content6) (cam
         → (Takes6 (c site message last sol_max kept plea state) message → ⊥)
         → NoReply site x.number e past
     untaken_no state seen x is open_one a never opened other good same =
+        let is_other : other ≡ message = sym (same_message other good.came) in
         let taken : answers site opened.exchange message ≡ true =
-        subst (λ (m : Content6). answers site opened.exchange m ≡ true) (sym (same_message other good.came)) good.good in
+        subst (λ (m : Content6). answers site opened.exchange m ≡ true) is_other good.good in
+        let served : serves (asks_at site) message ≡ true =
+        subst (λ (m : Content6). serves (asks_at site) m ≡ true) is_other ((messages_serve (asks_at site) other).1 good.serves) in
         never (takes_good site message last sol_max kept plea state x a
         (subst (λ (y : Numbered6). answers site y.exchange message ≡ true)
-        (sym (same_exchange x seen opened is open_one good.is_open)) taken))
+        (sym (same_exchange x seen opened is open_one good.is_open)) taken) served)
 
     -- a Reply that the client takes is a good one
     pub taken_good : (state : State6) (seen : Seen6) (x : Numbered6) → seen6_in site (e ∷ past) ≡ seen → seen.current ≡ Some x
@@ -251,6 +258,7 @@ module _ (site : Site) (e : Entry) (past : List Entry) (message : Content6) (cam
       is_open = ap (λ (s : Seen6). s.current) is ∙ open_one;
       came = came;
       good = good_taken site message last sol_max kept plea state x a t;
+      serves = (messages_serve (asks_at site) message).0 (served_taken site message last sol_max kept plea state t);
     }
 
     -- ---- calls

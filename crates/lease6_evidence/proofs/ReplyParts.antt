@@ -7,10 +7,9 @@ use Rattle.v6_message.specs.declared.kind.ServerKind6.{ServerKind6}
 use Rattle.v6_message.specs.declared.kind.ServerKind6.TheVariants.{Advertise, Reply}
 use Rattle.v6_message.specs.Replies.{Content6}
 use Rattle.v6_client.specs.Answers.{has_bytes}
-use Rattle.v6_client.specs.Reading.{serves}
 use Rattle.evidence_words.specs.Inputs.{Site}
 use Rattle.lease6_evidence.specs.Exchanges6.{Exchange}
-use Rattle.lease6_evidence.specs.Replies6.{answers, asks_at, is_from, is_reply}
+use Rattle.lease6_evidence.specs.Replies6.{answers, is_from, is_reply}
 
 pub record IsAnswer (site : Site) (exchange : Exchange) (message : Content6) : Type 0 where
   pub reply : is_reply message.kind ≡ true
@@ -18,7 +17,6 @@ pub record IsAnswer (site : Site) (exchange : Exchange) (message : Content6) : T
   pub client : has_bytes message.client site.duid ≡ true
   pub server : is_from exchange.servers message.server ≡ true
   pub rapid : (message.rapid || not exchange.solicits) ≡ true
-  pub served : serves (asks_at site) message ≡ true
 
 module _ (site : Site) (exchange : Exchange) (message : Content6) where
   abbrev replies : Bool
@@ -36,21 +34,17 @@ module _ (site : Site) (exchange : Exchange) (message : Content6) where
   abbrev at_once : Bool
   at_once = message.rapid || not exchange.solicits
 
-  abbrev serving : Bool
-  serving = serves (asks_at site) message
-
   pub answer_parts : answers site exchange message ≡ true → IsAnswer site exchange message
   answer_parts h =
-      let five = and_parts ((((replies && to_it) && to_client) && of_server) && at_once) serving h in
-      let four = and_parts (((replies && to_it) && to_client) && of_server) at_once five.0 in
+      let four = and_parts (((replies && to_it) && to_client) && of_server) at_once h in
       let three = and_parts ((replies && to_it) && to_client) of_server four.0 in
       let two = and_parts (replies && to_it) to_client three.0 in
       let one = and_parts replies to_it two.0 in
-      record { reply = one.0; xid = one.1; client = two.1; server = three.1; rapid = four.1; served = five.1 }
+      record { reply = one.0; xid = one.1; client = two.1; server = three.1; rapid = four.1 }
 
   pub answer_from : IsAnswer site exchange message → answers site exchange message ≡ true
   answer_from h =
-      and_from _ _ (and_from _ _ (and_from _ _ (and_from _ _ (and_from _ _ h.reply h.xid) h.client) h.server) h.rapid) h.served
+      and_from _ _ (and_from _ _ (and_from _ _ (and_from _ _ h.reply h.xid) h.client) h.server) h.rapid
 
 pub same_xid : (a b : ℕ) → (a == b) ≡ true → a ≡ b
 same_xid a b h = eqb-true a b h

@@ -6,10 +6,13 @@ use Rattle.std.proofs.lemmas.Bool.{and_parts}
 use Rattle.std.proofs.lemmas.List.Folds.{list_all-append}
 use Rattle.std.proofs.lemmas.Slice.Eq.{bytes_eq-Decides}
 use Rattle.machine.specs.Since.{Always}
+use Rattle.v6_options.specs.Ias.{ias_in}
 use Rattle.v6_message.specs.Replies.{Content6}
 use Rattle.v6_frames.specs.Spelled.{Sent6}
 use Rattle.v6_client.specs.Answers.{is_duid}
 use Rattle.v6_client.specs.Reading.{serves}
+use Rattle.v6_client_laws.specs.GivenItems.{Serves}
+use Rattle.v6_client_laws.proofs.Given.{items_are_given, messages_serve}
 use Rattle.evidence_words.specs.Entries.{Entry, Offer}
 use Rattle.evidence_words.specs.IfaceLives.{now_in}
 use Rattle.evidence_words.specs.Inputs.{Site, offers_at}
@@ -81,8 +84,8 @@ hasty false true h s r = cc
 hasty false false h s r = cc
 
 not_idle : (site : Site) (opened : Numbered6) (message : Content6) → answers site opened.exchange message ≡ true
-    → IsIdle6 site opened message → ⊥
-not_idle site opened message good idle =
+    → Serves (asks_at site) message → IsIdle6 site opened message → ⊥
+not_idle site opened message good served idle =
     let parts : IsAnswer site opened.exchange message = answer_parts site opened.exchange message good in
     elim idle [
       | inl kind ↦ opposite (is_reply message.kind) parts.reply (ap is_reply kind)
@@ -92,7 +95,7 @@ not_idle site opened message good idle =
           | inl other ↦ not_other opened message parts.server other
           | inr more ↦ elim more [
             | inl soon ↦ hasty message.rapid opened.exchange.solicits parts.rapid soon.solicits soon.plain
-            | inr nothing ↦ opposite (serves (asks_at site) message) parts.served nothing
+            | inr nothing ↦ opposite (serves (asks_at site) message) ((messages_serve (asks_at site) message).1 served) nothing
           ]
         ]
       ]
@@ -103,7 +106,7 @@ idle_gives_nothing site ask net now past idle basis =
     never (Leaves site ask net) (Gives site ask net now) (HearsIdle6 site)
     (λ e earlier n gives.
     let good = gives.reply.good in
-    not_idle site gives.opened gives.message good.good (n gives.opened gives.message good.is_open good.came)) past idle basis
+    not_idle site gives.opened gives.message good.good good.serves (n gives.opened gives.message good.is_open good.came)) past idle basis
 
 -- what holds of each turn holds of one among them
 at_cut : {A : Type 0} (P : A → List A → Type 0) (later : List A) (e : A) (earlier : List A) → Always P (later ++ e ∷ earlier) → P e earlier
@@ -127,7 +130,9 @@ first_alone_gives site ask net now past second basis =
 pub needs_its_name : NeedsItsName
 needs_its_name site ask net now past none basis =
     never (Leaves site ask net) (Gives site ask net now) (HearsNot site ask net)
-    (λ e earlier n gives. n gives.message gives.mentions.said gives.reply.good.came gives.mentions.among gives.mentions.item) past
+    (λ e earlier n gives.
+    n gives.message gives.mentions.said gives.reply.good.came
+    ((items_are_given ask (ias_in gives.message.options) gives.mentions.said).whole gives.mentions.gives) gives.mentions.item) past
     none basis
 
 pub addresses_are_asked : AddressesAreAsked

@@ -8,13 +8,13 @@ use Rattle.v6_options.specs.declared.ia.ItemSaid.{ItemSaid}
 use Rattle.v6_options.specs.Ias.{IaContent, ias_in}
 use Rattle.v6_message.specs.Replies.{Content6}
 use Rattle.v6_client.specs.declared.settings.IaAsk.{IaAsk}
-use Rattle.v6_client.specs.Reading.{ia_for, no_binding}
+use Rattle.v6_client.specs.Reading.{ia_for, no_binding, saids_of}
 use Rattle.world.specs.declared.wakes.Event.TheVariants.{Duplicate, Release, Stop}
 use Rattle.evidence_words.specs.Entries.{Entry}
 use Rattle.evidence_words.specs.Inputs.{Site, has_carrier, index_at}
 use Rattle.evidence_words.specs.Probed.{EachAfter}
 use Rattle.lease6_evidence.specs.Exchanges6.{Numbered6}
-use Rattle.lease6_evidence.specs.ItemBasis.{ItemBasis, said_for}
+use Rattle.lease6_evidence.specs.ItemBasis.{ItemBasis}
 use Rattle.lease6_evidence.specs.Laws6.{Names}
 use Rattle.lease6_evidence.specs.Replies6.{GoodReply}
 
@@ -53,6 +53,10 @@ pub record IsUsedTwice (site : Site) (ask : IaAsk) (net : Net6) (e : Entry) (pas
   pub told : e.event ≡ Duplicate (index_at site) net.ip
 
 -- ---- what comes from a server
+
+-- what the client reads of an IA's items in a message
+abbrev pub said_for : IaAsk → Content6 → List ItemSaid
+said_for ask message = saids_of (ia_for ask (ias_in message.options))
 
 -- one of some turns had a good Reply in the exchange of a number
 pub record WasAnswered (site : Site) (number : ℕ) (past : List Entry) : Type 0 where

@@ -181,6 +181,7 @@ prefixes = record { kind = Pd; iaid = 2; items = prefix ∷ [] }
 
 abbrev pub lease : Lease6Content
 lease = record {
+  origin = Some (record { mac = client_mac; confirmed = 2000 });
   name = interface.spec.name;
   server = 0 ∷ 3 ∷ 0 ∷ 1 ∷ 2 ∷ 0 ∷ 0 ∷ 0 ∷ 0 ∷ 9 ∷ [];
   t1 = Some 902000;

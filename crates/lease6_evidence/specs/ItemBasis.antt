@@ -13,7 +13,7 @@ use Rattle.v6_options.specs.Ias.{ias_in}
 use Rattle.v6_message.specs.Replies.{Content6}
 use Rattle.v6_client.specs.declared.settings.IaAsk.{IaAsk}
 use Rattle.v6_client.specs.declared.times.TheConstants.{FOREVER, SECOND}
-use Rattle.v6_client.specs.Reading.{ia_for, is_unbound, saids_of}
+use Rattle.v6_client_laws.specs.GivenItems.{GivesItem, HasNoBinding}
 use Rattle.world.specs.declared.wakes.Event.{Event}
 use Rattle.world.specs.declared.wakes.Event.TheVariants.{Duplicate}
 use Rattle.evidence_words.specs.Entries.{Entry}
@@ -21,19 +21,15 @@ use Rattle.evidence_words.specs.Inputs.{Site, StaysOn, index_at}
 use Rattle.lease6_evidence.specs.Exchanges6.{Numbered6}
 use Rattle.lease6_evidence.specs.Replies6.{FirstReply, asks_at}
 
--- what of an IA's items counts in a message
-abbrev pub said_for : IaAsk → Content6 → List ItemSaid
-said_for ask message = saids_of (ia_for ask (ias_in message.options))
-
--- an item is among them
+-- a message gives an item of an IA
 pub record Mentions (ask : IaAsk) (net : Net6) (message : Content6) : Type 0 where
   pub said : ItemSaid
-  pub among : Contains (said_for ask message) said
+  pub gives : GivesItem ask.kind ask.iaid (ias_in message.options) said
   pub item : said.net ≡ net
 
 -- the server knows nothing of the IA
 abbrev pub Unbinds : IaAsk → Content6 → Type 0
-Unbinds ask message = is_unbound (ia_for ask (ias_in message.options)) ≡ true
+Unbinds ask message = HasNoBinding ask.kind ask.iaid (ias_in message.options)
 
 -- a message says something new of an item: it names it, or its server knows nothing of its IA
 abbrev pub Revises : IaAsk → Net6 → Content6 → Type 0

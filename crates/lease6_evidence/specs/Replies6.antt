@@ -9,7 +9,7 @@ use Rattle.v6_message.specs.Replies.{Content6}
 use Rattle.v6_frames.specs.Heard.{HeardMessage6, heard6_in}
 use Rattle.v6_client.specs.declared.settings.IaAsk.{IaAsk}
 use Rattle.v6_client.specs.Answers.{has_bytes, is_duid}
-use Rattle.v6_client.specs.Reading.{serves}
+use Rattle.v6_client_laws.specs.GivenItems.{Serves}
 use Rattle.world.specs.declared.wakes.Event.{Event}
 use Rattle.world.specs.declared.wakes.Event.TheVariants.{Frame}
 use Rattle.client_model.specs.ClientSettings6.{ask_for}
@@ -38,18 +38,19 @@ abbrev pub is_from : List (List ℕ) → (server : Option (List ℕ)) → Bool
 is_from servers None = false
 is_from servers (Some server) = is_duid server && list_all (λ named. bytes_eq server named) servers
 
--- A Reply in an exchange that names the client, is of its server, answers a SOLICIT only where it says that it does
--- (section 21.14), and serves what is asked for.
+-- A Reply in an exchange that names the client, is of its server, and answers a SOLICIT only where it says that it does
+-- (section 21.14).
 abbrev pub answers : Site → Exchange → Content6 → Bool
 answers site exchange message =
     is_reply message.kind && (message.xid == exchange.xid) && has_bytes message.client site.duid && is_from exchange.servers message.server
-    && (message.rapid || not exchange.solicits) && serves (asks_at site) message
+    && (message.rapid || not exchange.solicits)
 
--- such a Reply in the open exchange
+-- such a Reply in the open exchange, which serves what is asked for
 pub record GoodReply (site : Site) (opened : Numbered6) (message : Content6) (e : Entry) (past : List Entry) : Type 0 where
   pub is_open : (seen6_in site (e ∷ past)).current ≡ Some opened
   pub came : message6_at site e ≡ Some message
   pub good : answers site opened.exchange message ≡ true
+  pub serves : Serves (asks_at site) message
 
 -- none in the exchange of a number
 abbrev pub NoReply : Site → (number : ℕ) → Entry → List Entry → Type 0

@@ -18,10 +18,10 @@ use Rattle.v6_client.specs.Answers.{is_duid}
 use Rattle.v6_client.specs.Reading.{serves}
 use Rattle.evidence_words.specs.Entries.{Entry, Offer}
 use Rattle.evidence_words.specs.Inputs.{Site, offers_at}
-use Rattle.lease6_evidence.specs.Ends6.{WasAnswered}
+use Rattle.lease6_evidence.specs.Ends6.{WasAnswered, said_for}
 use Rattle.lease6_evidence.specs.Exchanges6.{Numbered6, asks_reply, message6_of, seen6_in}
 use Rattle.lease6_evidence.specs.HeldItems.{ItemHasBasis}
-use Rattle.lease6_evidence.specs.ItemBasis.{AddressBasis, ItemBasis, said_for}
+use Rattle.lease6_evidence.specs.ItemBasis.{AddressBasis, ItemBasis}
 use Rattle.lease6_evidence.specs.Laws6.{Names}
 use Rattle.lease6_evidence.specs.Replies6.{asks_at, message6_at}
 

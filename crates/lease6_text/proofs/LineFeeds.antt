@@ -1,24 +1,28 @@
 -- No line of a lease's text holds a line feed.
-use Rattle.std.proofs.Common.{ℕ, ◌^◌, ◌<◌, List, [], ◌∷◌, ◌++◌, map, refl, arith, flat_map}
-use Rattle.std.specs.Prelude.{decimal}
+use Rattle.std.proofs.Common.{ℕ, ◌^◌, ◌<◌, List, [], ◌∷◌, ◌++◌, map, Option, Some, None, refl, arith, flat_map}
+use Rattle.std.specs.Prelude.{IfSome, decimal}
 use Rattle.std.specs.List.{AllByRecursion}
-use Rattle.net_types.specs.AddressText.{FitsIp6}
+use Rattle.field_laws.specs.Fields.{Field, IsField}
+use Rattle.field_laws.proofs.KindLaws.{mac_is, name_is, number_is}
+use Rattle.net_types.specs.declared.interface.Name.{Name}
+use Rattle.net_types.specs.declared.moment.TheConstants.{MOMENT_LIMIT}
+use Rattle.net_types.specs.AddressText.{FitsIp6, FitsMac}
 use Rattle.net_types.specs.HexText.{hex_text}
-use Rattle.net_types.specs.NameText.{name_text}
+use Rattle.net_types.specs.NameText.{FitsName}
 use Rattle.net_types.specs.Marks.{AreBytes, Lacks}
 use Rattle.net_types.specs.TextLines.{AreLines}
 use Rattle.net_types.proofs.AllLaws.{all_join}
 use Rattle.net_types.proofs.MarkLaws.{decimal_lacks, hex_lacks, lacks-append}
-use Rattle.net_types.proofs.NameLaws.{name_lacks}
 use Rattle.v6_options.specs.declared.ia.IaKind.{IaKind}
 use Rattle.v6_options.specs.declared.ia.IaKind.TheVariants.{Na, Pd}
+use Rattle.lease_text.specs.declared.lease.Origin.{Origin}
 use Rattle.lease_text.specs.Leases.{ValueContent}
-use Rattle.lease_text.specs.LeaseLines.{end_line, interface_word, option_line, option_word, value_text}
+use Rattle.lease_text.specs.LeaseLines.{confirmed_word, end_line, interface_word, mac_word, option_line, option_word, value_text}
 use Rattle.lease6_text.specs.declared.lease.Item6.{Item6}
-use Rattle.lease6_text.specs.Bounds.{FitsIa, FitsItem, FitsValue6, HasText6, IsTypedIa}
-use Rattle.lease6_text.specs.LeaseLines.{server_word, renewal_word, rebinding_word, ia_word, kind_word, item_word, item_text, item_line, ia_line, ia_lines, moment_text, lease6_lines}
+use Rattle.lease6_text.specs.Bounds.{FitsIa, FitsItem, FitsOrigin, FitsValue6, HasText6, IsTypedIa}
+use Rattle.lease6_text.specs.LeaseLines.{holder_lines, grant_lines, head_lines, server_word, renewal_word, rebinding_word, ia_word, kind_word, item_word, item_text, item_line, ia_line, ia_lines, lease6_lines}
 use Rattle.lease6_text.specs.Leases.{IaLeaseContent, Lease6Content}
-use Rattle.lease6_text.proofs.PartReads.{item_feed, kept_small, moment_lacks}
+use Rattle.lease6_text.proofs.PartReads.{item_feed, kept_small, moment_is, server_is}
 
 -- ---- IAs
 
@@ -56,21 +60,29 @@ values_fed (value ∷ values) good octets = (value_fed value good.0 octets.0, va
 
 -- ---- all lines
 
-pub are_lines : (lease : Lease6Content) → HasText6 lease → AreLines (lease6_lines lease)
-are_lines lease good = (
+-- a word and a field
+field_fed : {X : Type 0} {field : Field X} (word : List ℕ) (x : X) → Lacks 10 word → IsField field → field.Fits x → Lacks 10 (word ++ field.text x)
+field_fed {field = field} word x free is fits = lacks-append 10 word (field.text x) free (is.no_feed x fits)
+
+holder_fed : (origin : Option Origin) (name : Name) → FitsName name → FitsOrigin origin → IfSome origin (λ o. FitsMac o.mac) → AreLines (holder_lines origin name)
+holder_fed None name fits timely typed = (refl, (field_fed interface_word name refl name_is fits, tt))
+holder_fed (Some origin) name fits timely typed = (
   refl,
   (
-    lacks-append 10 interface_word (name_text lease.name) refl (name_lacks lease.name 10 good.fits.name refl),
+    field_fed interface_word name refl name_is fits,
     (
-      lacks-append 10 server_word (hex_text lease.server) refl (hex_lacks lease.server 10 good.typed.server.octets refl),
-      (
-        lacks-append 10 renewal_word (moment_text lease.t1) refl (moment_lacks 10 lease.t1 good.fits.t1 refl refl),
-        (
-          lacks-append 10 rebinding_word (moment_text lease.t2) refl (moment_lacks 10 lease.t2 good.fits.t2 refl refl),
-          all_join (Lacks 10) (flat_map ia_lines lease.ias) (map option_line lease.values ++ end_line ∷ [])
-              (ias_fed lease.ias good.fits.ias.each good.typed.ias) (values_fed lease.values good.fits.values.each good.typed.values),
-        ),
-      ),
+      field_fed mac_word origin.mac refl mac_is typed,
+      (field_fed confirmed_word origin.confirmed refl (number_is MOMENT_LIMIT) (record { small = omega (arith, timely); below = timely }), tt),
     ),
   ),
 )
+
+pub are_lines : (lease : Lease6Content) → HasText6 lease → AreLines (lease6_lines lease)
+are_lines lease good =
+    all_join (Lacks 10) (head_lines lease) (flat_map ia_lines lease.ias ++ (map option_line lease.values ++ end_line ∷ []))
+    (all_join (Lacks 10) (holder_lines lease.origin lease.name) (grant_lines lease) (holder_fed lease.origin lease.name good.fits.name good.fits.origin good.typed.origin) (
+      field_fed server_word lease.server refl server_is good.typed.server,
+      (field_fed renewal_word lease.t1 refl moment_is good.fits.t1, (field_fed rebinding_word lease.t2 refl moment_is good.fits.t2, tt)),
+    ))
+    (all_join (Lacks 10) (flat_map ia_lines lease.ias) (map option_line lease.values ++ end_line ∷ [])
+    (ias_fed lease.ias good.fits.ias.each good.typed.ias) (values_fed lease.values good.fits.values.each good.typed.values))

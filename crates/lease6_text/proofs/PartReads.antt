@@ -9,29 +9,48 @@ use Rattle.std.proofs.lemmas.Slice.Eq.{bytes_eq-Decides}
 use Rattle.net_types.specs.declared.address.Ip6.{Ip6}
 use Rattle.net_types.specs.declared.address.Net6.{Net6}
 use Rattle.net_types.specs.declared.address.Net.TheVariants.{V6}
+use Rattle.field_laws.specs.Fields.{IsField, LacksBlank}
 use Rattle.net_types.specs.AddressText.{FitsIp6, FitsNet6, net6_text, net_text}
 use Rattle.net_types.specs.Cutting.{after_word, by_word, strip_word}
 use Rattle.net_types.specs.HexText.{hex_text}
 use Rattle.net_types.specs.Marks.{AreBytes, Lacks, Only}
 use Rattle.net_types.specs.Numbers.{number_at}
 use Rattle.net_types.specs.Reads.{Reads}
-use Rattle.net_types.proofs.ChoiceLaws.{words_apart}
+use Rattle.net_types.proofs.ChoiceLaws.{Chosen, choose_reads, part_chosen, part_sound, words_apart}
 use Rattle.net_types.proofs.HexLaws.{hex_reads}
 use Rattle.net_types.proofs.Ip6Laws.{printed_ip6_reads, printed_net6_reads}
 use Rattle.net_types.proofs.Ip6Marks.{ip6_lacks, is_net_byte, net_lacks}
-use Rattle.net_types.proofs.MarkLaws.{decimal_lacks, decimal_only, lacks-append}
+use Rattle.net_types.proofs.MarkLaws.{decimal_lacks, decimal_only, hex_lacks, lacks-append}
 use Rattle.net_types.proofs.NumberLaws.{number_reads}
-use Rattle.net_types.proofs.ReadsLaws.{guard_reads, map_reads, mapped, pair_reads, same_range, some_same, strip_sound, strip_whole, word_reads}
+use Rattle.net_types.proofs.ReadsLaws.{end_reads, guard_reads, map_reads, mapped, pair_reads, same_range, some_same, strip_sound, strip_whole, word_reads}
 use Rattle.v6_options.specs.declared.ia.IaKind.{IaKind}
 use Rattle.v6_options.specs.declared.ia.IaKind.TheVariants.{Na, Pd}
 use Rattle.lease_text.specs.LeaseLines.{value_text}
 use Rattle.lease_text.specs.Leases.{ValueContent}
 use Rattle.lease6_text.specs.declared.lease.Item6.{Item6}
 use Rattle.lease6_text.specs.declared.lease.TheConstants.{ADDRESS_LEN, MOMENT6_LIMIT}
+use Rattle.lease6_text.specs.declared.reading.TextVersion.{TextVersion}
+use Rattle.lease6_text.specs.declared.reading.TextVersion.TheVariants.{Plain, WithOrigin}
 use Rattle.lease6_text.specs.Bounds.{FitsItem, FitsLen, FitsMoment, FitsValue6, IsDuid, IsNetwork}
-use Rattle.lease6_text.specs.LeaseLines.{item_net_text, item_text, kind_word, moment_text}
+use Rattle.lease6_text.specs.LeaseLines.{item_net_text, item_text, kind_word, moment_text, origin_line, plain_line}
+use Rattle.lease6_text.specs.LeaseReading.{version_at, version_line, versions}
+use Rattle.lease6_text.specs.LineFields.{moment_field, server_field}
 use Rattle.lease6_text.specs.LineParts.{is_duid, server_at, moment_at, ia_at, is_delegated, item_net_at, item_from, item_at, may_follow6, value6_at}
 use Rattle.lease6_text.specs.ValueForms.{is_kept6}
+
+-- ---- the version
+
+version_chosen : (version : TextVersion) → Chosen versions version_line version
+version_chosen Plain = part_chosen versions version_line 0 plain_line (λ _. Plain) tt end_reads refl refl tt
+version_chosen WithOrigin = part_chosen versions version_line 1 origin_line (λ _. WithOrigin) tt end_reads refl refl tt
+
+pub version_reads : Reads version_line (λ version. Unit {0}) version_at
+version_reads =
+    choose_reads versions refl (
+      part_sound version_line (λ version. Unit {0}) plain_line (λ _. Plain) end_reads (λ _. refl) (λ _ _. tt),
+      (part_sound version_line (λ version. Unit {0}) origin_line (λ _. WithOrigin) end_reads (λ _. refl) (λ _ _. tt), tt),
+    )
+    (λ version any. version_chosen version)
 
 -- ---- the server
 
@@ -44,6 +63,9 @@ server_reads =
     let parts = and_parts (leb 2 (length bytes)) (leb (length bytes) 130) fits.1 in
     record { least = leb-true _ _ parts.0; most = leb-true _ _ parts.1; octets = fits.0 })
     (guard_reads is_duid hex_reads)
+
+pub server_is : IsField server_field
+server_is = record { reads = server_reads; no_feed = λ bytes fits. hex_lacks bytes 10 fits.octets refl }
 
 -- ---- moments
 
@@ -89,6 +111,12 @@ moment_reads = record {
 pub moment_lacks : (byte : ℕ) (moment : Option ℕ) → FitsMoment moment → is_ascii_digit byte ≡ false → Lacks byte never → Lacks byte (moment_text moment)
 moment_lacks byte None fits other free = free
 moment_lacks byte (Some at) fits other free = let below : at < MOMENT6_LIMIT = fits in decimal_lacks at byte (omega (arith, below)) other
+
+pub moment_is : IsField moment_field
+moment_is = record { reads = moment_reads; no_feed = λ moment fits. moment_lacks 10 moment fits refl refl }
+
+pub moment_lacks_blank : LacksBlank moment_field
+moment_lacks_blank moment fits = moment_lacks 32 moment fits refl refl
 
 -- ---- IAs
 
@@ -186,7 +214,7 @@ pub item_reads : (kind : IaKind) → Reads (item_text kind) (IsItem kind) (item_
 unfolding item_at
 item_reads kind =
     map_reads {FitsX = IsItem kind} item_from (λ item. (item.net, (item.preferred, item.valid)))
-    (pair_reads 32 (net_reads kind) (pair_reads 32 moment_reads moment_reads (λ moment fits. moment_lacks 32 moment fits refl refl)) (net_blank kind))
+    (pair_reads 32 (net_reads kind) (pair_reads 32 moment_reads moment_reads moment_lacks_blank) (net_blank kind))
     (λ p fits. refl) (λ item is. refl)
     (λ p fits. record { good = record { len = fits.0.len; network = fits.0.network; preferred = fits.1.0; valid = fits.1.1 }; typed = fits.0.typed })
     (λ item is. (record { len = is.good.len; network = is.good.network; typed = is.typed }, (is.good.preferred, is.good.valid)))

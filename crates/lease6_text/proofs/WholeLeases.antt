@@ -1,11 +1,15 @@
 -- All lines of a lease are taken, one after another.
 use Rattle.std.proofs.Common.{◌≡◌, ℕ, suc, ◌+◌, ◌≤◌, true, List, [], ◌∷◌, ◌++◌, length, map, Option, Some, None, option_map, option_and_then, refl, sym, ap, ◌∙◌, subst, arith, append_assoc, flat_map, length-append}
-use Rattle.std.specs.Prelude.{AllPairs, decimal}
+use Rattle.std.specs.Prelude.{AllPairs, IfSome, decimal}
 use Rattle.std.specs.List.{AllByRecursion}
 use Rattle.std.proofs.lemmas.List.{append-nil}
-use Rattle.net_types.specs.AddressText.{FitsIp6}
+use Rattle.field_laws.specs.Fields.{Field, IsField}
+use Rattle.field_laws.proofs.KindLaws.{mac_is, name_is, number_is}
+use Rattle.net_types.specs.declared.interface.Name.{Name}
+use Rattle.net_types.specs.declared.moment.TheConstants.{MOMENT_LIMIT}
+use Rattle.net_types.specs.AddressText.{FitsIp6, FitsMac}
 use Rattle.net_types.specs.HexText.{hex_text}
-use Rattle.net_types.specs.NameText.{name_text}
+use Rattle.net_types.specs.NameText.{FitsName}
 use Rattle.net_types.specs.Cutting.{after_word, by_word, differ, end_at}
 use Rattle.net_types.specs.LineFormats.{WholeRun}
 use Rattle.net_types.specs.LineReading.{run}
@@ -13,28 +17,29 @@ use Rattle.net_types.specs.Marks.{AreBytes}
 use Rattle.net_types.specs.Reads.{Reads}
 use Rattle.net_types.specs.TextLines.{Line}
 use Rattle.net_types.proofs.ChoiceLaws.{words_apart}
-use Rattle.net_types.proofs.NameLaws.{name_reads}
 use Rattle.net_types.proofs.ReadsLaws.{end_reads, guard_reads, strip_whole, word_reads}
 use Rattle.v6_options.specs.declared.ia.IaKind.{IaKind}
 use Rattle.v6_options.specs.declared.ia.IaKind.TheVariants.{Na, Pd}
+use Rattle.lease_text.specs.declared.lease.Origin.{Origin}
 use Rattle.lease_text.specs.Bounds.{IsRising}
 use Rattle.lease_text.specs.Leases.{ValueContent}
-use Rattle.lease_text.specs.LeaseLines.{end_line, interface_word, option_line, option_word, value_text}
+use Rattle.lease_text.specs.LeaseLines.{confirmed_word, end_line, interface_word, mac_word, option_line, option_word, value_text}
 use Rattle.lease_text.specs.LeaseReading.{last_code}
 use Rattle.lease_text.proofs.LineReads.{last_more}
 use Rattle.lease6_text.specs.declared.lease.Item6.{Item6}
 use Rattle.lease6_text.specs.declared.reading.NextLine.{NextLine}
-use Rattle.lease6_text.specs.declared.reading.NextLine.TheVariants.{Interface, Server, Renewal, Rebinding, FirstItem, Ias, Values, Nothing}
-use Rattle.lease6_text.specs.Bounds.{FitsItem, FitsValue6, HasText6}
-use Rattle.lease6_text.specs.LeaseLines.{SpellsLease6, version_line, server_word, renewal_word, rebinding_word, ia_word, kind_word, item_word, item_text, item_line, ia_line, ia_lines, moment_text, lease6_lines}
-use Rattle.lease6_text.specs.LeaseReading.{Reading, goes_to, begun, with_ia, item_rest, item_added, with_value, value_step, step_at, step, given, start}
+use Rattle.lease6_text.specs.declared.reading.NextLine.TheVariants.{Interface, OriginMac, Confirmed, Server, Renewal, Rebinding, FirstItem, Ias, Values, Nothing}
+use Rattle.lease6_text.specs.declared.reading.TextVersion.TheVariants.{Plain, WithOrigin}
+use Rattle.lease6_text.specs.Bounds.{FitsItem, FitsOrigin, FitsValue6, HasText6}
+use Rattle.lease6_text.specs.LeaseLines.{SpellsLease6, plain_line, origin_line, interface_line, mac_line, confirmed_line, holder_lines, grant_lines, server_word, renewal_word, rebinding_word, ia_word, kind_word, item_word, item_text, item_line, ia_line, ia_lines, moment_text, lease6_lines}
+use Rattle.lease6_text.specs.LeaseReading.{Reading, goes_to, with_origin, begun, with_ia, item_rest, item_added, with_value, value_step, step_at, step, given, start}
 use Rattle.lease6_text.specs.LinesRead.{CanBegin}
 use Rattle.lease6_text.specs.Leases.{IaLeaseContent, Lease6Content}
 use Rattle.lease6_text.specs.LineParts.{may_begin, may_join, value6_at}
 use Rattle.lease6_text.proofs.Apart.{apart_from, apart_before}
 use Rattle.lease6_text.proofs.IaFacts.{AreIas, CanJoin, UnlikeItems, begins, comes_after, joins, own_fits}
 use Rattle.lease6_text.proofs.LastIa.{rest_is, with_ias, added_is}
-use Rattle.lease6_text.proofs.PartReads.{IsItem, IsNext, ia_reads, item_reads, kept_small, moment_reads, server_reads, value_reads}
+use Rattle.lease6_text.proofs.PartReads.{IsItem, IsNext, ia_reads, item_reads, kept_small, moment_is, server_is, value_reads, version_reads}
 
 -- ---- one line
 
@@ -49,7 +54,7 @@ said make x law fits = ap (option_map make) (law.whole x fits)
 -- the state within the lines of the IAs and the values
 abbrev at_body : Lease6Content → NextLine → List IaLeaseContent → List ValueContent → Reading
 at_body lease next ias values =
-    record { next = next; name = lease.name; server = Some lease.server; t1 = lease.t1; t2 = lease.t2; ias = ias; values = values }
+    record { next = next; origin = lease.origin; name = lease.name; server = Some lease.server; t1 = lease.t1; t2 = lease.t2; ias = ias; values = values }
 
 -- ---- values
 
@@ -227,27 +232,59 @@ ias_run lease front (ia ∷ ias) rest end are later =
 abbrev body_lines : Lease6Content → List Line
 body_lines lease = flat_map ia_lines lease.ias ++ (map option_line lease.values ++ end_line ∷ [])
 
-abbrev at_head : NextLine → Lease6Content → (server : Option (List ℕ)) → (t1 t2 : Option ℕ) → Reading
-at_head next lease server t1 t2 = record { next = next; name = lease.name; server = server; t1 = t1; t2 = t2; ias = []; values = [] }
+-- the lines after those of to whom it was granted
+abbrev pub lines_after : Lease6Content → List Line
+lines_after lease = grant_lines lease ++ body_lines lease
+
+pub holder_then : (lease : Lease6Content) → lease6_lines lease ≡ holder_lines lease.origin lease.name ++ lines_after lease
+holder_then lease = append_assoc (holder_lines lease.origin lease.name) (grant_lines lease) (body_lines lease)
+
+abbrev at_grant : NextLine → Name → Option Origin → (server : Option (List ℕ)) → (t1 t2 : Option ℕ) → Reading
+at_grant next name origin server t1 t2 =
+    record { next = next; origin = origin; name = name; server = server; t1 = t1; t2 = t2; ias = []; values = [] }
+
+said_field : {X A : Type 0} {field : Field X} (word : List ℕ) (make : X → A) (x : X) → IsField field → field.Fits x
+    → option_map make (after_word word field.at (word ++ field.text x)) ≡ Some (make x)
+said_field word make x is fits = said make x (word_reads word is.reads) fits
+
+holder_run : (origin : Option Origin) (name : Name) (rest : List Line) (end : Option Reading) → FitsName name → FitsOrigin origin → IfSome origin (λ o. FitsMac o.mac)
+    → run step rest (at_grant Server name origin None None None) ≡ end → run step (holder_lines origin name ++ rest) start ≡ end
+unfolding step_at
+holder_run None name rest end fits timely typed later =
+    let begun : Reading = record start { next = Interface Plain } in
+    one_more start begun plain_line (interface_line name ∷ rest) end (said (λ version. goes_to (Interface version) start) Plain version_reads tt)
+    (one_more begun (at_grant Server name None None None None) (interface_line name) rest end
+    (said_field interface_word (λ n. record begun { next = Server; name = n }) name name_is fits) later)
+holder_run (Some origin) name rest end fits timely typed later =
+    let begun : Reading = record start { next = Interface WithOrigin } in
+    let before : NextLine → Reading = λ next. at_grant next name None None None None in
+    let confirmed = confirmed_line origin.confirmed ∷ rest in
+    one_more start begun origin_line (interface_line name ∷ mac_line origin.mac ∷ confirmed) end
+    (said (λ version. goes_to (Interface version) start) WithOrigin version_reads tt)
+    (one_more begun (before OriginMac) (interface_line name) (mac_line origin.mac ∷ confirmed) end
+    (said_field interface_word (λ n. record begun { next = OriginMac; name = n }) name name_is fits)
+    (one_more (before OriginMac) (before (Confirmed origin.mac)) (mac_line origin.mac) confirmed end
+    (said_field mac_word (λ mac. goes_to (Confirmed mac) (before OriginMac)) origin.mac mac_is typed)
+    (one_more (before (Confirmed origin.mac)) (at_grant Server name (Some origin) None None None) (confirmed_line origin.confirmed) rest end
+    (said_field confirmed_word (with_origin (before (Confirmed origin.mac)) origin.mac) origin.confirmed (number_is MOMENT_LIMIT)
+    (record { small = omega (arith, timely); below = timely })) later)))
 
 lines_run : (lease : Lease6Content) → HasText6 lease → run step (lease6_lines lease) start ≡ Some (at_body lease Nothing lease.ias lease.values)
 unfolding step_at
 lines_run lease good =
-    let named : Reading = record start { next = Interface } in
+    let at : NextLine → (server : Option (List ℕ)) → (t1 t2 : Option ℕ) → Reading = λ next. at_grant next lease.name lease.origin in
     let t2 = (rebinding_word ++ moment_text lease.t2) ∷ body_lines lease in
     let t1 = (renewal_word ++ moment_text lease.t1) ∷ t2 in
-    let server = (server_word ++ hex_text lease.server) ∷ t1 in
-    one_more start named version_line ((interface_word ++ name_text lease.name) ∷ server) _ (said (λ _. named) tt (word_reads version_line end_reads) tt)
-    (one_more named (at_head Server lease None None None) (interface_word ++ name_text lease.name) server _
-    (said (λ name. record start { next = Server; name = name }) lease.name (word_reads interface_word name_reads) good.fits.name)
-    (one_more (at_head Server lease None None None) (at_head Renewal lease (Some lease.server) None None) (server_word ++ hex_text lease.server) t1 _
-    (said (λ server. at_head Renewal lease (Some server) None None) lease.server (word_reads server_word server_reads) good.typed.server)
-    (one_more (at_head Renewal lease (Some lease.server) None None) (at_head Rebinding lease (Some lease.server) lease.t1 None) (renewal_word ++ moment_text lease.t1) t2 _
-    (said (λ t1. at_head Rebinding lease (Some lease.server) t1 None) lease.t1 (word_reads renewal_word moment_reads) good.fits.t1)
-    (one_more (at_head Rebinding lease (Some lease.server) lease.t1 None) (at_head Ias lease (Some lease.server) lease.t1 lease.t2) (rebinding_word ++ moment_text lease.t2) (body_lines lease) _
-    (said (λ t2. at_head Ias lease (Some lease.server) lease.t1 t2) lease.t2 (word_reads rebinding_word moment_reads) good.fits.t2)
+    ap (λ lines. run step lines start) (holder_then lease)
+    ∙ holder_run lease.origin lease.name (lines_after lease) _ good.fits.name good.fits.origin good.typed.origin
+    (one_more (at Server None None None) (at Renewal (Some lease.server) None None) (server_word ++ hex_text lease.server) t1 _
+    (said_field server_word (λ server. at Renewal (Some server) None None) lease.server server_is good.typed.server)
+    (one_more (at Renewal (Some lease.server) None None) (at Rebinding (Some lease.server) lease.t1 None) (renewal_word ++ moment_text lease.t1) t2 _
+    (said_field renewal_word (λ t1. at Rebinding (Some lease.server) t1 None) lease.t1 moment_is good.fits.t1)
+    (one_more (at Rebinding (Some lease.server) lease.t1 None) (at Ias (Some lease.server) lease.t1 lease.t2) (rebinding_word ++ moment_text lease.t2) (body_lines lease) _
+    (said_field rebinding_word (λ t2. at Ias (Some lease.server) lease.t1 t2) lease.t2 moment_is good.fits.t2)
     (ias_run lease [] lease.ias (map option_line lease.values ++ end_line ∷ []) _ (record { fit = good.fits.ias; typed = good.typed.ias })
-    (body_values lease lease.ias lease.values (record { rising = good.fits.values.rising; each = good.fits.values.each; octets = good.typed.values })))))))
+    (body_values lease lease.ias lease.values (record { rising = good.fits.values.rising; each = good.fits.values.each; octets = good.typed.values }))))))
 
 pub whole : (lease : Lease6Content) (lines : List Line) → SpellsLease6 lease lines → WholeRun step given start lines lease
 whole lease lines spells = record {

@@ -2,13 +2,15 @@
 use Rattle.std.specs.Prelude.{◌≡◌, ◌≢◌, ℕ, ◌-◌, ◌%◌, ◌^◌, ◌≤◌, ◌<◌, true, List, length, AllPairs, Option, IfSome}
 use Rattle.std.specs.List.{AllByRecursion}
 use Rattle.net_types.specs.declared.address.Net6.{Net6}
-use Rattle.net_types.specs.AddressText.{FitsIp6}
+use Rattle.net_types.specs.AddressText.{FitsIp6, FitsMac}
 use Rattle.net_types.specs.Marks.{AreBytes}
+use Rattle.net_types.specs.Moments.{IsMoment}
 use Rattle.net_types.specs.NameText.{FitsName}
 use Rattle.v6_options.specs.declared.ia.IaKind.{IaKind}
 use Rattle.v6_options.specs.declared.ia.IaKind.TheVariants.{Na, Pd}
 use Rattle.lease_text.specs.Bounds.{IsRising}
 use Rattle.lease_text.specs.Leases.{ValueContent}
+use Rattle.lease_text.specs.declared.lease.Origin.{Origin}
 use Rattle.lease6_text.specs.declared.lease.Item6.{Item6}
 use Rattle.lease6_text.specs.declared.lease.TheConstants.{ADDRESS_LEN, IA_LIMIT, ITEM_LIMIT, LONGEST_DELEGATED, MOMENT6_LIMIT, SHORTEST_DELEGATED}
 use Rattle.lease6_text.specs.Leases.{IaLeaseContent, Lease6Content}
@@ -59,7 +61,12 @@ pub record FitsValues6 (values : List ValueContent) : Type 0 where
   pub each : AllByRecursion FitsValue6 values
   pub rising : IsRising 0 values
 
+-- a lease was confirmed at a moment, where it tells its origin
+abbrev pub FitsOrigin : Option Origin → Type 0
+FitsOrigin origin = IfSome origin (λ o. IsMoment o.confirmed)
+
 pub record FitsLease6 (lease : Lease6Content) : Type 0 where
+  pub origin : FitsOrigin lease.origin
   pub name : FitsName lease.name
   pub t1 : FitsMoment lease.t1
   pub t2 : FitsMoment lease.t2
@@ -79,6 +86,7 @@ pub record IsTypedIa (ia : IaLeaseContent) : Type 0 where
 
 -- its numbers and bytes are within the types that hold them, as those of every lease in memory are
 pub record IsTyped6 (lease : Lease6Content) : Type 0 where
+  pub origin : IfSome lease.origin (λ o. FitsMac o.mac)
   pub server : IsDuid lease.server
   pub ias : AllByRecursion IsTypedIa lease.ias
   pub values : AllByRecursion (λ value. AreBytes value.bytes) lease.values

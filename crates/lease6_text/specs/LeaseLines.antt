@@ -1,22 +1,29 @@
 -- The text of a DHCPv6 lease: which lines it has, in order.
 use Rattle.std.specs.Prelude.{ℕ, List, [], ◌∷◌, ◌++◌, map, flat_map, codes, decimal, Option, Some, None}
+use Rattle.net_types.specs.declared.address.Mac.{Mac}
 use Rattle.net_types.specs.declared.address.Net6.{Net6}
-use Rattle.net_types.specs.AddressText.{ip6_text, net6_text}
+use Rattle.net_types.specs.declared.interface.Name.{Name}
+use Rattle.net_types.specs.AddressText.{ip6_text, mac_text, net6_text}
 use Rattle.net_types.specs.FirstBadLine.{Printed}
 use Rattle.net_types.specs.HexText.{hex_text}
 use Rattle.net_types.specs.NameText.{name_text}
 use Rattle.net_types.specs.TextLines.{Line, lines_text}
 use Rattle.v6_options.specs.declared.ia.IaKind.{IaKind}
 use Rattle.v6_options.specs.declared.ia.IaKind.TheVariants.{Na, Pd}
-use Rattle.lease_text.specs.LeaseLines.{end_line, interface_word, option_line}
+use Rattle.lease_text.specs.declared.lease.Origin.{Origin}
+use Rattle.lease_text.specs.LeaseLines.{confirmed_word, end_line, interface_word, mac_word, option_line, origin_lines}
 use Rattle.lease6_text.specs.declared.lease.Item6.{Item6}
 use Rattle.lease6_text.specs.Bounds.{HasText6}
 use Rattle.lease6_text.specs.Leases.{IaLeaseContent, Lease6Content}
 
 -- ---- the words that lines begin with, or are
 
-abbrev pub version_line : Line
-version_line = codes "dhcpcd-lease6 1"
+-- the first line: a text of the second version tells the origin
+abbrev pub plain_line : Line
+plain_line = codes "dhcpcd-lease6 1"
+
+abbrev pub origin_line : Line
+origin_line = codes "dhcpcd-lease6 2"
 
 abbrev pub server_word : List ℕ
 server_word = codes "server "
@@ -63,15 +70,32 @@ ia_line kind iaid = ia_word ++ (kind_word kind ++ decimal iaid)
 abbrev pub ia_lines : IaLeaseContent → List Line
 ia_lines ia = ia_line ia.kind ia.iaid ∷ map (item_line ia.kind) ia.items
 
+abbrev pub interface_line : Name → Line
+interface_line name = interface_word ++ name_text name
+
+abbrev pub mac_line : Mac → Line
+mac_line mac = mac_word ++ mac_text mac
+
+abbrev pub confirmed_line : ℕ → Line
+confirmed_line at = confirmed_word ++ decimal at
+
+-- the first line: of the second version where the origin is told
+abbrev pub first_line : Option Origin → Line
+first_line None = plain_line
+first_line (Some origin) = origin_line
+
+-- to whom it was granted
+abbrev pub holder_lines : Option Origin → Name → List Line
+holder_lines origin name = first_line origin ∷ interface_line name ∷ origin_lines origin
+
+-- by whom, and its times
+abbrev pub grant_lines : Lease6Content → List Line
+grant_lines lease =
+    (server_word ++ hex_text lease.server) ∷ (renewal_word ++ moment_text lease.t1) ∷ (rebinding_word ++ moment_text lease.t2) ∷ []
+
 -- the lines before those of the IAs
 abbrev pub head_lines : Lease6Content → List Line
-head_lines lease =
-    version_line
-    ∷ (interface_word ++ name_text lease.name)
-    ∷ (server_word ++ hex_text lease.server)
-    ∷ (renewal_word ++ moment_text lease.t1)
-    ∷ (rebinding_word ++ moment_text lease.t2)
-    ∷ []
+head_lines lease = holder_lines lease.origin lease.name ++ grant_lines lease
 
 abbrev pub lease6_lines : Lease6Content → List Line
 lease6_lines lease = head_lines lease ++ (flat_map ia_lines lease.ias ++ (map option_line lease.values ++ end_line ∷ []))

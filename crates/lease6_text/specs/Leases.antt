@@ -2,6 +2,7 @@
 use Rattle.std.specs.Prelude.{ℕ, List, map, Option}
 use Rattle.net_types.specs.declared.interface.Name.{Name}
 use Rattle.v6_options.specs.declared.ia.IaKind.{IaKind}
+use Rattle.lease_text.specs.declared.lease.Origin.{Origin}
 use Rattle.lease_text.specs.Leases.{ValueContent, values_content}
 use Rattle.lease6_text.specs.declared.lease.Item6.{Item6}
 use Rattle.lease6_text.specs.declared.lease.IaLease.{IaLease}
@@ -15,6 +16,7 @@ pub record IaLeaseContent : Type 0 where
 
 -- `server` is the bytes of its DUID
 pub record Lease6Content : Type 0 where
+  pub origin : Option Origin
   pub name : Name
   pub server : List ℕ
   pub t1 : Option ℕ
@@ -30,6 +32,7 @@ ias_content ias = map ia_content ias
 
 abbrev pub lease6_content : Lease6 → Lease6Content
 lease6_content lease = record {
+  origin = lease.origin;
   name = lease.name;
   server = lease.server.bytes.items;
   t1 = lease.t1;

@@ -3,6 +3,7 @@ pub mod Leases
 pub mod Bounds
 pub mod LeaseLines
 pub mod LineParts
+pub mod LineFields
 pub mod LeaseReading
 pub mod LinesRead
 pub mod ReadBack

@@ -1,6 +1,6 @@
 //! What a DHCPv6 lease says.
 
-use lease_text::Value;
+use lease_text::{Origin, Value};
 use net_types::{Name, Net6};
 use v6_options::{Duid, IaKind};
 
@@ -38,6 +38,8 @@ pub struct IaLease {
 /// What one server granted to an interface (RFC 8415, section 18.2.10.1).
 #[derive(Drop)]
 pub struct Lease6 {
+    /// None where the text that it was read from didn't tell it.
+    pub origin: Option<Origin>,
     /// The interface that holds it.
     pub name: Name,
     /// The server that granted it.

@@ -1,137 +1,139 @@
 //! The text of a lease, printed.
 
-ghost use Rattle.std.specs.Prelude.{◌≡◌, ◌++◌, Some, flat_map, IfOk};
+ghost use Rattle.std.specs.Prelude.{◌≡◌, ◌++◌, flat_map, IfOk, OnOk};
 ghost use Rattle.net_types.specs.TextLines.{ended, lines_text};
+ghost use Rattle.lease_text.specs.LeaseLines.{origin_lines};
 ghost use Rattle.lease6_text.specs.Bounds.{FitsLease6, HasText6};
-ghost use Rattle.lease6_text.specs.Leases.{ia_content, lease6_content};
-ghost use Rattle.lease6_text.specs.LeaseLines.{head_lines, ia_lines, ia_line, item_line, lease6_text, moment_text};
+ghost use Rattle.lease6_text.specs.Leases.{ia_content, ias_content, lease6_content};
+ghost use Rattle.lease6_text.specs.LeaseLines.{first_line, grant_lines, head_lines, holder_lines, ia_lines, ia_line, item_line, lease6_text, moment_text};
 
 use crate::lease::{IaLease, Item6, Lease6};
 use crate::typed::lease6_is_typed;
-use lease_text::append_values;
-use net_types::{Hex, NoMemory, append_bytes};
+use lease_text::{Origin, append_values};
+use line_grammar::{AppendField, append_line};
+use net_types::{Hex, NoMemory, append_bytes, append_number};
 use std::alloc::Global;
-use std::fmt;
-use std::fmt::Display;
 use v6_options::IaKind;
 
-/// A moment, or never.
+/// A moment in milliseconds since 1970; None is never.
 #[derive(Clone, Copy)]
 struct Moment(Option<u64>);
 
-impl Display for Moment {
-    ghost output = { λ moment. Some (moment_text moment.0) };
+impl AppendField for Moment {
+    ghost shown = { λ moment. moment_text moment.0 };
 
-    fn fmt<W: fmt::Write>(&self, f: &mut fmt::Formatter<W>) -> fmt::Result {
+    fn append(&self, into: &mut Vec<u8>) -> Result<(), NoMemory> {
         match self.0 {
-            Some(at) => write!(f, "{at}"),
-            None => f.write_str("never"),
+            Some(at) => append_number(at, into),
+            None => append_bytes(b"never", into),
         }
     }
 }
 
-/// The lines before those of the IAs: to whom a lease was granted, by whom, and its times.
-#[derive(Clone, Copy)]
-struct Head<'a>(&'a Lease6);
-
-impl Display for Head<'_> {
-    ghost output = { λ head. Some (lines_text (head_lines (lease6_content head.0.now))) };
-
-    fn fmt<W: fmt::Write>(&self, f: &mut fmt::Formatter<W>) -> fmt::Result {
-        let lease = self.0;
-        f.write_str("dhcpcd-lease6 1\n")?;
-        writeln!(f, "interface {}", lease.name)?;
-        writeln!(f, "server {}", Hex(lease.server.as_slice()))?;
-        writeln!(f, "t1 {}", Moment(lease.t1))?;
-        writeln!(f, "t2 {}", Moment(lease.t2))
+/// Appends the line of which version the text is.
+fn append_version(origin: Option<Origin>, into: &mut Vec<u8>) -> Result<(), NoMemory>
+    ensures { OnOk result (into.new.items ≡ into.old.items ++ ended (first_line origin)) }
+{
+    match origin {
+        None => append_line(b"dhcpcd-lease6 1", &(), into),
+        Some(_) => append_line(b"dhcpcd-lease6 2", &(), into),
     }
 }
 
-/// The line of an item of an IA.
-#[derive(Clone, Copy)]
-struct ItemLine {
-    kind: IaKind,
-    item: Item6,
-}
-
+/// Appends the lines of an origin.
 #[tactic(auto, using(std::proofs::Common::append_assoc))]
-impl Display for ItemLine {
-    ghost output = { λ line. Some (ended (item_line line.kind line.item)) };
-
-    fn fmt<W: fmt::Write>(&self, f: &mut fmt::Formatter<W>) -> fmt::Result {
-        let Item6 {
-            net,
-            preferred,
-            valid,
-        } = self.item;
-        match self.kind {
-            IaKind::Na => writeln!(f, "addr {} {} {}", net.ip, Moment(preferred), Moment(valid)),
-            IaKind::Pd => writeln!(f, "prefix {} {} {}", net, Moment(preferred), Moment(valid)),
+fn append_origin(origin: Option<Origin>, into: &mut Vec<u8>) -> Result<(), NoMemory>
+    ensures { OnOk result (into.new.items ≡ into.old.items ++ lines_text (origin_lines origin)) }
+{
+    match origin {
+        None => Ok(()),
+        Some(origin) => {
+            append_line(b"mac ", &origin.mac, into)?;
+            append_line(b"confirmed ", &origin.confirmed, into)?;
+            Ok(())
         }
     }
 }
 
-/// The line of an IA, before those of its items.
-#[derive(Clone, Copy)]
-struct IaLine {
-    kind: IaKind,
-    iaid: u32,
+/// Appends the lines of to whom it was granted.
+fn append_holder(lease: &Lease6, into: &mut Vec<u8>) -> Result<(), NoMemory>
+    ensures { OnOk result (into.new.items ≡ into.old.items ++ lines_text (holder_lines lease.now.origin lease.now.name)) }
+{
+    append_version(lease.origin, into)?;
+    append_line(b"interface ", &lease.name, into)?;
+    append_origin(lease.origin, into)?;
+    Ok(())
 }
 
-impl Display for IaLine {
-    ghost output = { λ line. Some (ended (ia_line line.kind line.iaid)) };
+/// Appends the lines of by whom it was granted, and of its times.
+#[tactic(auto, using(std::proofs::Common::append_assoc))]
+fn append_grant(lease: &Lease6, into: &mut Vec<u8>) -> Result<(), NoMemory>
+    ensures { OnOk result (into.new.items ≡ into.old.items ++ lines_text (grant_lines (lease6_content lease.now))) }
+{
+    append_line(b"server ", &Hex(lease.server.as_slice()), into)?;
+    append_line(b"t1 ", &Moment(lease.t1), into)?;
+    append_line(b"t2 ", &Moment(lease.t2), into)
+}
 
-    fn fmt<W: fmt::Write>(&self, f: &mut fmt::Formatter<W>) -> fmt::Result {
-        match self.kind {
-            IaKind::Na => writeln!(f, "ia na {}", self.iaid),
-            IaKind::Pd => writeln!(f, "ia pd {}", self.iaid),
-        }
+/// Appends the lines before those of the IAs.
+fn append_head(lease: &Lease6, into: &mut Vec<u8>) -> Result<(), NoMemory>
+    ensures { OnOk result (into.new.items ≡ into.old.items ++ lines_text (head_lines (lease6_content lease.now))) }
+{
+    append_holder(lease, into)?;
+    append_grant(lease, into)?;
+    Ok(())
+}
+
+/// Appends the line of an item of an IA of this kind.
+fn append_item(kind: IaKind, item: Item6, into: &mut Vec<u8>) -> Result<(), NoMemory>
+    ensures { OnOk result (into.new.items ≡ into.old.items ++ ended (item_line kind item)) }
+{
+    let moments = (Moment(item.preferred), Moment(item.valid));
+    match kind {
+        IaKind::Na => append_line(b"addr ", &(item.net.ip, moments), into),
+        IaKind::Pd => append_line(b"prefix ", &(item.net, moments), into),
     }
 }
 
-/// The lines of an IA.
-#[derive(Clone, Copy)]
-struct IaLines<'a>(&'a IaLease);
-
-impl Display for IaLines<'_> {
-    ghost output = { λ lines. Some (lines_text (ia_lines (ia_content lines.0.now))) };
-
-    fn fmt<W: fmt::Write>(&self, f: &mut fmt::Formatter<W>) -> fmt::Result {
-        let ia = self.0;
-        f.write(IaLine {
-            kind: ia.kind,
-            iaid: ia.iaid,
-        })?;
-        for item in &ia.items {
-            f.write(ItemLine {
-                kind: ia.kind,
-                item: *item,
-            })?;
-        }
-        Ok(())
+/// Appends the line of an IA, before those of its items.
+fn append_ia_line(kind: IaKind, iaid: u32, into: &mut Vec<u8>) -> Result<(), NoMemory>
+    ensures { OnOk result (into.new.items ≡ into.old.items ++ ended (ia_line kind iaid)) }
+{
+    match kind {
+        IaKind::Na => append_line(b"ia na ", &iaid, into),
+        IaKind::Pd => append_line(b"ia pd ", &iaid, into),
     }
 }
 
-/// The lines before those of its values.
-#[derive(Clone, Copy)]
-struct Front<'a>(&'a Lease6);
-
-impl Display for Front<'_> {
-    ghost output = { λ front. Some (lines_text (head_lines (lease6_content front.0.now)) ++ lines_text (flat_map ia_lines (lease6_content front.0.now).ias)) };
-
-    fn fmt<W: fmt::Write>(&self, f: &mut fmt::Formatter<W>) -> fmt::Result {
-        f.write(Head(self.0))?;
-        for ia in &self.0.ias {
-            f.write(IaLines(ia))?;
-        }
-        Ok(())
+/// Appends the lines of an IA.
+fn append_ia(ia: &IaLease, into: &mut Vec<u8>) -> Result<(), NoMemory>
+    ensures { OnOk result (into.new.items ≡ into.old.items ++ lines_text (ia_lines (ia_content ia.now))) }
+{
+    append_ia_line(ia.kind, ia.iaid, into)?;
+    for item in &ia.items {
+        append_item(ia.kind, *item, into)?;
     }
+    Ok(())
 }
 
+/// Appends the lines of IAs.
+fn append_ias(ias: &[IaLease], into: &mut Vec<u8>) -> Result<(), NoMemory>
+    ensures { OnOk result (into.new.items ≡ into.old.items ++ lines_text (flat_map ia_lines (ias_content ias.now))) }
+{
+    for ia in ias {
+        append_ia(ia, into)?;
+    }
+    Ok(())
+}
+
+/// The lines before those of the values.
 fn printed_front(alloc: Global, lease: &Lease6) -> Result<Vec<u8>, NoMemory>
     ensures { IfOk result (λ text. text.items ≡ lines_text (head_lines (lease6_content lease.now)) ++ lines_text (flat_map ia_lines (lease6_content lease.now).ias)) }
 {
-    Ok(format!(in alloc; "{}", Front(lease))?.into_bytes())
+    let mut text = Vec::new(alloc);
+    append_head(lease, &mut text)?;
+    append_ias(&lease.ias, &mut text)?;
+    Ok(text)
 }
 
 /// The text of a lease. `read_lease6` reads a lease within the bounds back from it.

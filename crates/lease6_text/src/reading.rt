@@ -4,33 +4,47 @@ ghost use Rattle.std.specs.Prelude.{◌≡◌, Some, option_copied, option_map, 
 ghost use Rattle.net_types.specs.Cutting.{after_word, end_at};
 ghost use Rattle.net_types.specs.FirstBadLine.{FirstFault, IsSpelled};
 ghost use Rattle.net_types.specs.LineReading.{Refuses};
-ghost use Rattle.net_types.specs.NameText.{name_at};
-ghost use Rattle.lease_text.specs.LeaseLines.{interface_word};
 ghost use Rattle.lease_text.specs.LeaseReading.{last_code};
 ghost use Rattle.lease_text.specs.Leases.{values_content};
 ghost use Rattle.lease6_text.specs.declared.reading.NextLine.TheVariants as NextLine;
 ghost use Rattle.lease6_text.specs.Leases.{Lease6Content, ia_content, ias_content, lease6_content};
-ghost use Rattle.lease6_text.specs.LeaseLines.{SpellsLease6, item_word, renewal_word, rebinding_word, server_word};
+ghost use Rattle.lease6_text.specs.LeaseLines.{SpellsLease6, item_word, server_word};
 ghost use Rattle.lease6_text.specs.LineParts.{moment_at, server_at};
-ghost use Rattle.lease6_text.specs.LeaseReading.{Reading, reading_of, begun, ia_joined, item_added, item_rest, value_step, step, step_at, given, start};
+ghost use Rattle.lease6_text.specs.LeaseReading.{Reading, reading_of, after_interface, begun, version_at, ia_joined, item_added, item_rest, value_step, step, step_at, given, start};
 ghost use Rattle.lease6_text.specs.LinesRead.{After, AnyCause};
 
 use crate::lease::{IaLease, Lease6};
 use crate::parts::{
     ia_of, item_of, item_word, may_begin, may_join, moment_of, server_of, value_of,
 };
-use lease_text::{LeaseFault, Value};
+use lease_text::{LeaseFault, Origin, Value};
+use line_grammar::{Below, read_line};
 use net_types::{
-    BadText, LineFault, LineState, Name, NoMemory, end_of, name_of, read_lines, strip_word,
+    BadText, LineFault, LineState, MOMENT_LIMIT, Mac, Name, NoMemory, end_of, read_lines,
+    strip_word,
 };
 use std::alloc::Global;
 use v6_options::{Duid, IaKind};
+
+/// A version of the text.
+#[derive(Clone, Copy, PartialEq, Eq)]
+pub enum TextVersion {
+    /// The first: it doesn't tell the origin.
+    Plain,
+    /// The second: it tells the origin.
+    WithOrigin,
+}
 
 /// The line that comes next.
 #[derive(Clone, Copy, PartialEq, Eq)]
 pub enum NextLine {
     Version,
-    Interface,
+    /// The interface, in a text of this version.
+    Interface(TextVersion),
+    /// The hardware address of the interface.
+    OriginMac,
+    /// When the lease was confirmed, after this hardware address.
+    Confirmed(Mac),
     Server,
     Renewal,
     Rebinding,
@@ -48,6 +62,8 @@ pub enum NextLine {
 #[derive(Drop)]
 pub struct LeaseState {
     pub next: NextLine,
+    /// None before its lines, and in the first version.
+    pub origin: Option<Origin>,
     pub name: Name,
     /// None before its line.
     pub server: Option<Duid>,
@@ -62,6 +78,7 @@ fn start_of(alloc: Global) -> LeaseState
 {
     LeaseState {
         next: NextLine::Version,
+        origin: None,
         name: Name {
             bytes: [b'a', 0, 0, 0, 0, 0, 0, 0, 0, 0, 0, 0, 0, 0, 0],
             len: 1,
@@ -81,10 +98,30 @@ fn line_is(line: &[u8], word: &[u8]) -> Option<()>
     end_of(strip_word(line, word)?)
 }
 
-fn name_line(line: &[u8]) -> Option<Name>
-    ensures { result ≡ after_word interface_word name_at line.now }
+/// The version of the text that begins with this line.
+fn version_of(line: &[u8]) -> Option<TextVersion>
+    ensures { result ≡ version_at line.now }
 {
-    name_of(strip_word(line, b"interface ")?)
+    match strip_word(line, b"dhcpcd-lease6 1") {
+        Some(rest) => {
+            end_of(rest)?;
+            Some(TextVersion::Plain)
+        }
+        None => {
+            end_of(strip_word(line, b"dhcpcd-lease6 2")?)?;
+            Some(TextVersion::WithOrigin)
+        }
+    }
+}
+
+/// The line after that of the interface.
+fn after_interface(version: TextVersion) -> NextLine
+    ensures { result ≡ after_interface version }
+{
+    match version {
+        TextVersion::Plain => NextLine::Server,
+        TextVersion::WithOrigin => NextLine::OriginMac,
+    }
 }
 
 fn server_line(alloc: Global, line: &[u8]) -> Result<Option<Duid>, NoMemory>
@@ -292,17 +329,32 @@ impl LineState for LeaseState {
     #[tactic(auto, unfolding(crate::specs::LeaseReading::step_at))]
     fn take(self, alloc: Global, line: &[u8]) -> Result<LeaseState, LineFault<BadText>> {
         match self.next {
-            NextLine::Version => match line_is(line, b"dhcpcd-lease6 1") {
-                Some(()) => Ok(LeaseState {
-                    next: NextLine::Interface,
+            NextLine::Version => match version_of(line) {
+                Some(version) => Ok(LeaseState {
+                    next: NextLine::Interface(version),
                     ..self
                 }),
                 None => Err(BAD),
             },
-            NextLine::Interface => match name_line(line) {
+            NextLine::Interface(version) => match read_line(alloc, b"interface ", line)? {
                 Some(name) => Ok(LeaseState {
-                    next: NextLine::Server,
+                    next: after_interface(version),
                     name,
+                    ..self
+                }),
+                None => Err(BAD),
+            },
+            NextLine::OriginMac => match read_line(alloc, b"mac ", line)? {
+                Some(mac) => Ok(LeaseState {
+                    next: NextLine::Confirmed(mac),
+                    ..self
+                }),
+                None => Err(BAD),
+            },
+            NextLine::Confirmed(mac) => match read_line(alloc, b"confirmed ", line)? {
+                Some(Below::<MOMENT_LIMIT>(confirmed)) => Ok(LeaseState {
+                    next: NextLine::Server,
+                    origin: Some(Origin { mac, confirmed }),
                     ..self
                 }),
                 None => Err(BAD),
@@ -345,6 +397,7 @@ impl LineState for LeaseState {
     fn end(self, _alloc: Global) -> Result<Lease6, LineFault<BadText>> {
         let LeaseState {
             next,
+            origin,
             name,
             server,
             t1,
@@ -355,6 +408,7 @@ impl LineState for LeaseState {
         match next {
             NextLine::Nothing => match server {
                 Some(server) => Ok(Lease6 {
+                    origin,
                     name,
                     server,
                     t1,
@@ -365,7 +419,9 @@ impl LineState for LeaseState {
                 None => Err(BAD),
             },
             NextLine::Version
-            | NextLine::Interface
+            | NextLine::Interface(_)
+            | NextLine::OriginMac
+            | NextLine::Confirmed(_)
             | NextLine::Server
             | NextLine::Renewal
             | NextLine::Rebinding

@@ -228,7 +228,7 @@ module _ (site : Site) (mac : sent.FitsMac site.managed.spec.mac) (clean : Type 
     heard_listed message good stays is no_arp h =
         let arrival : Arrival = arrival_at at message in
         let two : Step4 = heard_step salt arrival c in
-        let answers = answer_fits c.settings arrival c.state amid.sound.state in
+        let answers = answer_fits c.settings arrival c.state early amid.sound.state in
         calm_finish site clean e past one c amid mac between others two (brought arrival c) [] tt amid.settings
         (moved_sound (brought arrival c) two
         (brought_sound c (answer_to arrival c) (kept_values c.settings.refused arrival.message.instances) amid.sound (values_fit c.settings.refused arrival.message.instances))

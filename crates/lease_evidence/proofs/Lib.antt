@@ -17,7 +17,7 @@ pub mod Leases
 pub mod HeldRuns
 pub mod SevenTurnsHeard
 pub mod Joining
-mod Beginnings
+pub mod Beginnings
 pub mod Cutting
 pub mod EndingProofs
 pub mod ProbeCounts

@@ -53,7 +53,7 @@ third false false c e = absurd cc
 
 module _ (settings : SettingsContent) (exchange : Exchange4) (arrival : Arrival) (terms : Terms4) where
   this_ack : (server : Ip4) (lease : ℕ) → IsFrom settings exchange.xid arrival server → is_good_ack settings exchange arrival lease ≡ true
-      → (granted : Terms4) → granted ≡ terms_granted settings.refused arrival exchange server lease → granted ≡ terms
+      → (granted : Terms4) → granted ≡ terms_granted settings arrival exchange server lease → granted ≡ terms
       → IsGranted settings exchange arrival terms
   this_ack server lease from good granted is same =
       let unexpired : is_unexpired exchange.first lease arrival.at ≡ true =
@@ -62,7 +62,7 @@ module _ (settings : SettingsContent) (exchange : Exchange4) (arrival : Arrival)
       (record { from = from; address = refl; source = refl; first = refl; unexpired = unexpired })
 
   by_good : (server : Ip4) (lease : ℕ) → IsFrom settings exchange.xid arrival server → (good : Bool) → is_good_ack settings exchange arrival lease ≡ good
-      → (if good then answer.Ack (terms_granted settings.refused arrival exchange server lease) else answer.Nothing) ≡ answer.Ack terms
+      → (if good then answer.Ack (terms_granted settings arrival exchange server lease) else answer.Nothing) ≡ answer.Ack terms
       → IsGranted settings exchange arrival terms
   by_good server lease from true is e = this_ack server lease from is _ refl cc
   by_good server lease from false is e = absurd cc

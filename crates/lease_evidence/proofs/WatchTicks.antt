@@ -26,6 +26,7 @@ use Rattle.v4_client.specs.Saying.{sent_of, request, renewing_request, rebinding
 use Rattle.v4_client.specs.Sound.{FitsState}
 use Rattle.v4_client.specs.Steps.{to_init, expires, discovers, requesting, rebooting, new_exchange, renewing, rebinding}
 use Rattle.v4_client.specs.Ticks.{detects, tick_row}
+use Rattle.v4_client.proofs.Expiring.{renewing_by}
 use Rattle.lease_evidence.specs.Exchanges.{Numbered}
 use Rattle.lease_evidence.proofs.Observer.{Grant, Kept}
 use Rattle.lease_evidence.proofs.Watching.{seen, LastXid, Asks, IsAnswered, Holds, On, Lasts, AnyTerms, WatchedAfter, with_terms, asks_anew, asks_again, asked_xid, fresh}
@@ -79,7 +80,8 @@ not_due (Waiting due) at current answered grant fits h on = on
 not_due (Bound xid terms acd) at current answered grant fits h on =
     (on.0, with_terms AnyTerms (Lasts at) terms grant (bound_later terms at (acd_due acd) fits h) on.1)
 not_due (Renewing exchange terms acd due) at current answered grant fits h on =
-    (on.0, with_terms AnyTerms (Lasts at) terms grant (ends_later (expiry terms) due at (acd_due acd) fits.wakes h) on.1)
+    let ends : IfSome (expiry terms) (λ last. due ≤ last) = renewing_by terms due fits.renewal.holds fits.wakes in
+    (on.0, with_terms AnyTerms (Lasts at) terms grant (ends_later (expiry terms) due at (acd_due acd) ends h) on.1)
 not_due (Rebinding exchange terms acd due) at current answered grant fits h on =
     (on.0, with_terms AnyTerms (Lasts at) terms grant (ends_later (expiry terms) due at (acd_due acd) fits.wakes h) on.1)
 

@@ -97,6 +97,7 @@ seven_turns =
 
 abbrev pub lease : LeaseContent
 lease = record {
+  origin = Some (record { mac = client_mac; confirmed = 2500 });
   name = interface.spec.name;
   net = record { ip = granted; len = 24 };
   server = server;

@@ -1,281 +1,282 @@
 -- What a crash may leave after the calls of a saving, a removal and a clearing.
-use Rattle.std.proofs.Common.{◌≡◌, ℕ, zero, suc, Bool, true, false, ◌⊎◌, inl, inr, List, [], ◌∷◌, Option, Some, None, refl, sym, ap, subst, ◌∙◌, take}
+use Rattle.std.proofs.Common.{◌≡◌, ◌||◌, ℕ, Bool, true, false, inl, inr, List, [], ◌∷◌, ◌++◌, take, length, map, String, append-nil, Option, Some, None, Result, Ok, Err, refl, sym, ap, subst, ◌∙◌, cond}
+use Rattle.std.specs.Prelude.{IfErr, IfOk, IfSome}
+use Rattle.std.specs.Global.{Global}
 use Rattle.std.specs.List.{AllByRecursion}
 use Rattle.std.specs.String.{string_bytes}
-use Rattle.net_types.proofs.AllLaws.{all_join}
+use Rattle.std.proofs.lemmas.List.{map-append}
+use Rattle.net_types.proofs.AllLaws.{all_join, all_map}
 use Rattle.world.specs.FileNames.{aside_of, is_name}
-use Rattle.world.specs.FileLists.{StoreFile, file_at, is_aside}
-use Rattle.world.specs.CrashImages.{ChangedFile, changed_file}
+use Rattle.world.specs.FileLists.{StoreFile, file_at, put_file, rename_file, is_aside}
+use Rattle.world.specs.CrashImages.{ChangedFile, unchanged, MayBe}
 use Rattle.world.specs.StoreFails.{StoreFails}
 use Rattle.world.specs.StoreCalls.{StoreTold, StoreCall, ListedAsides, ReadFile, WroteAside, SyncedAside, RenamedAside, RemovedFile, SettledFiles, store_answered}
-use Rattle.world.specs.SoundStores.{IsSound, LeavesFiles, files_by}
-use Rattle.world.proofs.NameOrder.{unlike_aside, unlike_name}
-use Rattle.world.proofs.SoundLaws.{sound_after}
+use Rattle.world.specs.SoundStores.{IsSound, LeavesFiles}
+use Rattle.world.proofs.NameOrder.{name_itself, unlike_aside, unlike_name}
+use Rattle.world.proofs.SoundCalls.{file_found, file_left, file_gone}
+use Rattle.file_choices.specs.StoreWalks.{Goes, Answered}
+use Rattle.file_choices.specs.Savings.{Idle, Synced, Put, IsSyncedFor, MayCome, AreInTurn}
+use Rattle.file_choices.specs.LeftWhole.{left_of, IsApart, changes, StayWhole, LeavesWhole}
+use Rattle.file_choices.proofs.Walking.{answered_more, front_in_turn, all_taken}
+use Rattle.file_choices.proofs.FileWalks.{leaves_files, done_files, aside_written, sync_files, aside_synced, removed_here, renamed_here, settled_here}
+use Rattle.file_choices.proofs.Choosing.{stay_whole}
+use Rattle.file_choices.proofs.Given.{Gives, left_or_given, spared_untouched}
 use Rattle.lease_file.specs.declared.clearing.Cleared.{Cleared}
 use Rattle.lease_file.specs.declared.clearing.Clearing.{Clearing}
 use Rattle.lease_file.specs.declared.faults.SaveStep.{SaveStep}
 use Rattle.lease_file.specs.declared.faults.SaveStep.TheVariants as step
-use Rattle.lease_file.specs.AsideCalls.{removal_calls, settling_calls}
+use Rattle.lease_file.specs.declared.faults.SaveFault.{SaveFault}
+use Rattle.lease_file.specs.declared.faults.SaveFault.TheVariants.{Failed, NoMemory}
+use Rattle.lease_file.specs.AsideCalls.{listing_calls, removal_calls, settling_calls, cleared_calls, BeginsListing, BeginsRemovals}
+use Rattle.lease_file.proofs.Removals.{named_bytes}
 use Rattle.lease_file.specs.FileLaws.{SavingIsWhole, RemovingIsWhole, OthersStay}
-use Rattle.lease_file.specs.StoreAnswers.{LeavesAsTold, Goes}
-use Rattle.lease_file.specs.Saving.{save_calls, save_calls_to, remove_calls, remove_calls_to}
-use Rattle.lease_file.specs.WholeFiles.{MayLeave, Stays, StaysOrBecomes, IsLeft, KeepsWhole, KeepsOrRemoves, IsOfAsides, ClearsAsides}
-use Rattle.lease_file.proofs.LeftFiles.{leaves_files, same_left, write_stays, aside_written, sync_files, sync_stays, aside_synced, rename_keeps, rename_stays, renamed_whole, remove_keeps, remove_stays, removed_whole, settle_stays, settle_leaves}
+use Rattle.lease_file.specs.Saving.{save_calls, save_calls_to, Saves, remove_calls, remove_calls_to, Removes}
+use Rattle.lease_file.specs.WholeFiles.{IsLeft, KeepsWhole, KeepsOrRemoves, IsOfAsides, ClearsAsides}
 
--- ---- one call after another
+abbrev Spares : (name : List ℕ) → StoreCall → Type 0
+Spares name call = IsApart name call × (changes name call ≡ false)
 
-stays_then : (name : List ℕ) (a b c : StoreTold) → Stays name a b → Stays name b c → Stays name a c
-stays_then name a b c first second left may = first left (second left may)
+or_second : (a b : Bool) → b ≡ true → (a || b) ≡ true
+or_second true b e = refl
+or_second false b e = e
 
-becomes_then : (name : List ℕ) (content : Option (List ℕ)) (a b c : StoreTold) → StaysOrBecomes name content a b → Stays name b c → StaysOrBecomes name content a c
-becomes_then name content a b c first second left may = first left (second left may)
-
-stays_first : (name : List ℕ) (content : Option (List ℕ)) (a b c : StoreTold) → Stays name a b → StaysOrBecomes name content b c → StaysOrBecomes name content a c
-stays_first name content a b c first second left may = by (second left may)
+-- what is left of a file that was put in place or removed, and settled, is what it reads as
+settled_alone : (name : List ℕ) (told : StoreTold) (files : List StoreFile) (content : Option (List ℕ)) → (left_of name told).unsynced ≡ false
+    → file_at name told.files ≡ content → LeavesFiles (SettledFiles true) told.files files → IsLeft name content (store_answered (SettledFiles true) files told)
+settled_alone name told files content synced reads leaves left may =
+    by (subst (λ (f : ChangedFile). MayBe f left)
+    (settled_here name told (left_of name told) refl files leaves ∙ ap (λ (b : Bool). cond b (left_of name told) (unchanged name (file_at name told.files))) synced) may)
   where
-    by : MayLeave b name left ⊎ (left ≡ content) → MayLeave a name left ⊎ (left ≡ content)
-    by (inl was) = inl (first left was)
-    by (inr is) = inr is
-
-stays_at : (name : List ℕ) (content : Option (List ℕ)) (a b : StoreTold) → Stays name a b → StaysOrBecomes name content a b
-stays_at name content a b stays left may = inl (stays left may)
+    by : MayBe (unchanged name (file_at name told.files)) left → left ≡ content
+    by (inl torn) = cc
+    by (inr (inl is)) = is ∙ reads
+    by (inr (inr none)) = absurd none
 
 -- ---- saving
 
 module _ (name bytes : List ℕ) where
-  keeps_none : (told : StoreTold) → KeepsWhole name bytes told told
-  keeps_none told = record { file = λ left may. inl may; others = λ other m a left may. may }
+  abbrev kept : List (List ℕ)
+  kept = name ∷ []
 
-  keeps_then : (a b c : StoreTold) → KeepsWhole name bytes a b → ((n : List ℕ) → is_name n (aside_of name) ≡ false → Stays n b c) → KeepsWhole name bytes a c
-  keeps_then a b c keeps stays = record {
-    file = becomes_then name (Some bytes) a b c keeps.file (stays name (unlike_aside name));
-    others = λ other m s. stays_then other a b c (keeps.others other m s) (stays other s);
+  abbrev Wanted : Option (List ℕ) → Type 0
+  Wanted content = content ≡ Some bytes
+
+  -- calls that are made to save the file
+  record IsSaving (calls : List StoreCall) : Type 0 where
+    turn : AreInTurn kept calls Idle
+    apart : AllByRecursion (IsApart name) calls
+    gives : AllByRecursion (Gives kept name Wanted) calls
+    spares : (other : List ℕ) → is_name other name ≡ false → is_name other (aside_of name) ≡ false → AllByRecursion (Spares other) calls
+
+  rename_may : (done : Bool) → MayCome kept (RenamedAside name done) (cond (is_name name name) (Synced name bytes) Idle)
+  rename_may done =
+      (subst (IsSyncedFor name) (sym (ap (λ (b : Bool). cond b (Synced name bytes) Idle) (name_itself name))) (name_itself name), ap (λ (b : Bool). b || false) (name_itself name))
+
+  none_made : IsSaving []
+  none_made = record { turn = tt; apart = tt; gives = tt; spares = λ other m a. tt }
+
+  wrote : (done : Bool) → IsSaving (WroteAside name bytes done ∷ [])
+  wrote done = record { turn = λ _. (tt, tt); apart = (unlike_aside name, tt); gives = (λ e. refl, tt); spares = λ other m a. ((a, refl), tt) }
+
+  synced : (done : Bool) → IsSaving (WroteAside name bytes true ∷ SyncedAside name done ∷ [])
+  synced done = record {
+    turn = λ _. (tt, λ _. (tt, tt));
+    apart = (unlike_aside name, (unlike_aside name, tt));
+    gives = (λ e. refl, (tt, tt));
+    spares = λ other m a. ((a, refl), ((a, refl), tt));
   }
 
-  -- what is told after each call, where those before it were done
-  module _ (old : StoreTold) (sound : IsSound old) (failing : Option StoreFails) where
-    abbrev after : StoreCall → List StoreFile → StoreTold → StoreTold
-    after call files told = store_answered call files told
+  renamed : (done : Bool) → IsSaving (WroteAside name bytes true ∷ SyncedAside name true ∷ RenamedAside name done ∷ [])
+  renamed done = record {
+    turn = λ _. (tt, λ _. (tt, λ _. (rename_may done, tt)));
+    apart = (unlike_aside name, (unlike_aside name, (unlike_aside name, tt)));
+    gives = (λ e. refl, (tt, (tt, tt)));
+    spares = λ other m a. ((a, refl), ((a, refl), ((a, m), tt)));
+  }
 
-    written : (done : Bool) (files : List StoreFile) → LeavesFiles (WroteAside name bytes done) old.files files → KeepsWhole name bytes old (after (WroteAside name bytes done) files old)
-    written done files leaves =
-        keeps_then old old (after (WroteAside name bytes done) files old) (keeps_none old) (write_stays old name bytes done files leaves)
+  settled : (done : Bool) → IsSaving (WroteAside name bytes true ∷ SyncedAside name true ∷ RenamedAside name true ∷ SettledFiles done ∷ [])
+  settled done = record {
+    turn = λ _. (tt, λ _. (tt, λ _. (rename_may true, λ _. (tt, tt))));
+    apart = (unlike_aside name, (unlike_aside name, (unlike_aside name, (tt, tt))));
+    gives = (λ e. refl, (tt, (tt, (tt, tt))));
+    spares = λ other m a. ((a, refl), ((a, refl), ((a, m), ((tt, refl), tt))));
+  }
 
-    module _ (files1 : List StoreFile) (wrote : LeavesFiles (WroteAside name bytes true) old.files files1) where
-      abbrev one : StoreTold
-      one = after (WroteAside name bytes true) files1 old
+  saved_to : (failed : SaveStep) → IsSaving (save_calls_to name bytes failed)
+  saved_to step.Write = wrote false
+  saved_to step.Sync = synced false
+  saved_to step.Rename = renamed false
+  saved_to step.Settle = settled false
+  saved_to step.List = none_made
+  saved_to step.Remove = none_made
 
-      sound1 : IsSound one
-      sound1 = sound_after old sound (WroteAside name bytes true) files1 wrote
+  module _ (failing : Option StoreFails) (before after : StoreTold) (sound : IsSound before) where
+    saving_keeps : (calls : List StoreCall) → IsSaving calls → (made : ℕ) → Goes failing (take made calls) before after → KeepsWhole name bytes before after
+    saving_keeps calls is made goes = record {
+      file = left_or_given kept name Wanted failing calls before after made is.turn is.apart is.gives sound goes;
+      others = λ other m a. (spared_untouched failing other calls before after (is.spares other m a) sound made goes).stays;
+    }
 
-      synced_keeps : (done : Bool) (files : List StoreFile) → LeavesFiles (SyncedAside name done) files1 files → KeepsWhole name bytes old (after (SyncedAside name done) files one)
-      synced_keeps done files leaves =
-          keeps_then old one (after (SyncedAside name done) files one) (written true files1 wrote) (sync_stays one name done files leaves)
+    all_kept : (calls : List StoreCall) → IsSaving calls → Goes failing calls before after → KeepsWhole name bytes before after
+    all_kept calls is goes = saving_keeps calls is (length calls) (subst (λ (cs : List StoreCall). Goes failing cs before after) (sym (all_taken calls)) goes)
 
-      module _ (files2 : List StoreFile) (sync : LeavesFiles (SyncedAside name true) files1 files2) where
-        abbrev two : StoreTold
-        two = after (SyncedAside name true) files2 one
+    saved_alone : Goes failing (save_calls name bytes) before after → IsLeft name (Some bytes) after
+    saved_alone goes = subst (IsLeft name (Some bytes)) (sym fourth.2) (settled_alone name three fourth.0 (Some bytes) whole3 there3 (leaves_files failing (SettledFiles true) third.0 fourth.0 fourth.1.leaves))
+      where
+        second : Goes failing (SyncedAside name true ∷ RenamedAside name true ∷ SettledFiles true ∷ []) (store_answered (WroteAside name bytes true) goes.0 before) after
+        second = goes.2
 
-        sound2 : IsSound two
-        sound2 = sound_after one sound1 (SyncedAside name true) files2 sync
+        one : StoreTold
+        one = store_answered (WroteAside name bytes true) goes.0 before
 
-        there1 : file_at (aside_of name) files1 ≡ Some bytes
-        there1 = aside_written old name bytes files1 wrote
+        third : Goes failing (RenamedAside name true ∷ SettledFiles true ∷ []) (store_answered (SyncedAside name true) second.0 one) after
+        third = second.2
 
-        there2 : file_at (aside_of name) files2 ≡ Some bytes
-        there2 = ap (file_at (aside_of name)) (sync_files one name true files2 sync) ∙ there1
+        two : StoreTold
+        two = store_answered (SyncedAside name true) second.0 one
 
-        whole2 : (changed_file (aside_of name) (file_at (aside_of name) files2) two.disk).unsynced ≡ false
-        whole2 = ap (λ (f : ChangedFile). f.unsynced) (aside_synced one name bytes there1 (file_at (aside_of name) files2))
+        fourth : Goes failing (SettledFiles true ∷ []) (store_answered (RenamedAside name true) third.0 two) after
+        fourth = third.2
 
-        renamed_keeps : (done : Bool) (files : List StoreFile) → LeavesFiles (RenamedAside name done) files2 files → KeepsWhole name bytes old (after (RenamedAside name done) files two)
-        renamed_keeps done files leaves =
-            let before = synced_keeps true files2 sync in
-            record {
-              file = stays_first name (Some bytes) old two (after (RenamedAside name done) files two)
-                  (stays_then name old one two (write_stays old name bytes true files1 wrote name (unlike_aside name)) (sync_stays one name true files2 sync name (unlike_aside name)))
-                  (rename_keeps two sound2 name bytes there2 whole2 done files leaves);
-              others = λ other m a. stays_then other old two (after (RenamedAside name done) files two) (before.others other m a)
-                  (rename_stays two sound2 name bytes there2 whole2 done files leaves other m a);
-            }
+        three : StoreTold
+        three = store_answered (RenamedAside name true) third.0 two
 
-        module _ (files3 : List StoreFile) (rename : LeavesFiles (RenamedAside name true) files2 files3) where
-          abbrev three : StoreTold
-          three = after (RenamedAside name true) files3 two
+        there1 : file_at (aside_of name) goes.0 ≡ Some bytes
+        there1 = aside_written before name bytes goes.0 (leaves_files failing (WroteAside name bytes true) before.files goes.0 goes.1.leaves)
 
-          sound3 : IsSound three
-          sound3 = sound_after two sound2 (RenamedAside name true) files3 rename
+        there2 : file_at (aside_of name) second.0 ≡ Some bytes
+        there2 = ap (file_at (aside_of name)) (sync_files one name true second.0 (leaves_files failing (SyncedAside name true) goes.0 second.0 second.1.leaves)) ∙ there1
 
-          settled_keeps : (done : Bool) (files : List StoreFile) → LeavesFiles (SettledFiles done) files3 files → KeepsWhole name bytes old (after (SettledFiles done) files three)
-          settled_keeps done files leaves =
-              keeps_then old three (after (SettledFiles done) files three) (renamed_keeps true files3 rename) (λ n a. settle_stays three sound3 done files leaves n)
+        whole2 : (left_of (aside_of name) two).unsynced ≡ false
+        whole2 = ap (λ (f : ChangedFile). f.unsynced) (aside_synced one name bytes there1 (file_at (aside_of name) second.0))
 
-          settled_new : (files : List StoreFile) → LeavesFiles (SettledFiles true) files3 files → IsLeft name (Some bytes) (after (SettledFiles true) files three)
-          settled_new files leaves =
-              let is = renamed_whole two sound2 name bytes there2 whole2 true files3 rename refl in
-              settle_leaves three files leaves name (Some bytes) is.0 is.1
+        there3 : file_at name third.0 ≡ Some bytes
+        there3 =
+            ap (file_at name) (done_files (RenamedAside name true) second.0 third.0 refl (leaves_files failing (RenamedAside name true) second.0 third.0 third.1.leaves)
+            ∙ ap (λ (o : Option (List ℕ)). rename_file name o second.0) there2)
+            ∙ file_left (aside_of name) name (put_file (record { name = name; bytes = bytes }) second.0) (unlike_aside name)
+            ∙ file_found name bytes second.0
 
-    abbrev Keeps : StoreTold → Type 0
-    Keeps told = KeepsWhole name bytes old told
-
-    leaves : (call : StoreCall) (before now : List StoreFile) → LeavesAsTold failing call before now → LeavesFiles call before now
-    leaves call before now l = leaves_files failing call before now l
-
-    saved_write : (d : Bool) (new : StoreTold) → Goes failing (WroteAside name bytes d ∷ []) old new → Keeps new
-    saved_write d new goes = subst Keeps (sym goes.3) (written d goes.0 (leaves (WroteAside name bytes d) old.files goes.0 goes.2))
-
-    saved_sync : (d : Bool) (new : StoreTold) → Goes failing (WroteAside name bytes true ∷ SyncedAside name d ∷ []) old new → Keeps new
-    saved_sync d new goes =
-        let second = goes.3 in
-        subst Keeps (sym second.3) (synced_keeps goes.0 (leaves (WroteAside name bytes true) old.files goes.0 goes.2) d second.0 (leaves (SyncedAside name d) goes.0 second.0 second.2))
-
-    saved_rename : (d : Bool) (new : StoreTold) → Goes failing (WroteAside name bytes true ∷ SyncedAside name true ∷ RenamedAside name d ∷ []) old new → Keeps new
-    saved_rename d new goes =
-        let second = goes.3 in
-        let third = second.3 in
-        subst Keeps (sym third.3)
-        (renamed_keeps goes.0 (leaves (WroteAside name bytes true) old.files goes.0 goes.2) second.0 (leaves (SyncedAside name true) goes.0 second.0 second.2) d third.0
-        (leaves (RenamedAside name d) second.0 third.0 third.2))
-
-    saved_settle : (d : Bool) (new : StoreTold) → Goes failing (WroteAside name bytes true ∷ SyncedAside name true ∷ RenamedAside name true ∷ SettledFiles d ∷ []) old new → Keeps new
-    saved_settle d new goes =
-        let second = goes.3 in
-        let third = second.3 in
-        let fourth = third.3 in
-        subst Keeps (sym fourth.3)
-        (settled_keeps goes.0 (leaves (WroteAside name bytes true) old.files goes.0 goes.2) second.0 (leaves (SyncedAside name true) goes.0 second.0 second.2) third.0
-        (leaves (RenamedAside name true) second.0 third.0 third.2) d fourth.0 (leaves (SettledFiles d) third.0 fourth.0 fourth.2))
-
-    saved_new : (new : StoreTold) → Goes failing (save_calls name bytes) old new → IsLeft name (Some bytes) new
-    saved_new new goes =
-        let second = goes.3 in
-        let third = second.3 in
-        let fourth = third.3 in
-        subst (IsLeft name (Some bytes)) (sym fourth.3)
-        (settled_new goes.0 (leaves (WroteAside name bytes true) old.files goes.0 goes.2) second.0 (leaves (SyncedAside name true) goes.0 second.0 second.2) third.0
-        (leaves (RenamedAside name true) second.0 third.0 third.2) fourth.0 (leaves (SettledFiles true) third.0 fourth.0 fourth.2))
-
-    saved_none : (new : StoreTold) → new ≡ old → Keeps new
-    saved_none new is = subst Keeps (sym is) (keeps_none old)
-
-    saved_within : (made : ℕ) (new : StoreTold) → Goes failing (take made (save_calls name bytes)) old new → Keeps new
-    saved_within zero new goes = saved_none new goes
-    saved_within (suc zero) new goes = saved_write true new goes
-    saved_within (suc (suc zero)) new goes = saved_sync true new goes
-    saved_within (suc (suc (suc zero))) new goes = saved_rename true new goes
-    saved_within (suc (suc (suc (suc zero)))) new goes = saved_settle true new goes
-    saved_within (suc (suc (suc (suc (suc more))))) new goes = saved_settle true new goes
-
-    saved_failed : (failed : SaveStep) (new : StoreTold) → Goes failing (save_calls_to name bytes failed) old new → Keeps new
-    saved_failed step.Write new goes = saved_write false new goes
-    saved_failed step.Sync new goes = saved_sync false new goes
-    saved_failed step.Rename new goes = saved_rename false new goes
-    saved_failed step.Settle new goes = saved_settle false new goes
-    saved_failed step.List new goes = saved_none new goes
-    saved_failed step.Remove new goes = saved_none new goes
+        whole3 : (left_of name three).unsynced ≡ false
+        whole3 =
+            ap (λ (f : ChangedFile). f.unsynced)
+            (renamed_here name two (left_of name two) refl name bytes true third.0 (name_itself name) (unlike_aside name) there2 whole2)
 
 pub saving_whole : SavingIsWhole
 saving_whole failing name bytes before after sound = record {
-  within = λ made goes. saved_within name bytes before sound failing made after goes;
-  failed = λ failed goes. saved_failed name bytes before sound failing failed after goes;
-  done = λ goes. saved_new name bytes before sound failing after goes;
+  within = saving_keeps name bytes failing before after sound (save_calls name bytes) (settled name bytes true);
+  failed = λ failed goes. all_kept name bytes failing before after sound (save_calls_to name bytes failed) (saved_to name bytes failed) goes;
+  done = saved_alone name bytes failing before after sound;
 }
 
 -- ---- removing
 
-module _ (name : List ℕ) (old : StoreTold) (sound : IsSound old) (failing : Option StoreFails) where
-  abbrev KeepsR : StoreTold → Type 0
-  KeepsR told = KeepsOrRemoves name old told
+module _ (name : List ℕ) where
+  record IsRemoving (calls : List StoreCall) : Type 0 where
+    turn : AreInTurn (name ∷ []) calls Idle
+    apart : AllByRecursion (IsApart name) calls
+    gives : AllByRecursion (Gives (name ∷ []) name (λ content. content ≡ None)) calls
+    spares : (other : List ℕ) → is_name other name ≡ false → AllByRecursion (Spares other) calls
 
-  leavesR : (call : StoreCall) (before now : List StoreFile) → LeavesAsTold failing call before now → LeavesFiles call before now
-  leavesR call before now l = leaves_files failing call before now l
+  remove_may : (is_aside name || (is_name name name || false)) ≡ true
+  remove_may = or_second (is_aside name) (is_name name name || false) (ap (λ (b : Bool). b || false) (name_itself name))
 
-  removes_none : (new : StoreTold) → new ≡ old → KeepsR new
-  removes_none new is = subst KeepsR (sym is) (record { file = λ left may. inl may; others = λ other m left may. may })
+  none_removed : IsRemoving []
+  none_removed = record { turn = tt; apart = tt; gives = tt; spares = λ other m. tt }
 
-  removed_keeps : (done : Bool) (files : List StoreFile) → LeavesFiles (RemovedFile name done) old.files files → KeepsR (store_answered (RemovedFile name done) files old)
-  removed_keeps done files l = record { file = remove_keeps old sound name done files l; others = λ other m. remove_stays old sound name done files l other m }
+  removed : (done : Bool) → IsRemoving (RemovedFile name done ∷ [])
+  removed done = record { turn = λ _. ((tt, remove_may), tt); apart = (tt, tt); gives = (λ e. refl, tt); spares = λ other m. ((tt, m), tt) }
 
-  module _ (files1 : List StoreFile) (removed : LeavesFiles (RemovedFile name true) old.files files1) where
-    abbrev gone : StoreTold
-    gone = store_answered (RemovedFile name true) files1 old
+  removal_settled : (done : Bool) → IsRemoving (RemovedFile name true ∷ SettledFiles done ∷ [])
+  removal_settled done = record {
+    turn = λ _. ((tt, remove_may), λ _. (tt, tt));
+    apart = (tt, (tt, tt));
+    gives = (λ e. refl, (tt, tt));
+    spares = λ other m. ((tt, m), ((tt, refl), tt));
+  }
 
-    gone_sound : IsSound gone
-    gone_sound = sound_after old sound (RemovedFile name true) files1 removed
+  removed_to : (failed : SaveStep) → IsRemoving (remove_calls_to name failed)
+  removed_to step.Remove = removed false
+  removed_to step.Settle = removal_settled false
+  removed_to step.Write = none_removed
+  removed_to step.Sync = none_removed
+  removed_to step.Rename = none_removed
+  removed_to step.List = none_removed
 
-    gone_settled : (done : Bool) (files : List StoreFile) → LeavesFiles (SettledFiles done) files1 files → KeepsR (store_answered (SettledFiles done) files gone)
-    gone_settled done files l =
-        let before = removed_keeps true files1 removed in
-        record {
-          file = becomes_then name None old gone (store_answered (SettledFiles done) files gone) before.file (settle_stays gone gone_sound done files l name);
-          others = λ other m. stays_then other old gone (store_answered (SettledFiles done) files gone) (before.others other m) (settle_stays gone gone_sound done files l other);
-        }
+  module _ (failing : Option StoreFails) (before after : StoreTold) (sound : IsSound before) where
+    removing_keeps : (calls : List StoreCall) → IsRemoving calls → (made : ℕ) → Goes failing (take made calls) before after → KeepsOrRemoves name before after
+    removing_keeps calls is made goes = record {
+      file = left_or_given (name ∷ []) name (λ content. content ≡ None) failing calls before after made is.turn is.apart is.gives sound goes;
+      others = λ other m. (spared_untouched failing other calls before after (is.spares other m) sound made goes).stays;
+    }
 
-    gone_new : (files : List StoreFile) → LeavesFiles (SettledFiles true) files1 files → IsLeft name None (store_answered (SettledFiles true) files gone)
-    gone_new files l = let is = removed_whole old sound name true files1 removed refl in settle_leaves gone files l name None is.0 is.1
+    all_removed : (calls : List StoreCall) → IsRemoving calls → Goes failing calls before after → KeepsOrRemoves name before after
+    all_removed calls is goes = removing_keeps calls is (length calls) (subst (λ (cs : List StoreCall). Goes failing cs before after) (sym (all_taken calls)) goes)
 
-  removed_one : (d : Bool) (new : StoreTold) → Goes failing (RemovedFile name d ∷ []) old new → KeepsR new
-  removed_one d new goes = subst KeepsR (sym goes.3) (removed_keeps d goes.0 (leavesR (RemovedFile name d) old.files goes.0 goes.2))
-
-  removed_two : (d : Bool) (new : StoreTold) → Goes failing (RemovedFile name true ∷ SettledFiles d ∷ []) old new → KeepsR new
-  removed_two d new goes =
-      let second = goes.3 in
-      subst KeepsR (sym second.3) (gone_settled goes.0 (leavesR (RemovedFile name true) old.files goes.0 goes.2) d second.0 (leavesR (SettledFiles d) goes.0 second.0 second.2))
-
-  removed_new : (new : StoreTold) → Goes failing (remove_calls name) old new → IsLeft name None new
-  removed_new new goes =
-      let second = goes.3 in
-      subst (IsLeft name None) (sym second.3) (gone_new goes.0 (leavesR (RemovedFile name true) old.files goes.0 goes.2) second.0 (leavesR (SettledFiles true) goes.0 second.0 second.2))
-
-  removed_within : (made : ℕ) (new : StoreTold) → Goes failing (take made (remove_calls name)) old new → KeepsR new
-  removed_within zero new goes = removes_none new goes
-  removed_within (suc zero) new goes = removed_one true new goes
-  removed_within (suc (suc zero)) new goes = removed_two true new goes
-  removed_within (suc (suc (suc more))) new goes = removed_two true new goes
-
-  removed_failed : (failed : SaveStep) (new : StoreTold) → Goes failing (remove_calls_to name failed) old new → KeepsR new
-  removed_failed step.Remove new goes = removed_one false new goes
-  removed_failed step.Settle new goes = removed_two false new goes
-  removed_failed step.Write new goes = removes_none new goes
-  removed_failed step.Sync new goes = removes_none new goes
-  removed_failed step.Rename new goes = removes_none new goes
-  removed_failed step.List new goes = removes_none new goes
+    removed_alone : Goes failing (remove_calls name) before after → IsLeft name None after
+    removed_alone goes =
+        let second = goes.2 in
+        let one : StoreTold = store_answered (RemovedFile name true) goes.0 before in
+        let leaves = leaves_files failing (RemovedFile name true) before.files goes.0 goes.1.leaves in
+        subst (IsLeft name None) (sym second.2)
+        (settled_alone name one second.0 None
+        (ap (λ (f : ChangedFile). f.unsynced) (removed_here name before (left_of name before) refl name true goes.0 (name_itself name)))
+        (ap (file_at name) (done_files (RemovedFile name true) before.files goes.0 refl leaves) ∙ file_gone name before.files sound.files_in_order)
+        (leaves_files failing (SettledFiles true) goes.0 second.0 second.1.leaves))
 
 pub removing_whole : RemovingIsWhole
 removing_whole failing name before after sound = record {
-  within = λ made goes. removed_within name before sound failing made after goes;
-  failed = λ failed goes. removed_failed name before sound failing failed after goes;
-  done = λ goes. removed_new name before sound failing after goes;
+  within = removing_keeps name failing before after sound (remove_calls name) (removal_settled name true);
+  failed = λ failed goes. all_removed name failing before after sound (remove_calls_to name failed) (removed_to name failed) goes;
+  done = removed_alone name failing before after sound;
 }
 
--- ---- clearing
+-- ---- whatever a call of the three answers
 
-same_files : (call : StoreCall) (before files : List StoreFile) → files_by call before ≡ before → LeavesFiles call before files → files ≡ before
-same_files call before files same (inl is) = is ∙ same
-same_files call before files same (inr kept) = kept.1
+pub whole_in_turn : (failing : Option StoreFails) (names : List (List ℕ)) (calls : List StoreCall) (old new : Option StoreTold) → AreInTurn names calls Idle → Answered failing calls old new
+    → LeavesWhole failing names old new
+whole_in_turn failing names calls old new turn answered = record { calls = calls; answered = answered; whole = by old }
+  where
+    by : (told : Option StoreTold) → IfSome told (λ before. StayWhole failing names calls before)
+    by None = tt
+    by (Some before) = stay_whole failing names calls before turn
+
+pub saves_whole : {T : Type 0} (failing : Option StoreFails) (name bytes : List ℕ) (old new : Option StoreTold) (result : Result T SaveFault) → Saves failing name bytes old new result
+    → LeavesWhole failing (name ∷ []) old new
+saves_whole failing name bytes old new (Ok x) saves = whole_in_turn failing (name ∷ []) (save_calls name bytes) old new (settled name bytes true).turn saves
+saves_whole failing name bytes old new (Err (Failed failed)) saves =
+    whole_in_turn failing (name ∷ []) (save_calls_to name bytes failed) old new (saved_to name bytes failed).turn saves.1
+saves_whole failing name bytes old new (Err NoMemory) saves =
+    whole_in_turn failing (name ∷ []) (take saves.0 (save_calls name bytes)) old new
+    (front_in_turn (name ∷ []) (save_calls name bytes) Idle saves.0 (settled name bytes true).turn) saves.2
+
+pub removes_whole : {T : Type 0} (failing : Option StoreFails) (name : List ℕ) (old new : Option StoreTold) (result : Result T SaveFault) → Removes failing name old new result
+    → LeavesWhole failing (name ∷ []) old new
+removes_whole failing name old new (Ok x) removes = whole_in_turn failing (name ∷ []) (remove_calls name) old new (removal_settled name true).turn removes
+removes_whole failing name old new (Err (Failed failed)) removes =
+    whole_in_turn failing (name ∷ []) (remove_calls_to name failed) old new (removed_to name failed).turn removes.1
+removes_whole failing name old new (Err NoMemory) removes =
+    whole_in_turn failing (name ∷ []) (take removes.0 (remove_calls name)) old new
+    (front_in_turn (name ∷ []) (remove_calls name) Idle removes.0 (removal_settled name true).turn) removes.2
+
+-- ---- clearing
 
 not_aside : (name n : List ℕ) → is_aside name ≡ true → is_aside n ≡ false → is_name n name ≡ false
 not_aside name n here other = unlike_name n name (λ same. let bad : true ≡ false = sym here ∙ ap is_aside (sym same) ∙ other in cc)
 
-one_stays : (call : StoreCall) (told : StoreTold) (files : List StoreFile) (n : List ℕ) → IsSound told → IsOfAsides call → LeavesFiles call told.files files → is_aside n ≡ false
-    → Stays n told (store_answered call files told)
-one_stays (ListedAsides names) told files n sound of leaves other =
-    same_left n told (store_answered (ListedAsides names) files told) (ap (file_at n) (same_files (ListedAsides names) told.files files refl leaves)) (λ r. refl)
-one_stays (ReadFile name reading) told files n sound of leaves other =
-    same_left n told (store_answered (ReadFile name reading) files told) (ap (file_at n) (same_files (ReadFile name reading) told.files files refl leaves)) (λ r. refl)
-one_stays (RemovedFile name done) told files n sound of leaves other = remove_stays told sound name done files leaves n (not_aside name n of other)
-one_stays (SettledFiles done) told files n sound of leaves other = settle_stays told sound done files leaves n
-one_stays (WroteAside name bytes done) told files n sound of leaves other = absurd of
-one_stays (SyncedAside name done) told files n sound of leaves other = absurd of
-one_stays (RenamedAside name done) told files n sound of leaves other = absurd of
+aside_spares : (n : List ℕ) → is_aside n ≡ false → (call : StoreCall) → IsOfAsides call → Spares n call
+aside_spares n plain (ListedAsides names) of = (tt, refl)
+aside_spares n plain (ReadFile name reading) of = (tt, refl)
+aside_spares n plain (RemovedFile name done) of = (tt, not_aside name n of plain)
+aside_spares n plain (SettledFiles done) of = (tt, refl)
+aside_spares n plain (WroteAside name bytes done) of = absurd of
+aside_spares n plain (SyncedAside name done) of = absurd of
+aside_spares n plain (RenamedAside name done) of = absurd of
 
 pub others_stay : OthersStay
-others_stay failing before after sound [] name of goes other = λ left may. subst (λ (t : StoreTold). MayLeave t name left) goes may
-others_stay failing before after sound (call ∷ calls) name of goes other =
-    let leaves = leaves_files failing call before.files goes.0 goes.2 in
-    let next = store_answered call goes.0 before in
-    stays_then name before next after (one_stays call before goes.0 name sound of.0 leaves other)
-    (others_stay failing next after (sound_after before sound call goes.0 leaves) calls name of.1 goes.3 other)
+others_stay failing before after sound calls name of goes plain =
+    (spared_untouched failing name calls before after (all_map IsOfAsides (Spares name) (aside_spares name plain) calls of) sound (length calls)
+    (subst (λ (cs : List StoreCall). Goes failing cs before after) (sym (all_taken calls)) goes)).stays
 
 removals_of : (removed : List Cleared) → AllByRecursion (λ (cleared : Cleared). is_aside (string_bytes cleared.name) ≡ true) removed → AllByRecursion IsOfAsides (removal_calls removed)
 removals_of [] asides = tt
@@ -288,3 +289,72 @@ settling_of (Some done) = (tt, tt)
 pub clears_asides : (clearing : Clearing) → ClearsAsides clearing
 clears_asides clearing asides =
     (tt, all_join IsOfAsides (removal_calls clearing.removed.items) (settling_calls clearing.settled) (removals_of clearing.removed.items asides) (settling_of clearing.settled))
+
+-- ---- a clearing, whatever it answers
+
+removals_turn : (removed : List Cleared) (more : List StoreCall) → AllByRecursion (λ name. is_aside name ≡ true) (map (λ (cleared : Cleared). string_bytes cleared.name) removed)
+    → AreInTurn [] more Idle → AreInTurn [] (removal_calls removed ++ more) Idle
+removals_turn [] more asides turn = turn
+removals_turn (cleared ∷ removed) more asides turn =
+    λ _. (
+      (tt, ap (λ (b : Bool). b || false) asides.0),
+      subst (λ (b : Bool). AreInTurn [] (removal_calls removed ++ more) (cond b Idle (cond cleared.ok Put Idle))) (sym asides.0) (removals_turn removed more asides.1 turn),
+    )
+
+settling_turn : (settled : Option Bool) → AreInTurn [] (settling_calls settled) Idle
+settling_turn None = tt
+settling_turn (Some done) = λ _. (tt, tt)
+
+front_named : (removed rest : List (List ℕ)) → AllByRecursion (λ name. is_aside name ≡ true) (removed ++ rest) → AllByRecursion (λ name. is_aside name ≡ true) removed
+front_named [] rest all = tt
+front_named (name ∷ removed) rest all = (all.0, front_named removed rest all.1)
+
+-- a listing, removals of some of what it named, and maybe a settling
+clearing_turn : (names : List (List ℕ)) (removed : List Cleared) (rest : List (List ℕ)) (settled : Option Bool) → map (λ (cleared : Cleared). string_bytes cleared.name) removed ++ rest ≡ names
+    → AreInTurn [] (listing_calls names ++ (removal_calls removed ++ settling_calls settled)) Idle
+clearing_turn names removed rest settled named =
+    λ asides. (
+      tt,
+      removals_turn removed (settling_calls settled)
+          (front_named (map (λ (cleared : Cleared). string_bytes cleared.name) removed) rest (subst (λ (ns : List (List ℕ)). AllByRecursion (λ name. is_aside name ≡ true) ns) (sym named) asides))
+          (settling_turn settled),
+    )
+
+pub refused_whole : (failing : Option StoreFails) (old new : Option StoreTold) (fault : SaveFault) → BeginsListing failing old new fault → LeavesWhole failing [] old new
+refused_whole failing old new (Failed call) begun = whole_in_turn failing [] (ListedAsides None ∷ []) old new (λ _. (tt, tt)) begun
+refused_whole failing old new NoMemory same = whole_in_turn failing [] [] old new tt (by old same)
+  where
+    by : (told : Option StoreTold) → new ≡ told → Answered failing [] told new
+    by None is = is
+    by (Some t) is = (t, is, refl)
+
+-- removals that were begun, and no more
+pub begun_whole : (failing now : Option StoreFails) (names : List (String Global)) (old listed new : Option StoreTold) → now ≡ failing
+    → Answered failing (listing_calls (map string_bytes names)) old listed → BeginsRemovals now names listed new → LeavesWhole failing [] old new
+begun_whole failing now names old listed new same first begun =
+    let named : map (λ (cleared : Cleared). string_bytes cleared.name) begun.removed ++ map string_bytes begun.rest ≡ map string_bytes names =
+    ap (λ (ns : List (List ℕ)). ns ++ map string_bytes begun.rest) (named_bytes begun.removed (map (λ (c : Cleared). c.name) begun.removed) refl)
+    ∙ sym (map-append string_bytes (map (λ (c : Cleared). c.name) begun.removed) begun.rest) ∙ ap (map string_bytes) begun.named in
+    whole_in_turn failing [] (listing_calls (map string_bytes names) ++ removal_calls begun.removed) old new
+    (subst (λ (cs : List StoreCall). AreInTurn [] (listing_calls (map string_bytes names) ++ cs) Idle) (append-nil (removal_calls begun.removed))
+    (clearing_turn (map string_bytes names) begun.removed (map string_bytes begun.rest) None named))
+    (answered_more failing now (listing_calls (map string_bytes names)) (removal_calls begun.removed) old listed new same first begun.answered)
+
+-- all removals, and no settling
+pub settling_whole : (failing now : Option StoreFails) (removed : List Cleared) (names : List (String Global)) (old listed cleared new : Option StoreTold) → now ≡ failing
+    → map (λ (c : Cleared). c.name) removed ≡ names → Answered failing (listing_calls (map string_bytes names)) old listed → Answered now (removal_calls removed) listed cleared
+    → new ≡ cleared → LeavesWhole failing [] old new
+settling_whole failing now removed names old listed cleared new same named first later stays =
+    begun_whole failing now names old listed new same first (record {
+      removed = removed;
+      rest = [];
+      named = append-nil (map (λ (c : Cleared). c.name) removed) ∙ named;
+      answered = subst (λ (n : Option StoreTold). Answered now (removal_calls removed) listed n) (sym stays) later;
+    })
+
+pub clears_whole : (failing : Option StoreFails) (old new : Option StoreTold) (result : Result Clearing SaveFault) → IfOk result (λ clearing. Answered failing (cleared_calls clearing) old new)
+    → IfErr result (λ _. LeavesWhole failing [] old new) → LeavesWhole failing [] old new
+clears_whole failing old new (Ok clearing) answered begun =
+    let names : List (List ℕ) = map (λ (c : Cleared). string_bytes c.name) clearing.removed.items in
+    whole_in_turn failing [] (cleared_calls clearing) old new (clearing_turn names clearing.removed.items [] clearing.settled (append-nil names)) answered
+clears_whole failing old new (Err fault) answered begun = begun

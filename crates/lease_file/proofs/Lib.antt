@@ -2,5 +2,4 @@ pub mod CallLists
 pub mod Readings
 pub mod Removals
 pub mod StepLaws
-pub mod LeftFiles
 pub mod CrashLaws

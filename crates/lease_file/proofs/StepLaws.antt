@@ -1,30 +1,21 @@
 -- Calls of a store one after another.
-use Rattle.std.proofs.Common.{◌≡◌, ◌<◌, ℕ, Bool, false, List, [], ◌∷◌, ◌++◌, Option, Some, None, Result, Err, refl, ap, ◌∙◌, sym, subst, take, map}
+use Rattle.std.proofs.Common.{◌≡◌, ◌<◌, ℕ, Bool, false, List, [], ◌∷◌, ◌++◌, Option, Result, Ok, Err, refl, ap, ◌∙◌, sym, subst, take, map, String}
+use Rattle.std.specs.Prelude.{IfErr}
+use Rattle.std.specs.Global.{Global}
 use Rattle.std.specs.String.{string_bytes}
 use Rattle.std.proofs.lemmas.List.{map-append}
 use Rattle.world.specs.StoreFails.{StoreFails}
-use Rattle.world.specs.StoreCalls.{StoreCall, RemovedFile, SettledFiles, StoreTold, store_answered}
+use Rattle.world.specs.StoreCalls.{StoreCall, RemovedFile, SettledFiles, StoreTold}
+use Rattle.file_choices.specs.StoreWalks.{Answered}
+use Rattle.file_choices.proofs.Walking.{answered_more}
 use Rattle.lease_file.specs.declared.clearing.Cleared.{Cleared}
 use Rattle.lease_file.specs.declared.faults.SaveStep.{SaveStep}
 use Rattle.lease_file.specs.declared.faults.SaveFault.{SaveFault}
 use Rattle.lease_file.specs.declared.faults.SaveFault.TheVariants.{Failed, NoMemory}
-use Rattle.lease_file.specs.AsideCalls.{listing_calls, removal_calls}
-use Rattle.lease_file.specs.StoreAnswers.{Goes, Answered, Steps}
+use Rattle.lease_file.specs.AsideCalls.{listing_calls, removal_calls, BeginsRemovals}
+use Rattle.lease_file.proofs.Removals.{names_of, names_more}
+use Rattle.lease_file.specs.StoreAnswers.{Steps}
 use Rattle.lease_file.specs.Saving.{IsOfSaving, Saves, save_calls, save_calls_to}
-
-goes_more : (failing : Option StoreFails) (calls more : List StoreCall) (old mid new : StoreTold) → Goes failing calls old mid
-    → Goes failing more mid new → Goes failing (calls ++ more) old new
-goes_more failing [] more old mid new before here = subst (λ (m : StoreTold). Goes failing more m new) before here
-goes_more failing (call ∷ calls) more old mid new before here =
-    (before.0, before.1, before.2, goes_more failing calls more (store_answered call before.0 old) mid new before.3 here)
-
-pub answered_more : (failing now : Option StoreFails) (calls more : List StoreCall) (old mid new : Option StoreTold) → now ≡ failing
-    → Answered failing calls old mid → Answered now more mid new → Answered failing (calls ++ more) old new
-answered_more failing now calls more None mid new same before here = subst (λ (m : Option StoreTold). Answered now more m new) before here
-answered_more failing now calls more (Some old) mid new same before here =
-    let then = subst (λ (f : Option StoreFails). Answered f more mid new) same here in
-    let at : Answered failing more (Some before.0) new = subst (λ (m : Option StoreTold). Answered failing more m new) before.1 then in
-    (at.0, at.1, goes_more failing calls more old before.0 at.0 before.2 at.2)
 
 -- a saving of which so many calls were done, and the next one wasn't
 pub record Stops (name bytes : List ℕ) (step : SaveStep) (call : Bool → StoreCall) (done : List StoreCall) : Type 0 where
@@ -79,3 +70,31 @@ cleared_answered failing at_removals at_settling removed names settled old liste
     let removals = subst (λ (f : Option StoreFails). Answered f (removal_calls removed) listed cleared) first b in
     answered_more failing failing (listing_calls (map (λ (c : Cleared). string_bytes c.name) removed)) (removal_calls removed ++ SettledFiles settled ∷ []) old listed new refl from_listing
     (answered_more failing at_settling (removal_calls removed) (SettledFiles settled ∷ []) listed cleared new second removals c)
+
+-- ---- a clearing for which memory ran out
+
+-- no more was removed
+pub begins_none : (failing : Option StoreFails) (removed : List Cleared) (rest names : List (String Global)) (old mid new : Option StoreTold) → names_of removed ++ rest ≡ names
+    → Answered failing (removal_calls removed) old mid → new ≡ mid → BeginsRemovals failing names old new
+begins_none failing removed rest names old mid new named before same = record {
+  removed = removed;
+  rest = rest;
+  named = named;
+  answered = subst (λ (m : Option StoreTold). Answered failing (removal_calls removed) old m) (sym same) before;
+}
+
+-- one more was
+pub begins_more : (failing now : Option StoreFails) (removed : List Cleared) (one : Cleared) (name : List ℕ) (left rest names : List (String Global)) (old mid new : Option StoreTold)
+    → now ≡ failing → name ≡ string_bytes one.name → left ≡ one.name ∷ rest → names_of removed ++ left ≡ names → Answered failing (removal_calls removed) old mid
+    → Answered now (RemovedFile name one.ok ∷ []) mid new → BeginsRemovals failing names old new
+begins_more failing now removed one name left rest names old mid new same called next named before here = record {
+  removed = removed ++ one ∷ [];
+  rest = rest;
+  named = names_more removed (removed ++ one ∷ []) one left rest names refl next named;
+  answered = removal_more failing now removed (removed ++ one ∷ []) one name old mid new same called refl before here;
+}
+
+-- what holds whatever the error is
+pub if_err : {T E : Type 0} (X : Type 0) (result : Result T E) → X → IfErr result (λ _. X)
+if_err X (Ok v) x = tt
+if_err X (Err e) x = x

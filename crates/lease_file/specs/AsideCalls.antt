@@ -1,9 +1,11 @@
 -- Clearing the asides of a store: a listing, a removal of each, and a settling where there was one.
-use Rattle.std.specs.Prelude.{ℕ, Bool, true, false, not, ◌||◌, ◌≡◌, ◌<◌, List, [], ◌∷◌, ◌++◌, map, Option, Some, None, Result, Ok, Err}
+use Rattle.std.specs.Prelude.{ℕ, Bool, true, false, not, ◌||◌, ◌≡◌, ◌<◌, List, [], ◌∷◌, ◌++◌, map, Option, Some, None, Result, Ok, Err, String}
+use Rattle.std.specs.Global.{Global}
 use Rattle.std.specs.List.{list_any}
 use Rattle.std.specs.String.{string_bytes}
 use Rattle.world.specs.StoreFails.{StoreFails, fails_at}
 use Rattle.world.specs.StoreCalls.{StoreTold, StoreCall, ListedAsides, RemovedFile, SettledFiles}
+use Rattle.file_choices.specs.StoreWalks.{Answered}
 use Rattle.lease_file.specs.ToldStore.{told_files, told_calls, with_calls}
 use Rattle.lease_file.specs.declared.clearing.Cleared.{Cleared}
 use Rattle.lease_file.specs.declared.clearing.Clearing.{Clearing}
@@ -73,3 +75,17 @@ abbrev pub TellsRefusal : {T : Type 0} → Option StoreTold → Option StoreTold
 TellsRefusal old new (Ok x) = Unit {0}
 TellsRefusal old new (Err (Failed call)) = (told_calls new ≡ with_calls (ListedAsides None ∷ []) (told_calls old)) × (told_files new ≡ told_files old)
 TellsRefusal old new (Err NoMemory) = Unit {0}
+
+-- ---- where memory ran out, or the listing failed
+
+-- the listing failed, or wasn't made
+abbrev pub BeginsListing : Option StoreFails → Option StoreTold → Option StoreTold → SaveFault → Type 0
+BeginsListing failing old new (Failed call) = Answered failing (ListedAsides None ∷ []) old new
+BeginsListing failing old new NoMemory = new ≡ old
+
+-- some of these were removed, or tried, in their order
+pub record BeginsRemovals (failing : Option StoreFails) (names : List (String Global)) (old new : Option StoreTold) : Type 0 where
+  pub removed : List Cleared
+  pub rest : List (String Global)
+  pub named : map (λ cleared. cleared.name) removed ++ rest ≡ names
+  pub answered : Answered failing (removal_calls removed) old new

@@ -2,11 +2,11 @@
 use Rattle.std.specs.Prelude.{ℕ, ◌<◌, true, false, List, [], ◌∷◌, length, take, Option, Result, Ok, Err}
 use Rattle.world.specs.StoreFails.{StoreFails}
 use Rattle.world.specs.StoreCalls.{StoreCall, StoreTold, WroteAside, SyncedAside, RenamedAside, RemovedFile, SettledFiles}
+use Rattle.file_choices.specs.StoreWalks.{Answered}
 use Rattle.lease_file.specs.declared.faults.SaveStep.{SaveStep}
 use Rattle.lease_file.specs.declared.faults.SaveStep.TheVariants as step
 use Rattle.lease_file.specs.declared.faults.SaveFault.{SaveFault}
 use Rattle.lease_file.specs.declared.faults.SaveFault.TheVariants.{Failed, NoMemory}
-use Rattle.lease_file.specs.StoreAnswers.{Answered}
 
 -- the new bytes are written aside and synced, and then they are put in the file's place
 abbrev pub save_calls : (name bytes : List ℕ) → List StoreCall

@@ -3,24 +3,16 @@ use Rattle.std.specs.Prelude.{ℕ, ◌≡◌, ◌⊎◌, true, false, List, take
 use Rattle.std.specs.List.{AllByRecursion}
 use Rattle.std.specs.String.{string_bytes}
 use Rattle.world.specs.FileNames.{aside_of, is_name}
-use Rattle.world.specs.FileLists.{is_aside, file_at}
-use Rattle.world.specs.CrashImages.{changed_file, MayBe}
+use Rattle.world.specs.FileLists.{is_aside}
 use Rattle.world.specs.StoreFails.{StoreFails}
 use Rattle.world.specs.StoreCalls.{StoreTold, StoreCall, ListedAsides, ReadFile, WroteAside, SyncedAside, RenamedAside, RemovedFile, SettledFiles}
+use Rattle.file_choices.specs.StoreWalks.{Goes}
+use Rattle.file_choices.specs.LeftWhole.{MayLeave, Stays}
 use Rattle.lease_file.specs.declared.clearing.Cleared.{Cleared}
 use Rattle.lease_file.specs.declared.clearing.Clearing.{Clearing}
 use Rattle.lease_file.specs.declared.faults.SaveStep.{SaveStep}
 use Rattle.lease_file.specs.AsideCalls.{cleared_calls}
-use Rattle.lease_file.specs.StoreAnswers.{Goes}
 use Rattle.lease_file.specs.Saving.{save_calls, save_calls_to, remove_calls, remove_calls_to}
-
--- A crash may leave this content of a file; nothing stands for no such file. An image has one of these for each name.
-abbrev pub MayLeave : StoreTold → (name : List ℕ) → (content : Option (List ℕ)) → Type 0
-MayLeave told name content = MayBe (changed_file name (file_at name told.files) told.disk) content
-
--- a file of which a crash leaves nothing that it might not have left before
-abbrev pub Stays : (name : List ℕ) → StoreTold → StoreTold → Type 0
-Stays name before after = (left : Option (List ℕ)) → MayLeave after name left → MayLeave before name left
 
 -- a file of which a crash leaves what it might have left before or the new content, and nothing else
 abbrev pub StaysOrBecomes : (name : List ℕ) → (content : Option (List ℕ)) → StoreTold → StoreTold → Type 0

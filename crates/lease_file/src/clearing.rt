@@ -1,4 +1,4 @@
-ghost use Rattle.std.specs.Prelude.{◌≡◌, ◌≤◌, ◌<◌, [], ◌∷◌, true, false, None, Some, IfOk, IfSome, IsSome, map, option_map};
+ghost use Rattle.std.specs.Prelude.{◌≡◌, ◌≤◌, ◌<◌, [], ◌∷◌, true, false, None, Some, IfErr, IfOk, IfSome, IsSome, map, option_map};
 ghost use Rattle.std.specs.List.{AllByRecursion};
 ghost use Rattle.std.specs.String.{string_bytes};
 ghost use Rattle.world.specs.FileNames.{IsFileName};
@@ -6,8 +6,9 @@ ghost use Rattle.world.specs.StoreCalls.{store_number, RemovedFile, SettledFiles
 ghost use Rattle.world.specs.FileLists.{asides};
 ghost use Rattle.lease_file.specs.Quiet.{IsQuiet};
 ghost use Rattle.lease_file.specs.ToldStore.{told_files, told_calls, with_calls};
-ghost use Rattle.lease_file.specs.AsideCalls.{HasListingCause, HasClearingCause, IsListingForetold, TellsRefusal, SettlesIfAny, FailsNothing, ClearsNothing, any_left, removal_calls, cleared_calls, listing_calls};
-ghost use Rattle.lease_file.specs.StoreAnswers.{Answered};
+ghost use Rattle.lease_file.specs.AsideCalls.{BeginsListing, BeginsRemovals, HasListingCause, HasClearingCause, IsListingForetold, TellsRefusal, SettlesIfAny, FailsNothing, ClearsNothing, any_left, removal_calls, cleared_calls, listing_calls};
+ghost use Rattle.file_choices.specs.LeftWhole.{LeavesWhole};
+ghost use Rattle.file_choices.specs.StoreWalks.{Answered};
 ghost use Rattle.lease_file.specs.AsideFiles.{without_one, without, TakesFile, TakesFiles};
 
 use crate::faults::{SaveFault, SaveStep};
@@ -41,6 +42,7 @@ fn list_asides<S: Store>(alloc: Global, store: &mut S) -> Result<Vec<String>, Sa
     ensures calls { IfOk result (λ names. told_calls (S.told store.new) ≡ with_calls (listing_calls (map string_bytes names.items)) (told_calls (S.told store.old))) }
     ensures files { told_files (S.told store.new) ≡ told_files (S.told store.old) }
     ensures answered { IfOk result (λ names. Answered (S.failing store.old) (listing_calls (map string_bytes names.items)) (S.told store.old) (S.told store.new)) }
+    ensures begun { IfErr result (λ fault. BeginsListing (S.failing store.old) (S.told store.old) (S.told store.new) fault) }
 {
     let mut names = Vec::new(alloc);
     match store.list_asides(&mut names) {
@@ -59,6 +61,7 @@ fn remove_aside<S: Store>(store: &mut S, name: &str) -> Result<bool, NoMemory>
     ensures taken { IfOk result (λ done. TakesFile (S.failing store.old) done name.now (told_files (S.told store.old)) (told_files (S.told store.new))) }
     ensures files { IfOk result (λ done. IsSome (S.failing store.old) → told_files (S.told store.new) ≡ option_map (without_one done name.now) (told_files (S.told store.old))) }
     ensures answered { IfOk result (λ done. Answered (S.failing store.old) (RemovedFile name.now done ∷ []) (S.told store.old) (S.told store.new)) }
+    ensures begun { IfErr result (λ _. S.told store.new ≡ S.told store.old) }
 {
     match store.remove(name) {
         Ok(()) => Ok(true),
@@ -81,6 +84,7 @@ fn remove_asides<S: Store>(
     ensures taken { IfOk result (λ removed. TakesFiles (S.failing store.old) removed.items (told_files (S.told store.old)) (told_files (S.told store.new))) }
     ensures files { IfOk result (λ removed. IsSome (S.failing store.old) → told_files (S.told store.new) ≡ option_map (without removed.items) (told_files (S.told store.old))) }
     ensures answered { IfOk result (λ removed. Answered (S.failing store.old) (removal_calls removed.items) (S.told store.old) (S.told store.new)) }
+    ensures begun { IfErr result (λ _. BeginsRemovals (S.failing store.old) names.items (S.told store.old) (S.told store.new)) }
 {
     let mut removed = Vec::new(alloc);
     for name in names {
@@ -97,6 +101,7 @@ fn settle<S: Store>(store: &mut S) -> Result<bool, NoMemory>
     ensures calls { IfOk result (λ done. told_calls (S.told store.new) ≡ with_calls (SettledFiles done ∷ []) (told_calls (S.told store.old))) }
     ensures files { told_files (S.told store.new) ≡ told_files (S.told store.old) }
     ensures answered { IfOk result (λ done. Answered (S.failing store.old) (SettledFiles done ∷ []) (S.told store.old) (S.told store.new)) }
+    ensures begun { IfErr result (λ _. S.told store.new ≡ S.told store.old) }
 {
     match store.settle() {
         Ok(()) => Ok(true),
@@ -105,9 +110,7 @@ fn settle<S: Store>(store: &mut S) -> Result<bool, NoMemory>
     }
 }
 
-/// Removes all asides, and settles that unless there was none. After a failed removal the rest is still removed.
-/// `Failed` comes of the listing alone.
-pub fn clear_asides<S: Store>(alloc: Global, store: &mut S) -> Result<Clearing, SaveFault>
+fn clear_steps<S: Store>(alloc: Global, store: &mut S) -> Result<Clearing, SaveFault>
     ensures later { S.faults store.old ≤ S.faults store.new }
     ensures failing { S.failing store.new ≡ S.failing store.old }
     ensures cause { HasClearingCause (S.faults store.old) (S.faults store.new) result }
@@ -120,6 +123,7 @@ pub fn clear_asides<S: Store>(alloc: Global, store: &mut S) -> Result<Clearing, 
     ensures taken { IfOk result (λ clearing. TakesFiles (S.failing store.old) clearing.removed.items (told_files (S.told store.old)) (told_files (S.told store.new))) }
     ensures files { IfOk result (λ clearing. IsSome (S.failing store.old) → told_files (S.told store.new) ≡ option_map (without clearing.removed.items) (told_files (S.told store.old))) }
     ensures answered { IfOk result (λ clearing. Answered (S.failing store.old) (cleared_calls clearing) (S.told store.old) (S.told store.new)) }
+    ensures begun { IfErr result (λ _. LeavesWhole (S.failing store.old) [] (S.told store.old) (S.told store.new)) }
 {
     let names = list_asides(alloc, store)?;
     if names.is_empty() {
@@ -134,4 +138,25 @@ pub fn clear_asides<S: Store>(alloc: Global, store: &mut S) -> Result<Clearing, 
         removed,
         settled: Some(settled),
     })
+}
+
+/// Removes all asides, and settles that unless there was none. After a failed removal the rest is still removed.
+/// `Failed` comes of the listing alone. At each moment, whatever it answers, a crash leaves of each file that is no aside one of
+/// its choices since the entry, and none of them was changed.
+pub fn clear_asides<S: Store>(alloc: Global, store: &mut S) -> Result<Clearing, SaveFault>
+    ensures later { S.faults store.old ≤ S.faults store.new }
+    ensures failing { S.failing store.new ≡ S.failing store.old }
+    ensures cause { HasClearingCause (S.faults store.old) (S.faults store.new) result }
+    ensures foretold { IsListingForetold (S.failing store.old) (store_number (S.told store.old)) result }
+    ensures refused { TellsRefusal (S.told store.old) (S.told store.new) result }
+    ensures settled { IfOk result (λ clearing. SettlesIfAny clearing.removed.items clearing.settled) }
+    ensures quiet { IsQuiet (S.failing store.old) (S.told store.old) → IfOk result ClearsNothing × IsQuiet (S.failing store.new) (S.told store.new) × FailsNothing result }
+    ensures names { IfOk result (λ clearing. IfSome (S.told store.old) (λ told. map (λ cleared. string_bytes cleared.name) clearing.removed.items ≡ asides told.files)) }
+    ensures calls { IfOk result (λ clearing. told_calls (S.told store.new) ≡ with_calls (cleared_calls clearing) (told_calls (S.told store.old))) }
+    ensures taken { IfOk result (λ clearing. TakesFiles (S.failing store.old) clearing.removed.items (told_files (S.told store.old)) (told_files (S.told store.new))) }
+    ensures files { IfOk result (λ clearing. IsSome (S.failing store.old) → told_files (S.told store.new) ≡ option_map (without clearing.removed.items) (told_files (S.told store.old))) }
+    ensures answered { IfOk result (λ clearing. Answered (S.failing store.old) (cleared_calls clearing) (S.told store.old) (S.told store.new)) }
+    ensures whole { LeavesWhole (S.failing store.old) [] (S.told store.old) (S.told store.new) }
+{
+    clear_steps(alloc, store)
 }

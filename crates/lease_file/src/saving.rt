@@ -1,8 +1,9 @@
 //! Saving and removing a file, so that a crash at any moment leaves it whole.
 
-ghost use Rattle.std.specs.Prelude.{◌≡◌, ◌≤◌};
+ghost use Rattle.std.specs.Prelude.{◌≡◌, ◌≤◌, [], ◌∷◌};
 ghost use Rattle.world.specs.FileNames.{IsFileName};
 ghost use Rattle.world.specs.StoreCalls.{WroteAside, SyncedAside, RenamedAside, RemovedFile, SettledFiles};
+ghost use Rattle.file_choices.specs.LeftWhole.{LeavesWhole};
 ghost use Rattle.lease_file.specs.StoreAnswers.{Steps, HasStepCause};
 ghost use Rattle.lease_file.specs.Saving.{Saves, Removes};
 
@@ -78,9 +79,7 @@ fn settle<S: Store>(store: &mut S) -> Result<(), SaveFault>
     }
 }
 
-/// Saves a file: its bytes are written aside and synced, put in its place, and settled. The first call that isn't done
-/// ends it. `saved_files_are_whole` says what a crash may leave.
-pub fn save<S: Store>(store: &mut S, name: &str, bytes: &[u8]) -> Result<(), SaveFault>
+fn save_steps<S: Store>(store: &mut S, name: &str, bytes: &[u8]) -> Result<(), SaveFault>
     requires { IsFileName name.now }
     ensures later { S.faults store.old ≤ S.faults store.new }
     ensures failing { S.failing store.new ≡ S.failing store.old }
@@ -94,8 +93,20 @@ pub fn save<S: Store>(store: &mut S, name: &str, bytes: &[u8]) -> Result<(), Sav
     Ok(())
 }
 
-/// Removes a file, where there is one, and settles that. The first call that isn't done ends it.
-pub fn remove<S: Store>(store: &mut S, name: &str) -> Result<(), SaveFault>
+/// Saves a file: its bytes are written aside and synced, put in its place, and settled. The first call that isn't done
+/// ends it. At each moment, whatever it answers, a crash leaves of each file one of its choices since the entry.
+pub fn save<S: Store>(store: &mut S, name: &str, bytes: &[u8]) -> Result<(), SaveFault>
+    requires { IsFileName name.now }
+    ensures later { S.faults store.old ≤ S.faults store.new }
+    ensures failing { S.failing store.new ≡ S.failing store.old }
+    ensures cause { HasStepCause (S.faults store.old) (S.faults store.new) result }
+    ensures calls { Saves (S.failing store.old) name.now bytes.now (S.told store.old) (S.told store.new) result }
+    ensures whole { LeavesWhole (S.failing store.old) (name.now ∷ []) (S.told store.old) (S.told store.new) }
+{
+    save_steps(store, name, bytes)
+}
+
+fn remove_steps<S: Store>(store: &mut S, name: &str) -> Result<(), SaveFault>
     requires { IsFileName name.now }
     ensures later { S.faults store.old ≤ S.faults store.new }
     ensures failing { S.failing store.new ≡ S.failing store.old }
@@ -105,4 +116,17 @@ pub fn remove<S: Store>(store: &mut S, name: &str) -> Result<(), SaveFault>
     take_away(store, name)?;
     settle(store)?;
     Ok(())
+}
+
+/// Removes a file, where there is one, and settles that. The first call that isn't done ends it. At each moment, whatever it
+/// answers, a crash leaves of each file one of its choices since the entry.
+pub fn remove<S: Store>(store: &mut S, name: &str) -> Result<(), SaveFault>
+    requires { IsFileName name.now }
+    ensures later { S.faults store.old ≤ S.faults store.new }
+    ensures failing { S.failing store.new ≡ S.failing store.old }
+    ensures cause { HasStepCause (S.faults store.old) (S.faults store.new) result }
+    ensures calls { Removes (S.failing store.old) name.now (S.told store.old) (S.told store.new) result }
+    ensures whole { LeavesWhole (S.failing store.old) (name.now ∷ []) (S.told store.old) (S.told store.new) }
+{
+    remove_steps(store, name)
 }

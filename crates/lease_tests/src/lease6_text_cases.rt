@@ -24,6 +24,77 @@ fn a_lease_is_printed_as_it_was_read(rt: HostRuntime) -> Result<(), Fail> {
     Ok(())
 }
 
+/// The same with the origin, by its lines.
+const ORIGIN: [&str; 12] = [
+    "dhcpcd-lease6 2\n",
+    "interface eth0\n",
+    "mac 02:00:00:00:00:01\n",
+    "confirmed 5000\n",
+    "server 00030001020000000002\n",
+    "t1 1505000\n",
+    "t2 2405000\n",
+    "ia na 1\n",
+    "addr 2001:db8::5 3005000 6005000\n",
+    "ia pd 2\n",
+    "prefix 2001:db8:1::/56 never never\n",
+    "end\n",
+];
+
+#[test]
+fn a_lease_with_its_origin_is_printed_as_it_was_read(rt: HostRuntime) -> Result<(), Fail> {
+    let alloc = rt.alloc();
+    let mut text = Vec::new(alloc);
+    for (before, line) in ORIGIN.iter().enumerate() {
+        match read_lease6(alloc, &text) {
+            Err(TextFault::Bad { line, .. }) => assert_eq!(rt; line, before + 1),
+            _ => return Err("a text that ends early was read".into()),
+        }
+        text.extend_from_slice(line.as_bytes())?;
+    }
+    let lease = read_lease6(alloc, &text)?;
+    assert_eq!(rt; lease.origin.map(|origin| origin.confirmed), Some(5_000));
+    assert_eq!(rt; print6(alloc, &lease)?.as_slice(), text.as_slice());
+    Ok(())
+}
+
+#[test]
+fn a_bad_origin_is_told(rt: HostRuntime) -> Result<(), Fail> {
+    let alloc = rt.alloc();
+    for (text, bad) in [
+        // a third version
+        ("dhcpcd-lease6 3\n", 1),
+        // an origin in the first version, and none in the second
+        (
+            "dhcpcd-lease6 1\ninterface eth0\nmac 02:00:00:00:00:01\n",
+            3,
+        ),
+        ("dhcpcd-lease6 2\ninterface eth0\nserver 0003\n", 3),
+        // no moment, two hardware addresses, and moments that are too late, or never
+        (
+            "dhcpcd-lease6 2\ninterface eth0\nmac 02:00:00:00:00:01\nserver 0003\n",
+            4,
+        ),
+        (
+            "dhcpcd-lease6 2\ninterface eth0\nmac 02:00:00:00:00:01\nmac 02:00:00:00:00:01\n",
+            4,
+        ),
+        (
+            "dhcpcd-lease6 2\ninterface eth0\nmac 02:00:00:00:00:01\nconfirmed 1000000000000000\n",
+            4,
+        ),
+        (
+            "dhcpcd-lease6 2\ninterface eth0\nmac 02:00:00:00:00:01\nconfirmed never\n",
+            4,
+        ),
+    ] {
+        match read_lease6(alloc, text.as_bytes()) {
+            Err(TextFault::Bad { line, .. }) => assert_eq!(rt; line, bad),
+            _ => return Err("a bad text was read".into()),
+        }
+    }
+    Ok(())
+}
+
 /// The lines before those of the IAs.
 const HEAD: &str =
     "dhcpcd-lease6 1\ninterface eth0\nserver 00030001020000000002\nt1 never\nt2 never\n";

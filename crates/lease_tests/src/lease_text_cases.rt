@@ -1,18 +1,34 @@
-use lease_text::{is_host_address, is_kept, is_well_formed, print4, read_lease4};
-use net_types::{BadText, Ip4, TextFault};
+use lease_text::{Origin, is_host_address, is_kept, is_well_formed, print4, read_lease4};
+use net_types::{BadText, Ip4, Mac, TextFault};
 use std::test::*;
 
 const LEASE: &str =
     "dhcpcd-lease4 1\ninterface eth0\naddress 10.0.0.50/24\nserver 10.0.0.1\nservermac 02:00:00:00:00:fe\nfirst 100\nlease 3600\nt1 1800\nt2 3150\noption 3 0a000001\noption 6 0a000001\nend\n";
 
+/// The same lease with its origin.
+const SECOND: &str =
+    "dhcpcd-lease4 2\ninterface eth0\nmac 02:00:00:00:00:01\nconfirmed 200\naddress 10.0.0.50/24\nserver 10.0.0.1\nservermac 02:00:00:00:00:fe\nfirst 100\nlease 3600\nt1 1800\nt2 3150\noption 3 0a000001\noption 6 0a000001\nend\n";
+
 #[test]
 fn a_lease_is_printed_as_it_was_read(rt: HostRuntime) -> Result<(), Fail> {
-    let lease = read_lease4(rt.alloc(), LEASE.as_bytes())?;
-    assert_eq!(rt; (lease.terms().t2, lease.values.len()), (3150, 2));
-    let copy = lease.copied(rt.alloc())?;
-    assert_eq!(rt; print4(rt.alloc(), &copy)?.as_slice(), LEASE.as_bytes());
+    let origin = Origin {
+        mac: Mac {
+            bytes: [2, 0, 0, 0, 0, 1],
+        },
+        confirmed: 200,
+    };
+    for (text, told) in [(LEASE, None), (SECOND, Some(origin))] {
+        let lease = read_lease4(rt.alloc(), text.as_bytes())?;
+        assert_eq!(rt; (lease.terms().t2, lease.values.len()), (3150, 2));
+        assert_eq!(rt; lease.origin, told);
+        let copy = lease.copied(rt.alloc())?;
+        assert_eq!(rt; print4(rt.alloc(), &copy)?.as_slice(), text.as_bytes());
+    }
     Ok(())
 }
+
+/// The lines before those of an origin.
+const WHOSE: &str = "dhcpcd-lease4 2\ninterface eth0\n";
 
 /// The lines before the times, and times.
 const HEAD: &str =
@@ -25,7 +41,21 @@ fn the_first_bad_line_is_told(rt: HostRuntime) -> Result<(), Fail> {
     let alloc = rt.alloc();
     for (front, rest, bad) in [
         ("", "", 1),
-        ("dhcpcd-lease4 2\n", "", 1),
+        ("", "dhcpcd-lease4 3\n", 1),
+        // the origin: not told, told halfway, twice, too late, or where there is none
+        (WHOSE, "address 10.0.0.50/24\n", 3),
+        (WHOSE, "mac 02:00:00:00:00:01\naddress 10.0.0.50/24\n", 4),
+        (WHOSE, "mac 02:00:00:00:00:01\nmac 02:00:00:00:00:01\n", 4),
+        (
+            WHOSE,
+            "mac 02:00:00:00:00:01\nconfirmed 1000000000000000\n",
+            4,
+        ),
+        (
+            "dhcpcd-lease4 1\ninterface eth0\n",
+            "mac 02:00:00:00:00:01\n",
+            3,
+        ),
         (
             "dhcpcd-lease4 1\ninterface eth0\n",
             "address 224.0.0.1/24\n",

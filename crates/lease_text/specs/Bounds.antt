@@ -1,11 +1,12 @@
 -- The bounds within which a lease has a text.
-use Rattle.std.specs.Prelude.{◌≡◌, ℕ, ◌≤◌, ◌<◌, true, List, [], ◌∷◌, length}
+use Rattle.std.specs.Prelude.{◌≡◌, ℕ, ◌≤◌, ◌<◌, true, List, [], ◌∷◌, length, IfSome}
 use Rattle.std.specs.List.{AllByRecursion}
 use Rattle.net_types.specs.AddressText.{FitsIp4, FitsMac}
 use Rattle.net_types.specs.Marks.{AreBytes}
+use Rattle.net_types.specs.Moments.{IsMoment}
 use Rattle.net_types.specs.NameText.{FitsName}
 use Rattle.lease_text.specs.declared.lease.Terms4.{Terms4}
-use Rattle.lease_text.specs.declared.lease.TheConstants.{INFINITE_LEASE, LONGEST_PREFIX, MOMENT_LIMIT, VALUE_LIMIT}
+use Rattle.lease_text.specs.declared.lease.TheConstants.{INFINITE_LEASE, LONGEST_PREFIX, VALUE_LIMIT}
 use Rattle.lease_text.specs.Leases.{ValueContent, LeaseContent, terms_of, is_host_address}
 use Rattle.lease_text.specs.ValueForms.{is_kept, is_well_formed}
 
@@ -13,7 +14,8 @@ use Rattle.lease_text.specs.ValueForms.{is_kept, is_well_formed}
 pub record FitsTerms (terms : Terms4) : Type 0 where
   pub address : is_host_address terms.net.ip ≡ true
   pub len : terms.net.len ≤ LONGEST_PREFIX
-  pub first : terms.first < MOMENT_LIMIT
+  pub confirmed : IfSome terms.origin (λ origin. IsMoment origin.confirmed)
+  pub first : IsMoment terms.first
   pub lease : 1 ≤ terms.lease
   pub renews : terms.t1 ≤ terms.t2
   pub rebinds : terms.t2 ≤ terms.lease
@@ -41,6 +43,7 @@ pub record FitsLease (lease : LeaseContent) : Type 0 where
 
 -- its numbers and bytes are within the types that hold them, as those of every lease in memory are
 pub record IsTyped (lease : LeaseContent) : Type 0 where
+  pub origin : IfSome lease.origin (λ origin. FitsMac origin.mac)
   pub server : FitsIp4 lease.server
   pub server_mac : FitsMac lease.server_mac
   pub time : lease.lease ≤ INFINITE_LEASE

@@ -1,24 +1,27 @@
 -- How the lines of a lease's text are read: what each says, and which one comes next.
-use Rattle.std.specs.Prelude.{ℕ, ◌^◌, Bool, ◌&&◌, nat_le, nat_lt, ◌==◌, ◌≡◌, List, [], ◌∷◌, ◌++◌, length, map, replicate, take, Option, Some, None, option_map, if◌then◌else◌}
+use Rattle.std.specs.Prelude.{ℕ, ◌^◌, Bool, ◌&&◌, nat_le, nat_lt, ◌==◌, ◌≡◌, List, [], ◌∷◌, ◌++◌, length, map, replicate, take, Option, Some, None, is_some, true, option_map, if◌then◌else◌}
 use Rattle.net_types.specs.declared.fault.BadText.{BadText}
 use Rattle.net_types.specs.declared.interface.Name.{Name}
+use Rattle.net_types.specs.declared.address.Mac.{Mac}
 use Rattle.net_types.specs.declared.address.Net4.{Net4}
 use Rattle.net_types.specs.AddressText.{ip4_at, mac_at, net4_at}
 use Rattle.net_types.specs.Cutting.{after_word, by_word, end_at, guarded, pair_at, strip_word}
 use Rattle.net_types.specs.HexText.{hex_at}
 use Rattle.net_types.specs.NameText.{name_at}
 use Rattle.net_types.specs.Numbers.{number_at}
-use Rattle.net_types.specs.TextLines.{Line, Front}
+use Rattle.net_types.specs.TextLines.{Line, AreLines, Front}
+use Rattle.net_types.specs.declared.moment.TheConstants.{MOMENT_LIMIT}
+use Rattle.lease_text.specs.declared.lease.Origin.{Origin}
 use Rattle.lease_text.specs.declared.lease.Terms4.{Terms4}
-use Rattle.lease_text.specs.declared.lease.TheConstants.{INFINITE_LEASE, MOMENT_LIMIT, VALUE_LIMIT}
+use Rattle.lease_text.specs.declared.lease.TheConstants.{INFINITE_LEASE, VALUE_LIMIT}
 use Rattle.lease_text.specs.declared.reading.LeaseLine.{LeaseLine}
 use Rattle.lease_text.specs.declared.reading.LeaseLine.TheVariants.{Version, Interface, Term, Values, Nothing}
 use Rattle.lease_text.specs.declared.reading.LeaseState.{LeaseState}
 use Rattle.lease_text.specs.declared.reading.TermLine.{TermLine}
-use Rattle.lease_text.specs.declared.reading.TermLine.TheVariants.{Address, Server, ServerMac, First, LeaseTime, Renewal, Rebinding}
+use Rattle.lease_text.specs.declared.reading.TermLine.TheVariants.{OriginMac, Confirmed, Address, Server, ServerMac, First, LeaseTime, Renewal, Rebinding}
 use Rattle.lease_text.specs.Bounds.{HasText}
 use Rattle.lease_text.specs.Leases.{ValueContent, LeaseContent, lease_with, values_content, is_host_address}
-use Rattle.lease_text.specs.LeaseLines.{version_line, end_line, interface_word, address_word, server_word, server_mac_word, first_word, lease_word, renewal_word, rebinding_word, option_word, option_line, head_lines, lease4_lines}
+use Rattle.lease_text.specs.LeaseLines.{first_version, second_version, version_line, end_line, interface_word, mac_word, confirmed_word, address_word, server_word, server_mac_word, first_word, lease_word, renewal_word, rebinding_word, option_word, option_line, holder_lines, grant_lines, head_lines, lease4_lines}
 use Rattle.lease_text.specs.ValueForms.{is_kept, is_well_formed}
 
 -- the line that comes next, and what those before it said; what no line said yet is anything that makes a lease which fits
@@ -51,8 +54,24 @@ seconds_at low high text = guarded (λ n. nat_le low n && nat_le n high) (number
 abbrev pub least_renewal : (lease : ℕ) → ℕ
 least_renewal lease = if lease == INFINITE_LEASE then INFINITE_LEASE else 0
 
+-- an origin that no line told of yet is anything that fits
+abbrev pub untold_origin : Origin
+untold_origin = record { mac = record { bytes = replicate 6 0 }; confirmed = 0 }
+
+abbrev pub with_mac : Option Origin → Mac → Option Origin
+with_mac None mac = None
+with_mac (Some origin) mac = Some (record origin { mac = mac })
+
+abbrev pub with_confirmed : Option Origin → ℕ → Option Origin
+with_confirmed None at = None
+with_confirmed (Some origin) at = Some (record origin { confirmed = at })
+
 -- the terms with what a line says; the later times are those of a lease that is never renewed, until their lines come
 unfoldable pub term_in : TermLine → Terms4 → Line → Option Terms4
+term_in OriginMac terms line =
+    option_map (λ mac. record terms { origin = with_mac terms.origin mac }) (after_word mac_word mac_at line)
+term_in Confirmed terms line =
+    option_map (λ at. record terms { origin = with_confirmed terms.origin at }) (after_word confirmed_word (number_at MOMENT_LIMIT) line)
 term_in Address terms line = option_map (λ net. record terms { net = net }) (after_word address_word host_net_at line)
 term_in Server terms line = option_map (λ server. record terms { server = server }) (after_word server_word ip4_at line)
 term_in ServerMac terms line = option_map (λ mac. record terms { server_mac = mac }) (after_word server_mac_word mac_at line)
@@ -65,6 +84,8 @@ term_in Rebinding terms line = option_map (λ t2. record terms { t2 = t2 }) (aft
 
 -- the line after it
 abbrev pub after_term : TermLine → LeaseLine
+after_term OriginMac = Term Confirmed
+after_term Confirmed = Term Address
 after_term Address = Term Server
 after_term Server = Term ServerMac
 after_term ServerMac = Term First
@@ -95,10 +116,27 @@ with_value reading value = record reading { values = reading.values ++ value ∷
 abbrev pub goes_to : LeaseLine → Reading → Reading
 goes_to next reading = record reading { next = next }
 
+abbrev pub by_version : {X : Type 0} → Option X → Option (Option Origin) → Option (Option Origin)
+by_version (Some first) second = Some None
+by_version None second = second
+
+-- whether a version tells an origin
+unfoldable pub version_at : Line → Option (Option Origin)
+version_at line =
+    by_version (after_word first_version end_at line) (option_map (λ _. Some untold_origin) (after_word second_version end_at line))
+
+abbrev pub of_version : Option Origin → Reading → Reading
+of_version origin reading = record reading { next = Interface; terms = record reading.terms { origin = origin } }
+
+-- the second version tells the origin next
+abbrev pub after_interface : Option Origin → LeaseLine
+after_interface None = Term Address
+after_interface (Some origin) = Term OriginMac
+
 unfoldable pub step_at : LeaseLine → Reading → Line → Option Reading
-step_at Version reading line = option_map (λ _. goes_to Interface reading) (after_word version_line end_at line)
+step_at Version reading line = option_map (λ origin. of_version origin reading) (version_at line)
 step_at Interface reading line =
-    option_map (λ name. record reading { next = Term Address; name = name }) (after_word interface_word name_at line)
+    option_map (λ name. record reading { next = after_interface reading.terms.origin; name = name }) (after_word interface_word name_at line)
 step_at (Term term) reading line =
     option_map (λ terms. record reading { next = after_term term; terms = terms }) (term_in term reading.terms line)
 step_at Values reading line =
@@ -122,6 +160,7 @@ given reading = given_at reading.next reading
 -- before the first line
 abbrev pub first_terms : Terms4
 first_terms = record {
+  origin = None;
   net = record { ip = record { number = 2 ^ 24 }; len = 0 };
   server = record { number = 0 };
   server_mac = record { bytes = replicate 6 0 };
@@ -136,20 +175,26 @@ start = record { next = Version; name = record { bytes = 97 ∷ replicate 14 0; 
 
 -- ---- what was read
 
--- how many lines come before the line of a term
-abbrev pub lines_above : TermLine → ℕ
-lines_above Address = 2
-lines_above Server = 3
-lines_above ServerMac = 4
-lines_above First = 5
-lines_above LeaseTime = 6
-lines_above Renewal = 7
-lines_above Rebinding = 8
+-- the lines of the holder before that of a term
+abbrev pub holder_before : TermLine → LeaseContent → List Line
+holder_before OriginMac lease = take 2 (holder_lines lease)
+holder_before Confirmed lease = take 3 (holder_lines lease)
+holder_before term lease = holder_lines lease
+
+-- how many lines of the grant come before that of a term
+abbrev pub grant_above : TermLine → ℕ
+grant_above Server = 1
+grant_above ServerMac = 2
+grant_above First = 3
+grant_above LeaseTime = 4
+grant_above Renewal = 5
+grant_above Rebinding = 6
+grant_above term = 0
 
 abbrev pub lines_before : LeaseLine → LeaseContent → List Line
 lines_before Version lease = []
-lines_before Interface lease = take 1 (head_lines lease)
-lines_before (Term term) lease = take (lines_above term) (head_lines lease)
+lines_before Interface lease = version_line lease.origin ∷ []
+lines_before (Term term) lease = holder_before term lease ++ take (grant_above term) (grant_lines lease)
 lines_before Values lease = head_lines lease ++ map option_line lease.values
 lines_before Nothing lease = lease4_lines lease
 
@@ -161,12 +206,20 @@ HasValues (Term term) values = values ≡ []
 HasValues Values values = Unit {0}
 HasValues Nothing values = Unit {0}
 
+-- the lines of an origin come where there is one
+abbrev pub HasOrigin : LeaseLine → Option Origin → Type 0
+HasOrigin (Term OriginMac) origin = is_some origin ≡ true
+HasOrigin (Term Confirmed) origin = is_some origin ≡ true
+HasOrigin next origin = Unit {0}
+
 pub record IsSound (reading : Reading) : Type 0 where
   pub good : HasText (lease_in reading)
   pub values : HasValues reading.next reading.values
+  pub origin : HasOrigin reading.next reading.terms.origin
 
 -- These lines were read: they are those of the lease up to the next one.
 pub record After (reading : Reading) (lines : List Line) : Type 0 where
+  pub are : AreLines lines
   pub spelled : lines ≡ lines_before reading.next (lease_in reading)
   pub sound : IsSound reading
 

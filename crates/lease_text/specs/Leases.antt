@@ -1,9 +1,10 @@
 -- A lease without where it lies in memory.
-use Rattle.std.specs.Prelude.{ℕ, ◌/◌, ◌^◌, Bool, not, ◌&&◌, ◌==◌, nat_le, List, map}
+use Rattle.std.specs.Prelude.{ℕ, ◌/◌, ◌^◌, Bool, not, ◌&&◌, ◌==◌, nat_le, List, map, Option}
 use Rattle.net_types.specs.declared.address.Ip4.{Ip4}
 use Rattle.net_types.specs.declared.address.Mac.{Mac}
 use Rattle.net_types.specs.declared.address.Net4.{Net4}
 use Rattle.net_types.specs.declared.interface.Name.{Name}
+use Rattle.lease_text.specs.declared.lease.Origin.{Origin}
 use Rattle.lease_text.specs.declared.lease.Value.{Value}
 use Rattle.lease_text.specs.declared.lease.Lease4.{Lease4}
 use Rattle.lease_text.specs.declared.lease.Terms4.{Terms4}
@@ -13,6 +14,7 @@ pub record ValueContent : Type 0 where
   pub bytes : List ℕ
 
 pub record LeaseContent : Type 0 where
+  pub origin : Option Origin
   pub name : Name
   pub net : Net4
   pub server : Ip4
@@ -31,6 +33,7 @@ values_content values = map value_content values
 
 abbrev pub lease_content : Lease4 → LeaseContent
 lease_content lease = record {
+  origin = lease.origin;
   name = lease.name;
   net = lease.net;
   server = lease.server;
@@ -44,6 +47,7 @@ lease_content lease = record {
 
 abbrev pub lease_with : Name → Terms4 → List ValueContent → LeaseContent
 lease_with name terms values = record {
+  origin = terms.origin;
   name = name;
   net = terms.net;
   server = terms.server;
@@ -57,6 +61,7 @@ lease_with name terms values = record {
 
 abbrev pub terms_of : LeaseContent → Terms4
 terms_of lease = record {
+  origin = lease.origin;
   net = lease.net;
   server = lease.server;
   server_mac = lease.server_mac;

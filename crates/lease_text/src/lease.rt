@@ -8,8 +8,6 @@ use std::alloc::{AllocError, Global};
 
 /// The lease time of a lease that never ends (RFC 2131, section 3.3).
 pub const INFINITE_LEASE: u32 = 0xffff_ffff;
-/// One more than the latest moment of a lease, in milliseconds since 1970.
-pub const MOMENT_LIMIT: u64 = 1_000_000_000_000_000;
 /// The length of a network of one address.
 pub const LONGEST_PREFIX: u8 = 32;
 /// The most bytes of a value that is kept.
@@ -22,9 +20,20 @@ pub struct Value {
     pub bytes: Vec<u8>,
 }
 
+/// Where a lease comes from.
+#[derive(Clone, Copy, Debug, PartialEq, Eq)]
+pub struct Origin {
+    /// The hardware address of the interface that it was granted to.
+    pub mac: Mac,
+    /// The moment at which the server's message was heard that confirmed it last, in milliseconds since 1970.
+    pub confirmed: u64,
+}
+
 /// A lease of an IPv4 address (RFC 2131, section 2).
 #[derive(Drop)]
 pub struct Lease4 {
+    /// Where it comes from; a text of the first version doesn't tell.
+    pub origin: Option<Origin>,
     /// The interface that holds it.
     pub name: Name,
     /// The address, with the length of its network.
@@ -46,6 +55,7 @@ pub struct Lease4 {
 /// What a lease says in numbers: `Lease4` without its name and its values.
 #[derive(Clone, Copy, PartialEq, Eq)]
 pub struct Terms4 {
+    pub origin: Option<Origin>,
     pub net: Net4,
     pub server: Ip4,
     pub server_mac: Mac,
@@ -61,6 +71,7 @@ impl Lease4 {
         ensures { lease_content result ≡ lease_with name terms (values_content values.items) }
     {
         Lease4 {
+            origin: terms.origin,
             name,
             net: terms.net,
             server: terms.server,
@@ -78,6 +89,7 @@ impl Lease4 {
         ensures { result ≡ terms_of (lease_content self.now) }
     {
         Terms4 {
+            origin: self.origin,
             net: self.net,
             server: self.server,
             server_mac: self.server_mac,

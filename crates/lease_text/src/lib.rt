@@ -1,4 +1,5 @@
-//! Leases: what a server grants and a client keeps, and the bounds within which a lease has a text.
+//! Leases: what a server grants and a client keeps, and the bounds within which a lease has a text. The text has two versions;
+//! the second one tells where the lease comes from.
 //!
 //! The values of options are kept as they came, each checked once for the form that its code asks for.
 #![tactic(auto)]
@@ -15,8 +16,8 @@ pub use constants::bounds_of_leases;
 pub use form::{KEPT_CODES, ValueForm, form_of, is_kept, is_well_formed};
 pub use laws::leases_are_read_back;
 pub use lease::{
-    INFINITE_LEASE, LONGEST_PREFIX, Lease4, MOMENT_LIMIT, Terms4, VALUE_LIMIT, Value,
-    copied_values, is_host_address,
+    INFINITE_LEASE, LONGEST_PREFIX, Lease4, Origin, Terms4, VALUE_LIMIT, Value, copied_values,
+    is_host_address,
 };
 pub use printing::{append_values, print4};
 pub use reading::{LeaseFault, read_lease4};

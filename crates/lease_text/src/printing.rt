@@ -1,107 +1,76 @@
 //! The text of a lease, printed.
 
-ghost use Rattle.std.specs.Prelude.{◌≡◌, ◌++◌, decimal, map, take, drop, IfOk, OnOk};
-ghost use Rattle.net_types.specs.AddressText.{ip4_text, mac_text, net4_text};
-ghost use Rattle.net_types.specs.NameText.{name_text};
+ghost use Rattle.std.specs.Prelude.{◌≡◌, ◌++◌, map, take, drop, IfOk, OnOk, OnErr};
+ghost use Rattle.net_types.specs.Cutting.{StandsInFront};
 ghost use Rattle.net_types.specs.TextLines.{ended, lines_text};
 ghost use Rattle.lease_text.specs.Bounds.{FitsLease, HasText};
 ghost use Rattle.lease_text.specs.Leases.{lease_content, value_content, values_content};
-ghost use Rattle.lease_text.specs.LeaseLines.{version_line, interface_word, address_word, server_word, server_mac_word, option_line, head_lines, lease4_text};
+ghost use Rattle.lease_text.specs.LeaseLines.{version_line, origin_lines, holder_lines, grant_lines, head_lines, option_line, lease4_text};
 
-use crate::lease::{Lease4, Value};
+use crate::lease::{Lease4, Origin, Value};
 use crate::typed::lease_is_typed;
-use net_types::{
-    Ip4, Mac, Name, Net4, NoMemory, append_bytes, append_hex, append_ip4, append_mac, append_net4,
-    append_number,
-};
+use line_grammar::append_line;
+use net_types::{Hex, NoMemory, append_bytes};
 use std::alloc::Global;
 
 /// Room for the text of a lease with some values, in bytes; a longer text grows.
 const TEXT_ROOM: usize = 512;
 
 /// Appends the line of what the text is.
-fn append_version(into: &mut Vec<u8>) -> Result<(), NoMemory>
-    ensures { OnOk result (into.new.items ≡ into.old.items ++ ended version_line) }
+fn append_version(origin: Option<Origin>, into: &mut Vec<u8>) -> Result<(), NoMemory>
+    ensures { OnOk result (into.new.items ≡ into.old.items ++ ended (version_line origin)) }
 {
-    append_bytes(b"dhcpcd-lease4 1\n", into)?;
-    Ok(())
+    match origin {
+        None => append_line(b"dhcpcd-lease4 1", &(), into),
+        Some(_) => append_line(b"dhcpcd-lease4 2", &(), into),
+    }
 }
 
-/// Appends the line of the interface.
-#[tactic(auto, unfolding(net_types::specs::NameText::name_text), using(std::proofs::Common::append_assoc))]
-fn append_interface(name: &Name, into: &mut Vec<u8>) -> Result<(), NoMemory>
-    ensures { OnOk result (into.new.items ≡ into.old.items ++ ended (interface_word ++ name_text name.now)) }
-{
-    append_bytes(b"interface ", into)?;
-    append_bytes(name.as_bytes(), into)?;
-    append_bytes(b"\n", into)?;
-    Ok(())
-}
-
-/// Appends the line of the address.
+/// Appends the lines of where the lease comes from.
 #[tactic(auto, using(std::proofs::Common::append_assoc))]
-fn append_address(net: Net4, into: &mut Vec<u8>) -> Result<(), NoMemory>
-    ensures { OnOk result (into.new.items ≡ into.old.items ++ ended (address_word ++ net4_text net)) }
+fn append_origin(origin: Option<Origin>, into: &mut Vec<u8>) -> Result<(), NoMemory>
+    ensures { OnOk result (into.new.items ≡ into.old.items ++ lines_text (origin_lines origin)) }
 {
-    append_bytes(b"address ", into)?;
-    append_net4(net, into)?;
-    append_bytes(b"\n", into)?;
-    Ok(())
+    match origin {
+        None => Ok(()),
+        Some(origin) => {
+            append_line(b"mac ", &origin.mac, into)?;
+            append_line(b"confirmed ", &origin.confirmed, into)?;
+            Ok(())
+        }
+    }
 }
 
-/// Appends the line of the server.
-#[tactic(auto, using(std::proofs::Common::append_assoc))]
-fn append_server(server: Ip4, into: &mut Vec<u8>) -> Result<(), NoMemory>
-    ensures { OnOk result (into.new.items ≡ into.old.items ++ ended (server_word ++ ip4_text server)) }
+/// Appends the lines of whose lease it is.
+fn append_holder(lease: &Lease4, into: &mut Vec<u8>) -> Result<(), NoMemory>
+    ensures { OnOk result (into.new.items ≡ into.old.items ++ lines_text (holder_lines (lease_content lease.now))) }
 {
-    append_bytes(b"server ", into)?;
-    append_ip4(server, into)?;
-    append_bytes(b"\n", into)?;
-    Ok(())
-}
-
-/// Appends the line of the server's hardware address.
-#[tactic(auto, using(std::proofs::Common::append_assoc))]
-fn append_server_mac(mac: Mac, into: &mut Vec<u8>) -> Result<(), NoMemory>
-    ensures { OnOk result (into.new.items ≡ into.old.items ++ ended (server_mac_word ++ mac_text mac)) }
-{
-    append_bytes(b"servermac ", into)?;
-    append_mac(mac, into)?;
-    append_bytes(b"\n", into)?;
+    append_version(lease.origin, into)?;
+    append_line(b"interface ", &lease.name, into)?;
+    append_origin(lease.origin, into)?;
     Ok(())
 }
 
 /// Appends the lines of what is leased, and by whom.
 #[tactic(auto, using(std::proofs::Common::append_assoc))]
 fn append_grant(lease: &Lease4, into: &mut Vec<u8>) -> Result<(), NoMemory>
-    ensures { OnOk result (into.new.items ≡ into.old.items ++ lines_text (take 3 (drop 2 (head_lines (lease_content lease.now))))) }
+    ensures { OnOk result (into.new.items ≡ into.old.items ++ lines_text (take 3 (grant_lines (lease_content lease.now)))) }
 {
-    append_address(lease.net, into)?;
-    append_server(lease.server, into)?;
-    append_server_mac(lease.server_mac, into)?;
-    Ok(())
-}
-
-/// Appends the line of a word and a number.
-#[tactic(auto, using(std::proofs::Common::append_assoc))]
-fn append_term(word: &[u8], number: u64, into: &mut Vec<u8>) -> Result<(), NoMemory>
-    ensures { OnOk result (into.new.items ≡ into.old.items ++ ended (word.now ++ decimal number)) }
-{
-    append_bytes(word, into)?;
-    append_number(number, into)?;
-    append_bytes(b"\n", into)?;
+    append_line(b"address ", &lease.net, into)?;
+    append_line(b"server ", &lease.server, into)?;
+    append_line(b"servermac ", &lease.server_mac, into)?;
     Ok(())
 }
 
 /// Appends the lines of its times.
 #[tactic(auto, using(std::proofs::Common::append_assoc))]
 fn append_times(lease: &Lease4, into: &mut Vec<u8>) -> Result<(), NoMemory>
-    ensures { OnOk result (into.new.items ≡ into.old.items ++ lines_text (drop 5 (head_lines (lease_content lease.now)))) }
+    ensures { OnOk result (into.new.items ≡ into.old.items ++ lines_text (drop 3 (grant_lines (lease_content lease.now)))) }
 {
-    append_term(b"first ", lease.first, into)?;
-    append_term(b"lease ", u64::from(lease.lease), into)?;
-    append_term(b"t1 ", u64::from(lease.t1), into)?;
-    append_term(b"t2 ", u64::from(lease.t2), into)?;
+    append_line(b"first ", &lease.first, into)?;
+    append_line(b"lease ", &lease.lease, into)?;
+    append_line(b"t1 ", &lease.t1, into)?;
+    append_line(b"t2 ", &lease.t2, into)?;
     Ok(())
 }
 
@@ -109,29 +78,24 @@ fn append_times(lease: &Lease4, into: &mut Vec<u8>) -> Result<(), NoMemory>
 fn append_head(lease: &Lease4, into: &mut Vec<u8>) -> Result<(), NoMemory>
     ensures { OnOk result (into.new.items ≡ into.old.items ++ lines_text (head_lines (lease_content lease.now))) }
 {
-    append_version(into)?;
-    append_interface(&lease.name, into)?;
+    append_holder(lease, into)?;
     append_grant(lease, into)?;
     append_times(lease, into)?;
     Ok(())
 }
 
-/// Appends the line of a value.
-#[tactic(auto, using(std::proofs::Common::append_assoc))]
+/// Appends the line of a value, or a front of it where memory runs out.
 fn append_value(value: &Value, into: &mut Vec<u8>) -> Result<(), NoMemory>
-    ensures { OnOk result (into.new.items ≡ into.old.items ++ ended (option_line (value_content value.now))) }
+    ensures ok { OnOk result (into.new.items ≡ into.old.items ++ ended (option_line (value_content value.now))) }
+    ensures err { OnErr result (StandsInFront into.old.items into.new.items) }
 {
-    append_bytes(b"option ", into)?;
-    append_number(u64::from(value.code), into)?;
-    append_bytes(b" ", into)?;
-    append_hex(&value.bytes, into)?;
-    append_bytes(b"\n", into)?;
-    Ok(())
+    append_line(b"option ", &(value.code, Hex(&value.bytes)), into)
 }
 
-/// Appends the lines of values, which a lease of either family has.
+/// Appends the lines of values, which a lease of either family has, or a front of them where memory runs out.
 pub fn append_values(values: &[Value], into: &mut Vec<u8>) -> Result<(), NoMemory>
-    ensures { OnOk result (into.new.items ≡ into.old.items ++ lines_text (map option_line (values_content values.now))) }
+    ensures ok { OnOk result (into.new.items ≡ into.old.items ++ lines_text (map option_line (values_content values.now))) }
+    ensures err { OnErr result (StandsInFront into.old.items into.new.items) }
 {
     for value in values {
         append_value(value, into)?;

@@ -9,16 +9,15 @@ ghost use Rattle.net_types.specs.declared.fault.BadText.{BadText};
 ghost use Rattle.lease_text.specs.declared.reading.LeaseLine.TheVariants as LeaseLine;
 ghost use Rattle.lease_text.specs.declared.reading.TermLine.TheVariants as TermLine;
 ghost use Rattle.lease_text.specs.Leases.{LeaseContent, lease_content, value_content, values_content};
-ghost use Rattle.lease_text.specs.LeaseLines.{SpellsLease4, version_line, end_line, interface_word};
-ghost use Rattle.lease_text.specs.LeaseReading.{Reading, reading_of, host_net_at, seconds_at, least_renewal, term_in, after_term, last_code, may_follow, value_at, step, step_at, given, start, After, AnyCause};
+ghost use Rattle.lease_text.specs.LeaseLines.{SpellsLease4, interface_word};
+ghost use Rattle.lease_text.specs.LeaseReading.{Reading, reading_of, host_net_at, seconds_at, least_renewal, with_mac, with_confirmed, term_in, after_term, version_at, after_interface, last_code, may_follow, value_at, step, step_at, given, start, After, AnyCause};
 
 use crate::form::{is_kept, is_well_formed};
-use crate::lease::{
-    INFINITE_LEASE, Lease4, MOMENT_LIMIT, Terms4, VALUE_LIMIT, Value, is_host_address,
-};
+use crate::lease::{INFINITE_LEASE, Lease4, Origin, Terms4, VALUE_LIMIT, Value, is_host_address};
 use net_types::{
-    BadText, Ip4, LineFault, LineState, Mac, Name, Net4, NoMemory, TextFault, end_of, hex_of,
-    ip4_of, mac_of, name_of, net4_of, number_of, read_lines, split_at_byte, strip_word, u8_of,
+    BadText, Ip4, LineFault, LineState, MOMENT_LIMIT, Mac, Name, Net4, NoMemory, TextFault, end_of,
+    hex_of, ip4_of, mac_of, name_of, net4_of, number_of, read_lines, split_at_byte, strip_word,
+    u8_of,
 };
 use std::alloc::Global;
 
@@ -30,6 +29,8 @@ const CODE_LIMIT: u64 = 256;
 /// A line that says a term of a lease.
 #[derive(Clone, Copy, PartialEq, Eq)]
 pub enum TermLine {
+    OriginMac,
+    Confirmed,
     Address,
     Server,
     ServerMac,
@@ -51,6 +52,12 @@ pub enum LeaseLine {
     Nothing,
 }
 
+/// An origin before its lines say it.
+const UNTOLD_ORIGIN: Origin = Origin {
+    mac: Mac { bytes: [0; 6] },
+    confirmed: 0,
+};
+
 /// What the lines so far said.
 #[derive(Drop)]
 pub struct LeaseState {
@@ -70,6 +77,7 @@ fn start_of(alloc: Global) -> LeaseState
             len: 1,
         },
         terms: Terms4 {
+            origin: None,
             net: Net4 {
                 ip: Ip4 { number: 1 << 24 },
                 len: 0,
@@ -90,6 +98,29 @@ fn line_is(line: &[u8], word: &[u8]) -> Option<()>
     ensures { result ≡ after_word word.now end_at line.now }
 {
     end_of(strip_word(line, word)?)
+}
+
+/// The origin that a lease of the version has before its lines say it.
+#[tactic(auto, unfolding(crate::specs::LeaseReading::version_at))]
+fn version_of(line: &[u8]) -> Option<Option<Origin>>
+    ensures { result ≡ version_at line.now }
+{
+    match line_is(line, b"dhcpcd-lease4 1") {
+        Some(_) => Some(None),
+        None => {
+            line_is(line, b"dhcpcd-lease4 2")?;
+            Some(Some(UNTOLD_ORIGIN))
+        }
+    }
+}
+
+fn after_interface(origin: Option<Origin>) -> LeaseLine
+    ensures { result ≡ after_interface origin }
+{
+    match origin {
+        None => LeaseLine::Term(TermLine::Address),
+        Some(_) => LeaseLine::Term(TermLine::OriginMac),
+    }
 }
 
 fn name_line(line: &[u8]) -> Option<Name>
@@ -134,6 +165,27 @@ fn least_renewal(lease: u32) -> u32
     }
 }
 
+fn with_mac(origin: Option<Origin>, mac: Mac) -> Option<Origin>
+    ensures { result ≡ with_mac origin mac }
+{
+    match origin {
+        None => None,
+        Some(origin) => Some(Origin { mac, ..origin }),
+    }
+}
+
+fn with_confirmed(origin: Option<Origin>, confirmed: u64) -> Option<Origin>
+    ensures { result ≡ with_confirmed origin confirmed }
+{
+    match origin {
+        None => None,
+        Some(origin) => Some(Origin {
+            confirmed,
+            ..origin
+        }),
+    }
+}
+
 #[tactic(auto, unfolding(crate::specs::LeaseReading::term_in))]
 fn with_lease_time(terms: Terms4, line: &[u8]) -> Option<Terms4>
     ensures { result ≡ term_in TermLine.LeaseTime terms line.now }
@@ -174,6 +226,16 @@ fn term_of(term: TermLine, terms: Terms4, line: &[u8]) -> Option<Terms4>
     ensures { result ≡ term_in term terms line.now }
 {
     match term {
+        TermLine::OriginMac => {
+            let mac = mac_of(strip_word(line, b"mac ")?)?;
+            let origin = with_mac(terms.origin, mac);
+            Some(Terms4 { origin, ..terms })
+        }
+        TermLine::Confirmed => {
+            let confirmed = number_of(strip_word(line, b"confirmed ")?, MOMENT_LIMIT)?;
+            let origin = with_confirmed(terms.origin, confirmed);
+            Some(Terms4 { origin, ..terms })
+        }
         TermLine::Address => {
             let net = host_net_of(strip_word(line, b"address ")?)?;
             Some(Terms4 { net, ..terms })
@@ -203,6 +265,8 @@ fn after_term(term: TermLine) -> LeaseLine
     ensures { result ≡ after_term term }
 {
     match term {
+        TermLine::OriginMac => LeaseLine::Term(TermLine::Confirmed),
+        TermLine::Confirmed => LeaseLine::Term(TermLine::Address),
         TermLine::Address => LeaseLine::Term(TermLine::Server),
         TermLine::Server => LeaseLine::Term(TermLine::ServerMac),
         TermLine::ServerMac => LeaseLine::Term(TermLine::First),
@@ -314,16 +378,20 @@ impl LineState for LeaseState {
     #[tactic(auto, unfolding(crate::specs::LeaseReading::step_at))]
     fn take(self, alloc: Global, line: &[u8]) -> Result<LeaseState, LineFault<BadText>> {
         match self.next {
-            LeaseLine::Version => match line_is(line, b"dhcpcd-lease4 1") {
-                Some(_) => Ok(LeaseState {
+            LeaseLine::Version => match version_of(line) {
+                Some(origin) => Ok(LeaseState {
                     next: LeaseLine::Interface,
+                    terms: Terms4 {
+                        origin,
+                        ..self.terms
+                    },
                     ..self
                 }),
                 None => Err(BAD),
             },
             LeaseLine::Interface => match name_line(line) {
                 Some(name) => Ok(LeaseState {
-                    next: LeaseLine::Term(TermLine::Address),
+                    next: after_interface(self.terms.origin),
                     name,
                     ..self
                 }),
@@ -359,7 +427,8 @@ impl LineState for LeaseState {
 /// Why a text is no lease: its first bad line, or want of memory.
 pub type LeaseFault = TextFault<BadText>;
 
-/// The lease that the text spells, or its first bad line. Exactly the texts of leases within the bounds are read.
+/// The lease that the text spells, or its first bad line. Exactly the texts of leases within the bounds are read, in both
+/// versions.
 pub fn read_lease4(alloc: Global, text: &[u8]) -> Result<Lease4, LeaseFault>
     ensures found { IfOk result (λ lease. IsSpelled SpellsLease4 text.now (lease_content lease)) }
     ensures bad { IfErr result (λ fault. FirstFault SpellsLease4 AnyCause text.now fault) }

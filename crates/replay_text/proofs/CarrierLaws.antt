@@ -19,10 +19,10 @@ use Rattle.script_model.specs.IfaceSets.{is_up}
 use Rattle.script_model.specs.Lines as lines
 use Rattle.script_model.specs.Lines.{numbers_from, up_list, up_text, start_text}
 use Rattle.replay_text.specs.declared.carriers.Listed.{Listed}
-use Rattle.replay_text.specs.RowReading.{iface_at}
+use Rattle.row_texts.specs.RowReading.{iface_at}
 use Rattle.replay_text.specs.TurnReading.{moment_at, salt_at}
 use Rattle.replay_text.specs.Carriers.{listed_at, list_of_listed_at, bits_at, up_at, begin_at}
-use Rattle.replay_text.proofs.RowLaws.{FitsIface, iface_reads}
+use Rattle.row_texts.proofs.RowLaws.{FitsIface, iface_reads}
 use Rattle.replay_text.proofs.Printables.{joined_printable}
 use Rattle.replay_text.proofs.LineLaws.{moment_reads, moment_lacks, salt_reads, salt_lacks}
 

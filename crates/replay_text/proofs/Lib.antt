@@ -1,5 +1,3 @@
-pub mod SpellingLaws
-pub mod RowLaws
 pub mod BlockLaws
 pub mod ClockLaws
 pub mod TestLaws

@@ -36,11 +36,11 @@ use Rattle.script_model.specs.FailingCalls.{device_text, fail_text, FitsFail}
 use Rattle.script_model.specs.Scripts.{FitsEvent, frame_room, FitsBytes, FitsGiven}
 use Rattle.script_model.specs.TurnSpellings.{SpellsEvent, SpellsGiven}
 use Rattle.script_model.proofs.SpelledRows.{ip6_printable}
-use Rattle.replay_text.specs.RowReading.{iface_at}
+use Rattle.row_texts.specs.RowReading.{iface_at}
 use Rattle.replay_text.specs.LineReading.{spec_at, call_at, failing, devices, fail_at}
 use Rattle.replay_text.specs.TurnReading.{moment_at, salt_at, switch_at, Came, without_bytes, frame_bytes_at, frame_at, inputs, input_at, duplicate_at, came_at, turn_at}
-use Rattle.replay_text.proofs.RowLaws.{FitsIface, iface_text, iface_reads, iface_lacks, SpellsIface, iface_finds, iface_apart}
-use Rattle.replay_text.proofs.SpellingLaws.{Finds, OneText, one_text, same_finds, Made, map_finds, After, Parted, pair_finds, OneOf, choice_finds}
+use Rattle.row_texts.proofs.RowLaws.{FitsIface, iface_text, iface_reads, iface_lacks, SpellsIface, iface_finds, iface_apart}
+use Rattle.row_texts.proofs.SpellingLaws.{Finds, OneText, one_text, same_finds, Made, map_finds, After, Parted, pair_finds, OneOf, choice_finds}
 use Rattle.replay_text.proofs.Printables.{joined_printable, iface_printable}
 
 -- ---- interfaces

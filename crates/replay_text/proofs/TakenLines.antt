@@ -53,8 +53,8 @@ use Rattle.replay_text.proofs.FileLaws.{file_words, file_reads, file_spelled, ne
 use Rattle.replay_text.proofs.Grown.{pairs_more, line_more, behind, spelled_more, none_spelled, once_more}
 use Rattle.replay_text.proofs.LineLaws.{spec_text, FitsSpec, spec_reads, spec_spelled, fail_words, fail_reads, fail_spelled, SpellsTurn, turn_finds, turn_line}
 use Rattle.replay_text.proofs.PollLaws.{poll_reads}
-use Rattle.replay_text.proofs.RowLaws.{row_finds}
-use Rattle.replay_text.proofs.SpellingLaws.{Finds}
+use Rattle.row_texts.proofs.RowLaws.{row_finds}
+use Rattle.row_texts.proofs.SpellingLaws.{Finds}
 use Rattle.replay_text.proofs.ConfLineLaws.{conf_lines_of}
 use Rattle.replay_text.proofs.TestLaws.{interfaces_sound, interfaces_whole, listed_sound}
 use Rattle.replay_text.proofs.WordLaws.{word_is}

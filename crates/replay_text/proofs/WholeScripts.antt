@@ -50,8 +50,8 @@ use Rattle.replay_text.proofs.Grown.{all_next, pairs_front, pairs_next, pairs_ta
 use Rattle.replay_text.proofs.LineLaws.{spec_text, FitsSpec, spec_reads, spec_spelled, spec_printable, fail_words, fail_reads, fail_spelled, fail_printable, turn_words, SpellsTurn, turn_finds, turn_spelled, turn_printable}
 use Rattle.replay_text.proofs.PollLaws.{poll_reads, poll_printable}
 use Rattle.replay_text.proofs.Printables.{no_feed_in}
-use Rattle.replay_text.proofs.RowLaws.{row_finds}
-use Rattle.replay_text.proofs.SpellingLaws.{Finds}
+use Rattle.row_texts.proofs.RowLaws.{row_finds}
+use Rattle.row_texts.proofs.SpellingLaws.{Finds}
 use Rattle.replay_text.proofs.ConfLineLaws.{conf_lines_of}
 use Rattle.replay_text.proofs.TakenLines.{lines_ended, through_more}
 use Rattle.replay_text.proofs.TestLaws.{interfaces_whole, listed_whole}

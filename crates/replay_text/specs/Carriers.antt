@@ -3,7 +3,7 @@ use Rattle.std.specs.Prelude.{ℕ, zero, suc, ◌+◌, ◌*◌, ◌==◌, List, 
 use Rattle.net_types.specs.Cutting.{◌>>=◌, after_word, field_at, list_at}
 use Rattle.world.specs.declared.wakes.Begin.{Begin}
 use Rattle.replay_text.specs.declared.carriers.Listed.{Listed}
-use Rattle.replay_text.specs.RowReading.{iface_at}
+use Rattle.row_texts.specs.RowReading.{iface_at}
 use Rattle.replay_text.specs.TurnReading.{moment_at, salt_at}
 
 unfoldable pub listed_at : List ℕ → Option Listed

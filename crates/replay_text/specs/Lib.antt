@@ -1,4 +1,3 @@
-pub mod RowReading
 pub mod LineReading
 pub mod TurnReading
 pub mod FileReading

@@ -8,7 +8,7 @@ use Rattle.net_types.specs.Numbers.{number_at}
 use Rattle.script_model.specs.declared.failing.FailLine.{FailLine}
 use Rattle.script_model.specs.declared.failing.FailDevice.{FailDevice}
 use Rattle.script_model.specs.declared.failing.FailDevice.TheVariants.{Link, Store, Host, Hooks}
-use Rattle.replay_text.specs.RowReading.{iface_at}
+use Rattle.row_texts.specs.RowReading.{iface_at}
 
 -- an interface: its number, name and hardware address
 unfoldable pub spec_at : List ℕ → Option IfSpec

@@ -21,7 +21,7 @@ use Rattle.replay_text.specs.KindTests.{interfaces_fit, is_listed}
 use Rattle.replay_text.specs.LineReading.{spec_at, fail_at}
 use Rattle.replay_text.specs.LinesRead.{LifeRead, LinesRead, lives_in}
 use Rattle.replay_text.specs.PollReading.{poll_at}
-use Rattle.replay_text.specs.RowReading.{row_at}
+use Rattle.row_texts.specs.RowReading.{row_at}
 use Rattle.replay_text.specs.TurnReading.{turn_at}
 
 abbrev pub after_blank : {X : Type 0} → (List ℕ → Option X) → List ℕ → Option X

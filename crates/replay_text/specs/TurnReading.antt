@@ -8,7 +8,7 @@ use Rattle.world.specs.LinkCalls.{Given}
 use Rattle.world.specs.declared.wakes.Event.{Event}
 use Rattle.world.specs.declared.wakes.Event.TheVariants.{Frame, Carrier, Duplicate, Release, Rebind, Stop, Quiet}
 use Rattle.script_model.specs.Scripts.{frame_room}
-use Rattle.replay_text.specs.RowReading.{iface_at}
+use Rattle.row_texts.specs.RowReading.{iface_at}
 
 -- milliseconds since 1970, below 10^15
 unfoldable pub moment_at : List ℕ → Option ℕ

@@ -3,8 +3,8 @@ ghost use Rattle.std.specs.Prelude.{◌≡◌, ◌+◌, ◌^◌, ◌<◌, ◌≤
 ghost use Rattle.replay_text.specs.Carriers.{listed_at, list_of_listed_at, bits_at, up_at, begin_at};
 
 use crate::lines::{moment_field_of, salt_field_of};
-use crate::rows::iface_of;
 use net_types::{FromText, IfIndex, NoMemory, list_of, strip_word};
+use row_texts::iface_of;
 use std::alloc::Global;
 use world::Begin;
 

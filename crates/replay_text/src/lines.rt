@@ -7,12 +7,12 @@ ghost use Rattle.replay_text.specs.TurnReading.{moment_at, salt_at, turn_at};
 ghost use Rattle.replay_text.specs.TurnReading.{without_bytes, frame_bytes_at, frame_at, switch_at, lone_at, carrier_at, release_at, rebind_at, plain_at, input_at, duplicate_at, came_at};
 ghost use Rattle.replay_text.specs.ScriptContent.{given_of};
 
-use crate::rows::{iface_field_of, iface_of};
 use crate::script::TurnLine;
 use net_types::{
     IfSpec, Name, NoMemory, end_of, hex_of, ip6_of, mac_of, name_of, number_of, split_at_byte,
     strip_word, u64_of,
 };
+use row_texts::{iface_field_of, iface_of};
 use script_model::{FailDevice, FailLine};
 use std::alloc::Global;
 use world::{Event, Wake};

@@ -9,6 +9,7 @@ use Rattle.net_types.proofs.CaseLaws.{gated}
 use Rattle.net_types.specs.Marks.{AreBytes}
 use Rattle.net_types.specs.NameText.{name_text}
 use Rattle.net_types.specs.declared.address.Ip6.{Ip6}
+use Rattle.net_types.specs.declared.interface.IfSpec.{IfSpec}
 use Rattle.net_types.specs.declared.interface.Name.{Name}
 use Rattle.lease_text.specs.Bounds.{HasText}
 use Rattle.lease_text.specs.Leases.{LeaseContent, ValueContent}
@@ -55,7 +56,7 @@ use Rattle.client_model.specs.declared.interfaces.Iface.{Iface}
 use Rattle.client_model.specs.Dhcp4Steps.{arrival_at}
 use Rattle.client_model.specs.Dhcp6Steps.{after_dhcp6}
 use Rattle.client_model.specs.Interfaces.{resting}
-use Rattle.client_model.specs.KeptLeases.{Beginning, kept_by, lease_spelled, own_lease}
+use Rattle.client_model.specs.KeptLeases.{Beginning, is_own, kept_by, lease_spelled, own_lease}
 use Rattle.client_model.specs.KeptLeases6.{kept6_by}
 use Rattle.client_model.proofs.KeptTexts.{is_reading}
 use Rattle.turn_model.proofs.Loading.{kept_fits6}
@@ -236,35 +237,35 @@ octets_good bytes h = record { heard4 = λ mac. heard4_good mac bytes h; heard6 
 
 -- ---- the leases with which it begins: a text spells values that are bytes
 
-own_octets : (name : Name) (lease : LeaseContent) → HasText lease → IfSome (own_lease name lease) Octets4
-own_octets name lease has = gated (λ (k : Option LeaseContent). IfSome k Octets4) (bytes_eq (name_text lease.name) (name_text name)) (Some lease) None has.typed.values tt
+own_octets : (spec : IfSpec) (lease : LeaseContent) → HasText lease → IfSome (own_lease spec lease) Octets4
+own_octets spec lease has = gated (λ (k : Option LeaseContent). IfSome k Octets4) (is_own spec lease.name lease.origin) (Some lease) None has.typed.values tt
 
-spelled_octets : (name : Name) (text : List ℕ) (found : Option LeaseContent) → lease_spelled text ≡ found → IfSome (option_and_then (own_lease name) found) Octets4
-spelled_octets name text None e = tt
-spelled_octets name text (Some lease) e = own_octets name lease ((is_reading text lease).sound e).spells.1
+spelled_octets : (spec : IfSpec) (text : List ℕ) (found : Option LeaseContent) → lease_spelled text ≡ found → IfSome (option_and_then (own_lease spec) found) Octets4
+spelled_octets spec text None e = tt
+spelled_octets spec text (Some lease) e = own_octets spec lease ((is_reading text lease).sound e).spells.1
 
-read_octets : (name : Name) (reading : Reading) → IfSome (kept_by name reading) Octets4
-read_octets name (Found bytes) = spelled_octets name bytes (lease_spelled bytes) refl
-read_octets name Missing = tt
-read_octets name Unread = tt
+read_octets : (spec : IfSpec) (reading : Reading) → IfSome (kept_by spec reading) Octets4
+read_octets spec (Found bytes) = spelled_octets spec bytes (lease_spelled bytes) refl
+read_octets spec Missing = tt
+read_octets spec Unread = tt
 
 text6_octets : (kept : Option Lease6Content) → IfSome kept HasText6 → IfSome kept Octets6
 text6_octets None has = tt
 text6_octets (Some lease) has = has.typed.values
 
-loaded4 : (name : Name) (read : Option Reading) → IfSome (option_and_then (kept_by name) read) Octets4
-loaded4 name None = tt
-loaded4 name (Some reading) = read_octets name reading
+loaded4 : (spec : IfSpec) (read : Option Reading) → IfSome (option_and_then (kept_by spec) read) Octets4
+loaded4 spec None = tt
+loaded4 spec (Some reading) = read_octets spec reading
 
-loaded6 : (name : Name) (read : Option Reading) → IfSome (option_and_then (kept6_by name) read) Octets6
-loaded6 name None = tt
-loaded6 name (Some reading) = text6_octets (kept6_by name reading) (kept_fits6 name reading)
+loaded6 : (spec : IfSpec) (read : Option Reading) → IfSome (option_and_then (kept6_by spec) read) Octets6
+loaded6 spec None = tt
+loaded6 spec (Some reading) = text6_octets (kept6_by spec reading) (kept_fits6 spec reading)
 
 begins_with : (duid : List ℕ) (one : Loaded) → HasOctets (resting (beginning_of duid one))
 begins_with duid one = record {
-  kept4 = loaded4 one.managed.spec.name one.lease4;
+  kept4 = loaded4 one.managed.spec one.lease4;
   fresh4 = tt;
-  kept6 = loaded6 one.managed.spec.name one.lease6;
+  kept6 = loaded6 one.managed.spec one.lease6;
 }
 
 pub all_begin : (duid : List ℕ) (all : List Loaded) → AllByRecursion (λ (b : Beginning). HasOctets (resting b)) (map (beginning_of duid) all)

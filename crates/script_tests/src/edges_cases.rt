@@ -181,7 +181,9 @@ fn datagrams_are_events(rt: HostRuntime) {
     let (peer, peer_port) = new_peer(&rt).expect(&rt, "a socket");
     // the port of a socket that is closed at once
     let port = new_peer(&rt).expect(&rt, "a socket").1;
-    let mut link = LoopLink::new(&rt, &port, &peer_port);
+    let hooks = ChildHooks::new(&rt, "").expect(&rt, "memory");
+    let watch = hooks.watch().expect(&rt, "memory");
+    let mut link = LoopLink::new(&rt, watch, &port, &peer_port);
     let mut buf = [0; 16];
     assert!(rt; link.wait(Some(0), &mut buf).is_err());
     link.begin().expect(&rt, "a start");
@@ -214,6 +216,33 @@ fn datagrams_are_events(rt: HostRuntime) {
         .expect(&rt, "a send");
     peer.recv(&mut buf).expect(&rt, "a datagram");
     assert!(rt; buf.starts_with(b"\x01\x02back"));
+}
+
+#[test]
+fn a_wait_ends_at_its_moment_or_with_a_child(rt: HostRuntime) {
+    let (_peer, peer_port) = new_peer(&rt).expect(&rt, "a socket");
+    let (stranger, port) = new_peer(&rt).expect(&rt, "a socket");
+    let address = format!(in rt.alloc(); "127.0.0.1:{port}").expect(&rt, "memory");
+    drop(stranger);
+    let script = new_script(&rt, HOOK).expect(&rt, "a script");
+    let mut hooks = ChildHooks::new(&rt, &script).expect(&rt, "memory");
+    let watch = hooks.watch().expect(&rt, "memory");
+    let mut link = LoopLink::new(&rt, watch, &port, &peer_port);
+    let at = link.begin().expect(&rt, "a start").at;
+    let mut buf = [0; 16];
+    // what a stranger sends is passed over
+    let (stranger, _) = new_peer(&rt).expect(&rt, "a socket");
+    stranger.send_to(b"\x06\0", &address).expect(&rt, "a send");
+    let until = at.saturating_add(300);
+    let wake = link.wait(Some(until), &mut buf).expect(&rt, "a wake");
+    assert!(rt; wake.event == Event::Quiet && until <= wake.at);
+    let job = job(rt.alloc(), Some("0")).expect(&rt, "memory");
+    hooks.start(&job).expect(&rt, "a child");
+    let wake = link
+        .wait(Some(until.saturating_add(60_000)), &mut buf)
+        .expect(&rt, "a wake");
+    assert!(rt; wake.event == Event::Quiet && wake.at < until.saturating_add(50_000));
+    assert_eq!(rt; hooks.poll(), Ok(Poll::Ended(0)));
 }
 
 /// The words that SplitMix64's reference code gives from 1234567 on.

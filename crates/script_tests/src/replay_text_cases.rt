@@ -1,6 +1,7 @@
 use net_types::{IfIndex, Ip4, Ip6, Net, Net4};
 use replay_text::ScriptCause::{Form, NotText, Order, Word};
 use replay_text::*;
+use row_texts::{print_row, read_row};
 use script_model::{CrashKind, FailDevice, FailLine};
 use std::fmt::InlineText;
 use std::test::*;

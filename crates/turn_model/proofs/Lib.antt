@@ -2,6 +2,7 @@ pub mod HostRuns
 pub mod Asking
 pub mod Leaving
 pub mod Loading
+pub mod OwnLeases
 pub mod Acting
 pub mod HostInLifeTurns
 pub mod HooksApart

@@ -4,6 +4,7 @@ use Rattle.std.proofs.Common.{◌≡◌, ℕ, List, [], ◌∷◌, map, Option, 
 use Rattle.std.specs.Prelude.{IfSome, bytes_eq, option_and_then}
 use Rattle.std.specs.List.{AllByRecursion}
 use Rattle.net_types.proofs.CaseLaws.{gated}
+use Rattle.net_types.specs.declared.interface.IfSpec.{IfSpec}
 use Rattle.net_types.specs.declared.interface.Name.{Name}
 use Rattle.net_types.specs.NameText.{name_text}
 use Rattle.lease_text.specs.Bounds.{FitsLease}
@@ -14,7 +15,7 @@ use Rattle.world.specs.StoreCalls.{Reading, Found, Missing, Unread}
 use Rattle.settings.specs.declared.interfaces.Managed.{Managed}
 use Rattle.client_model.specs.ClientSettings.{runs_dhcp4}
 use Rattle.client_model.specs.ClientSettings6.{runs_dhcp6, some_need_duid}
-use Rattle.client_model.specs.KeptLeases.{Beginning, lease_spelled, own_lease, kept_by}
+use Rattle.client_model.specs.KeptLeases.{Beginning, is_own, lease_spelled, own_lease, kept_by}
 use Rattle.client_model.specs.KeptLeases6.{lease6_spelled, own_lease6, kept6_by}
 use Rattle.client_model.proofs.KeptTexts.{is_reading}
 use Rattle.client_model.proofs.KeptTexts6.{is_reading6}
@@ -81,29 +82,29 @@ beginnings_managed duid (one ∷ all) = ap (λ (more : List Managed). one.manage
 
 -- ---- the leases that were kept
 
-own_fits : (name : Name) (lease : LeaseContent) → FitsLease lease → IfSome (own_lease name lease) FitsLease
-own_fits name lease fits = gated (λ (k : Option LeaseContent). IfSome k FitsLease) (bytes_eq (name_text lease.name) (name_text name)) (Some lease) None fits tt
+own_fits : (spec : IfSpec) (lease : LeaseContent) → FitsLease lease → IfSome (own_lease spec lease) FitsLease
+own_fits spec lease fits = gated (λ (k : Option LeaseContent). IfSome k FitsLease) (is_own spec lease.name lease.origin) (Some lease) None fits tt
 
-spelled_fits : (name : Name) (text : List ℕ) (found : Option LeaseContent) → lease_spelled text ≡ found → IfSome (option_and_then (own_lease name) found) FitsLease
-spelled_fits name text None e = tt
-spelled_fits name text (Some lease) e = own_fits name lease ((is_reading text lease).sound e).spells.1.fits
+spelled_fits : (spec : IfSpec) (text : List ℕ) (found : Option LeaseContent) → lease_spelled text ≡ found → IfSome (option_and_then (own_lease spec) found) FitsLease
+spelled_fits spec text None e = tt
+spelled_fits spec text (Some lease) e = own_fits spec lease ((is_reading text lease).sound e).spells.1.fits
 
-pub kept_fits : (name : Name) (reading : Reading) → IfSome (kept_by name reading) FitsLease
-kept_fits name (Found bytes) = spelled_fits name bytes (lease_spelled bytes) refl
-kept_fits name Missing = tt
-kept_fits name Unread = tt
+pub kept_fits : (spec : IfSpec) (reading : Reading) → IfSome (kept_by spec reading) FitsLease
+kept_fits spec (Found bytes) = spelled_fits spec bytes (lease_spelled bytes) refl
+kept_fits spec Missing = tt
+kept_fits spec Unread = tt
 
-own_fits6 : (name : Name) (lease : Lease6Content) → HasText6 lease → IfSome (own_lease6 name lease) HasText6
-own_fits6 name lease fits = gated (λ (k : Option Lease6Content). IfSome k HasText6) (bytes_eq (name_text lease.name) (name_text name)) (Some lease) None fits tt
+own_fits6 : (spec : IfSpec) (lease : Lease6Content) → HasText6 lease → IfSome (own_lease6 spec lease) HasText6
+own_fits6 spec lease fits = gated (λ (k : Option Lease6Content). IfSome k HasText6) (is_own spec lease.name lease.origin) (Some lease) None fits tt
 
-spelled_fits6 : (name : Name) (text : List ℕ) (found : Option Lease6Content) → lease6_spelled text ≡ found → IfSome (option_and_then (own_lease6 name) found) HasText6
-spelled_fits6 name text None e = tt
-spelled_fits6 name text (Some lease) e = own_fits6 name lease ((is_reading6 text lease).sound e).spells.1
+spelled_fits6 : (spec : IfSpec) (text : List ℕ) (found : Option Lease6Content) → lease6_spelled text ≡ found → IfSome (option_and_then (own_lease6 spec) found) HasText6
+spelled_fits6 spec text None e = tt
+spelled_fits6 spec text (Some lease) e = own_fits6 spec lease ((is_reading6 text lease).sound e).spells.1
 
-pub kept_fits6 : (name : Name) (reading : Reading) → IfSome (kept6_by name reading) HasText6
-kept_fits6 name (Found bytes) = spelled_fits6 name bytes (lease6_spelled bytes) refl
-kept_fits6 name Missing = tt
-kept_fits6 name Unread = tt
+pub kept_fits6 : (spec : IfSpec) (reading : Reading) → IfSome (kept6_by spec reading) HasText6
+kept_fits6 spec (Found bytes) = spelled_fits6 spec bytes (lease6_spelled bytes) refl
+kept_fits6 spec Missing = tt
+kept_fits6 spec Unread = tt
 
 -- the DUID of an interface's beginning is this one, and its leases are within the bounds
 pub record KeepsFitting (duid : List ℕ) (b : Beginning) : Type 0 where
@@ -120,8 +121,8 @@ if_read Fits kept fits (Some reading) = fits reading
 one_fits : (duid : List ℕ) (one : Loaded) → KeepsFitting duid (beginning_of duid one)
 one_fits duid one = record {
   duid_is = refl;
-  kept4 = if_read FitsLease (kept_by one.managed.spec.name) (kept_fits one.managed.spec.name) one.lease4;
-  kept6 = if_read HasText6 (kept6_by one.managed.spec.name) (kept_fits6 one.managed.spec.name) one.lease6;
+  kept4 = if_read FitsLease (kept_by one.managed.spec) (kept_fits one.managed.spec) one.lease4;
+  kept6 = if_read HasText6 (kept6_by one.managed.spec) (kept_fits6 one.managed.spec) one.lease6;
 }
 
 all_fit : (duid : List ℕ) (all : List Loaded) → AllByRecursion (KeepsFitting duid) (map (beginning_of duid) all)

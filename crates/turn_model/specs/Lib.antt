@@ -1,9 +1,11 @@
 pub mod KeptFiles
 pub mod Loading
+pub mod OwnLeases
 pub mod Hooking
 pub mod Turns
 pub mod Opening
 pub mod Lives
+pub mod LifeFronts
 pub mod Foretold
 pub mod HooksApart
 pub mod HostInLife

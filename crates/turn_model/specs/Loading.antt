@@ -100,8 +100,8 @@ abbrev pub beginning_of : (duid : List ℕ) → Loaded → Beginning
 beginning_of duid one = record {
   managed = one.managed;
   duid = duid;
-  kept4 = option_and_then (kept_by one.managed.spec.name) one.lease4;
-  kept6 = option_and_then (kept6_by one.managed.spec.name) one.lease6;
+  kept4 = option_and_then (kept_by one.managed.spec) one.lease4;
+  kept6 = option_and_then (kept6_by one.managed.spec) one.lease6;
 }
 
 abbrev pub beginnings_of : List Managed → FilesLoaded → List Beginning

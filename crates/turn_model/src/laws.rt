@@ -1,6 +1,7 @@
 ghost use Rattle.turn_model.specs.HooksApart.{HooksChangeNothing, WaitsByHooks};
 ghost use Rattle.turn_model.specs.FilesInLife.{LeavesFilesInOrder, OpeningKeepsFiles, TurnsKeepFiles, UnlikeAreNamedApart};
 ghost use Rattle.turn_model.specs.HostInLife.{OpeningHoldsWanted, TurnsHoldWanted, OthersStay};
+ghost use Rattle.turn_model.specs.OwnLeases.{AllBeginWithOwn};
 
 /// Law of a life over devices that tell what they hold and which of their calls fail, from any host and over any store: after
 /// the opening, and after every turn, in which no host call failed, whatever failed before, the host has exactly the rows that
@@ -38,4 +39,10 @@ pub fn unlike_interfaces_are_named_apart()
 pub fn hooks_change_nothing()
     ensures lives { HooksChangeNothing }
     ensures waits { WaitsByHooks }
+{}
+
+/// Law: whatever the files hold, each interface begins with a lease of its own name and, where the lease tells it, of its own
+/// hardware address, or with none.
+pub fn interfaces_begin_with_their_own_leases()
+    ensures { AllBeginWithOwn }
 {}

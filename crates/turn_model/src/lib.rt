@@ -5,5 +5,6 @@ mod laws;
 
 pub use laws::{
     a_life_holds_the_wanted_rows, a_life_keeps_its_files, a_life_leaves_files_in_order,
-    hooks_change_nothing, unlike_interfaces_are_named_apart,
+    hooks_change_nothing, interfaces_begin_with_their_own_leases,
+    unlike_interfaces_are_named_apart,
 };

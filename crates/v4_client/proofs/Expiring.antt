@@ -14,7 +14,7 @@ use Rattle.v4_client.specs.declared.states.Turn4.{Turn4}
 use Rattle.v4_client.specs.Clients.{held_terms, turn_of}
 use Rattle.v4_client.specs.History.{tick_step}
 use Rattle.v4_client.specs.Laws.{EndsAtExpiry}
-use Rattle.v4_client.specs.Moments.{earlier, expiry, renewal_at}
+use Rattle.v4_client.specs.Moments.{earlier, expiry, rebinding_at, renewal_at}
 use Rattle.v4_client.specs.Sound.{FitsState}
 use Rattle.v4_client.specs.Steps.{expires, rests}
 use Rattle.v4_client.specs.Ticks.{tick_row}
@@ -48,6 +48,19 @@ bound_due terms at acd fits come =
     renewed_by (eqb terms.lease INFINITE_LEASE) (terms.first + SECOND * terms.t1) (terms.first + SECOND * terms.lease) at
     (acd_due acd) before come
 
+-- T2 isn't after the expiry
+rebound_by : (endless : Bool) (rebinds ends due : ℕ) → rebinds ≤ ends
+    → IfSome (if endless then None else Some rebinds) (λ last. due ≤ last) → IfSome (if endless then None else Some ends) (λ last. due ≤ last)
+rebound_by true rebinds ends due before wakes = tt
+rebound_by false rebinds ends due before wakes = omega (arith, wakes)
+
+pub renewing_by : (terms : Terms4) (due : ℕ) → FitsTerms terms → IfSome (rebinding_at terms) (λ last. due ≤ last)
+    → IfSome (expiry terms) (λ last. due ≤ last)
+renewing_by terms due fits wakes =
+    let rebinds : terms.t2 ≤ terms.lease = fits.rebinds in
+    let before : terms.first + SECOND * terms.t2 ≤ terms.first + SECOND * terms.lease = omega arith in
+    rebound_by (eqb terms.lease INFINITE_LEASE) (terms.first + SECOND * terms.t2) (terms.first + SECOND * terms.lease) due before wakes
+
 -- the tick is due, and ends the lease
 record Expires (turn : Turn4) (state : State4) : Type 0 where
   due : is_due (due_of state) turn.at ≡ true
@@ -70,7 +83,7 @@ expires_in turn (Bound xid other acd) terms fits held come =
     record { due = bound_due other turn.at acd fits over; row = rw over refl }
 expires_in turn (Renewing exchange other acd due) terms fits held come =
     let over : is_due (expiry other) turn.at ≡ true = subst (λ (t : Terms4). is_due (expiry t) turn.at ≡ true) (sym (holds other terms held)) come in
-    record { due = due_by due turn.at (expiry other) (acd_due acd) fits.wakes over; row = rw over refl }
+    record { due = due_by due turn.at (expiry other) (acd_due acd) (renewing_by other due fits.renewal.holds fits.wakes) over; row = rw over refl }
 expires_in turn (Rebinding exchange other acd due) terms fits held come =
     let over : is_due (expiry other) turn.at ≡ true = subst (λ (t : Terms4). is_due (expiry t) turn.at ≡ true) (sym (holds other terms held)) come in
     record { due = due_by due turn.at (expiry other) (acd_due acd) fits.wakes over; row = rw over refl }

@@ -14,10 +14,10 @@ use Rattle.v4_client.specs.declared.states.State4.TheVariants.{Off, Init, Select
 use Rattle.v4_client.specs.declared.states.Step4.{Step4}
 use Rattle.v4_client.specs.declared.states.Turn4.{Turn4}
 use Rattle.v4_client.specs.Answers.{is_answer, is_blacklisted, unless_blacklisted, answering, reply_by, answer_of}
-use Rattle.v4_client.specs.Awaited.{is_accepted, is_awaited, is_awaited_by, awaited, may_want_memory}
+use Rattle.v4_client.specs.Awaited.{is_awaited, is_awaited_by, awaited, may_want_memory}
 use Rattle.v4_client.specs.Calls.{answer_to}
 use Rattle.v4_client.specs.Clients.{ClientContent, turn_of}
-use Rattle.v4_client.specs.Moves.{IsQuiet, is_grant, is_of_held, moved, told, with_values}
+use Rattle.v4_client.specs.Moves.{IsQuiet, is_grant, moved, told, with_values}
 use Rattle.v4_client.specs.Granting.{kept_values}
 use Rattle.v4_client.specs.Hearing.{heard_row}
 use Rattle.v4_client.specs.Laws.{IgnoresForeign, IsForeign, IsOfOtherServer}
@@ -177,52 +177,15 @@ grant_awaited settings arrival state e =
     no : is_grant (answer_of settings arrival state) ≡ false → is_grant (answer_of settings arrival state) ≡ true → ⊥
     no f g = cc
 
--- so was a message with news of the lease that was held
-pub news_awaited : (settings : SettingsContent) (arrival : Arrival) (turn : Turn4) (state : State4)
-    → is_of_held (heard_row turn (answer_of settings arrival state) state).news ≡ true → is_awaited settings arrival state ≡ true
-news_awaited settings arrival turn state e =
-    split (is_awaited settings arrival state) (λ b. b)
-    (λ b. absurd (no (ap (λ (a : Answer4). is_of_held (heard_row turn a state).news) (unawaited settings arrival state b)) e))
-  where
-    silent : is_of_held (heard_row turn answer.Nothing state).news ≡ false
-    silent = ap (λ (s : Step4). is_of_held s.news) (nothing_rests turn state)
-
-    no : is_of_held (heard_row turn (answer_of settings arrival state) state).news
-        ≡ is_of_held (heard_row turn answer.Nothing state).news
-        → is_of_held (heard_row turn (answer_of settings arrival state) state).news ≡ true → ⊥
-    no f g = let e : false ≡ true = sym silent ∙ (sym f ∙ g) in cc
-
--- memory is wanted for an ACK that is taken
+-- memory may be wanted for it
 pub grant_wants : (settings : SettingsContent) (arrival : Arrival) (state : State4)
     → is_grant (answer_of settings arrival state) ≡ true → may_want_memory settings arrival state ≡ true
-grant_wants settings arrival state e =
-    says (answer_of settings arrival state) (has_long_value arrival.message.instances settings.required) e
-  where
-    says : (said : Answer4) (other : Bool) → is_grant said ≡ true → (is_accepted said || other) ≡ true
-    says answer.Nothing other f = absurd cc
-    says (answer.Offer address server) other f = refl
-    says (answer.Ack terms) other f = refl
-    says answer.Nak other f = refl
-
--- for a message with news of the lease that was held
-pub news_wants : (settings : SettingsContent) (arrival : Arrival) (turn : Turn4) (state : State4)
-    → is_of_held (heard_row turn (answer_of settings arrival state) state).news ≡ true → may_want_memory settings arrival state ≡ true
-news_wants settings arrival turn state e =
-    says (answer_of settings arrival state) (has_long_value arrival.message.instances settings.required) e
-  where
-    silent : is_of_held (heard_row turn answer.Nothing state).news ≡ false
-    silent = ap (λ (s : Step4). is_of_held s.news) (nothing_rests turn state)
-
-    says : (said : Answer4) (other : Bool) → is_of_held (heard_row turn said state).news ≡ true → (is_accepted said || other) ≡ true
-    says answer.Nothing other f = let no : false ≡ true = sym silent ∙ f in absurd cc
-    says (answer.Offer address server) other f = refl
-    says (answer.Ack terms) other f = refl
-    says answer.Nak other f = refl
+grant_wants settings arrival state e = rw e refl
 
 -- and for an option that must be there and is long
 pub long_wants : (settings : SettingsContent) (arrival : Arrival) (state : State4)
     → has_long_value arrival.message.instances settings.required ≡ true → may_want_memory settings arrival state ≡ true
-long_wants settings arrival state e = either (is_accepted (answer_of settings arrival state)) _ e
+long_wants settings arrival state e = either (is_grant (answer_of settings arrival state)) _ e
   where
     either : (one other : Bool) → other ≡ true → (one || other) ≡ true
     either true other f = refl

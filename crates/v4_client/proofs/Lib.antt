@@ -5,5 +5,8 @@ pub mod SoundClients
 pub mod SoundRuns
 pub mod Foreign
 pub mod Granted
+pub mod Origins
 pub mod Probed
 pub mod Expiring
+pub mod InTime
+mod Room

@@ -6,6 +6,7 @@ use Rattle.std.proofs.lemmas.Bool.Decides.{nat_tests}
 use Rattle.std.proofs.lemmas.Nat.{leading_le}
 use Rattle.net_types.proofs.CaseLaws.{split, gated}
 use Rattle.net_types.specs.declared.address.Ip4.{Ip4}
+use Rattle.net_types.specs.Moments.{IsMoment}
 use Rattle.net_types.specs.Networks.{mask_len}
 use Rattle.v4_options.specs.declared.code.TheConstants.{LEASE_TIME}
 use Rattle.v4_message.specs.declared.kind.MessageKind.{MessageKind}
@@ -73,15 +74,16 @@ times_ordered lease t1 t2 =
 times_endless : (lease : ℕ) (t1 t2 : Option ℕ) → lease ≡ INFINITE_LEASE → (times_of lease t1 t2).t1 ≡ INFINITE_LEASE
 times_endless lease t1 t2 e = rw e refl
 
-terms_fit : (refused : List ℕ) (arrival : Arrival) (exchange : Exchange4) (server : Ip4) (lease : ℕ) → FitsExchange exchange
-    → 1 ≤ lease → FitsTerms (terms_granted refused arrival exchange server lease)
-terms_fit refused arrival exchange server lease fits some =
-    let t1 : Option ℕ = unless_refused refused 58 (number_at 58 arrival.message.instances) in
-    let t2 : Option ℕ = unless_refused refused 59 (number_at 59 arrival.message.instances) in
+terms_fit : (settings : SettingsContent) (arrival : Arrival) (exchange : Exchange4) (server : Ip4) (lease : ℕ) → IsMoment arrival.at
+    → FitsExchange exchange → 1 ≤ lease → FitsTerms (terms_granted settings arrival exchange server lease)
+terms_fit settings arrival exchange server lease early fits some =
+    let t1 : Option ℕ = unless_refused settings.refused 58 (number_at 58 arrival.message.instances) in
+    let t2 : Option ℕ = unless_refused settings.refused 59 (number_at 59 arrival.message.instances) in
     let ordered : AreOrdered lease (times_of lease t1 t2) = times_ordered lease t1 t2 in
     record {
       address = fits.address;
-      len = len_within exchange.address (mask_taken refused arrival.message.instances);
+      len = len_within exchange.address (mask_taken settings.refused arrival.message.instances);
+      confirmed = early;
       first = fits.first;
       lease = some;
       renews = ordered.renews;
@@ -114,11 +116,11 @@ offer_fits settings arrival None = tt
 offer_fits settings arrival (Some server) = offer_of_fits settings arrival server arrival.message.kind
 
 ack_fits : (settings : SettingsContent) (exchange : Exchange4) (arrival : Arrival) (server : Ip4) (lease : Option ℕ)
-    → FitsExchange exchange → FitsAnswer (ack_by settings exchange arrival server lease)
-ack_fits settings exchange arrival server None fits = tt
-ack_fits settings exchange arrival server (Some lease) fits =
+    → IsMoment arrival.at → FitsExchange exchange → FitsAnswer (ack_by settings exchange arrival server lease)
+ack_fits settings exchange arrival server None early fits = tt
+ack_fits settings exchange arrival server (Some lease) early fits =
     split (is_good_ack settings exchange arrival lease)
-    (λ e. rw e (terms_fit settings.refused arrival exchange server lease fits (some e))) (λ e. rw e tt)
+    (λ e. rw e (terms_fit settings arrival exchange server lease early fits (some e))) (λ e. rw e tt)
   where
     some : is_good_ack settings exchange arrival lease ≡ true → 1 ≤ lease
     some e =
@@ -130,38 +132,38 @@ ack_fits settings exchange arrival server (Some lease) fits =
         grind (arith, nat_tests)
 
 reply_of_fits : (settings : SettingsContent) (exchange : Exchange4) (arrival : Arrival) (server : Ip4) (sort : MessageKind)
-    → FitsExchange exchange → FitsAnswer (reply_of settings exchange arrival server sort)
-reply_of_fits settings exchange arrival server kind.Ack fits =
-    ack_fits settings exchange arrival server (number_at LEASE_TIME arrival.message.instances) fits
-reply_of_fits settings exchange arrival server kind.Nak fits = tt
-reply_of_fits settings exchange arrival server kind.Discover fits = tt
-reply_of_fits settings exchange arrival server kind.Offer fits = tt
-reply_of_fits settings exchange arrival server kind.Request fits = tt
-reply_of_fits settings exchange arrival server kind.Decline fits = tt
-reply_of_fits settings exchange arrival server kind.Release fits = tt
-reply_of_fits settings exchange arrival server kind.Inform fits = tt
+    → IsMoment arrival.at → FitsExchange exchange → FitsAnswer (reply_of settings exchange arrival server sort)
+reply_of_fits settings exchange arrival server kind.Ack early fits =
+    ack_fits settings exchange arrival server (number_at LEASE_TIME arrival.message.instances) early fits
+reply_of_fits settings exchange arrival server kind.Nak early fits = tt
+reply_of_fits settings exchange arrival server kind.Discover early fits = tt
+reply_of_fits settings exchange arrival server kind.Offer early fits = tt
+reply_of_fits settings exchange arrival server kind.Request early fits = tt
+reply_of_fits settings exchange arrival server kind.Decline early fits = tt
+reply_of_fits settings exchange arrival server kind.Release early fits = tt
+reply_of_fits settings exchange arrival server kind.Inform early fits = tt
 
 reply_fits : (settings : SettingsContent) (exchange : Exchange4) (arrival : Arrival) (server : Option Ip4)
-    → FitsExchange exchange → FitsAnswer (reply_by settings exchange arrival server)
-reply_fits settings exchange arrival None fits = tt
-reply_fits settings exchange arrival (Some server) fits =
+    → IsMoment arrival.at → FitsExchange exchange → FitsAnswer (reply_by settings exchange arrival server)
+reply_fits settings exchange arrival None early fits = tt
+reply_fits settings exchange arrival (Some server) early fits =
     gated FitsAnswer (is_chosen exchange.server server) _ _
-    (reply_of_fits settings exchange arrival server arrival.message.kind fits) tt
+    (reply_of_fits settings exchange arrival server arrival.message.kind early fits) tt
 
-pub answer_fits : (settings : SettingsContent) (arrival : Arrival) (state : State4) → FitsState state
+pub answer_fits : (settings : SettingsContent) (arrival : Arrival) (state : State4) → IsMoment arrival.at → FitsState state
     → FitsAnswer (answer_of settings arrival state)
-answer_fits settings arrival Off fits = tt
-answer_fits settings arrival (Init due) fits = tt
-answer_fits settings arrival (Selecting xid began secs backoff due) fits =
+answer_fits settings arrival Off early fits = tt
+answer_fits settings arrival (Init due) early fits = tt
+answer_fits settings arrival (Selecting xid began secs backoff due) early fits =
     offer_fits settings arrival (answering settings xid arrival)
-answer_fits settings arrival (Requesting exchange secs backoff due) fits =
-    reply_fits settings exchange arrival (answering settings exchange.xid arrival) fits
-answer_fits settings arrival (Rebooting exchange backoff end due) fits =
-    reply_fits settings exchange arrival (answering settings exchange.xid arrival) fits
-answer_fits settings arrival (Checking xid terms origin acd) fits = tt
-answer_fits settings arrival (Waiting due) fits = tt
-answer_fits settings arrival (Bound xid terms acd) fits = tt
-answer_fits settings arrival (Renewing exchange terms acd due) fits =
-    reply_fits settings exchange arrival (answering settings exchange.xid arrival) fits.renewal.asks
-answer_fits settings arrival (Rebinding exchange terms acd due) fits =
-    reply_fits settings exchange arrival (answering settings exchange.xid arrival) fits.renewal.asks
+answer_fits settings arrival (Requesting exchange secs backoff due) early fits =
+    reply_fits settings exchange arrival (answering settings exchange.xid arrival) early fits
+answer_fits settings arrival (Rebooting exchange backoff end due) early fits =
+    reply_fits settings exchange arrival (answering settings exchange.xid arrival) early fits.asks
+answer_fits settings arrival (Checking xid terms origin acd) early fits = tt
+answer_fits settings arrival (Waiting due) early fits = tt
+answer_fits settings arrival (Bound xid terms acd) early fits = tt
+answer_fits settings arrival (Renewing exchange terms acd due) early fits =
+    reply_fits settings exchange arrival (answering settings exchange.xid arrival) early fits.renewal.asks
+answer_fits settings arrival (Rebinding exchange terms acd due) early fits =
+    reply_fits settings exchange arrival (answering settings exchange.xid arrival) early fits.renewal.asks

@@ -1,7 +1,8 @@
 -- A sound step of a sound client gives a sound client, and the values that a message brings are within the bounds.
-use Rattle.std.proofs.Common.{◌≡◌, ℕ, ◌<◌, ◌^◌, Bool, true, false, ◌&&◌, List, [], ◌∷◌, ◌++◌, length, Option, Some, None, IfSome, option_map, refl, ap, subst, arith, nat_le, lit<}
+use Rattle.std.proofs.Common.{◌≡◌, ℕ, ◌<◌, Bool, true, false, ◌&&◌, List, [], ◌∷◌, ◌++◌, length, Option, Some, None, IfSome, option_map, refl, ap, subst, arith, nat_le, lit<}
 use Rattle.std.specs.List.{AllByRecursion, flat_map}
 use Rattle.std.proofs.lemmas.Bool.Decides.{nat_tests}
+use Rattle.net_types.specs.Moments.{IsMoment}
 use Rattle.machine.specs.Moment.{moment_of}
 use Rattle.net_types.proofs.AllLaws.{all_join}
 use Rattle.net_types.proofs.CaseLaws.{split}
@@ -137,5 +138,5 @@ begin_fits (Some lease) fits = fits.terms
 
 -- the moment of a turn is one of the client
 pub early : (turn : Turn4) (at moment salt : ℕ) (c : ClientContent) → moment ≡ moment_of at → turn ≡ turn_of moment salt c
-    → turn.at < 10 ^ 15
+    → IsMoment turn.at
 early turn at moment salt c told same = let here : turn.at ≡ moment = ap (λ (t : Turn4). t.at) same in omega arith

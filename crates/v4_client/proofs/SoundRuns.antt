@@ -1,5 +1,6 @@
 -- What holds of a client as it is made holds after all events.
-use Rattle.std.proofs.Common.{ℕ, ◌<◌, ◌^◌, [], ◌∷◌, arith}
+use Rattle.std.proofs.Common.{ℕ, [], ◌∷◌, arith}
+use Rattle.net_types.specs.Moments.{IsMoment}
 use Rattle.machine.specs.Moment.{is_due, moment_of}
 use Rattle.net_types.proofs.CaseLaws.{gated}
 use Rattle.v4_client.specs.declared.states.Carrier.TheVariants.{Up, Down}
@@ -14,17 +15,17 @@ use Rattle.v4_client.proofs.SoundAnswers.{answer_fits}
 use Rattle.v4_client.proofs.SoundClients.{begin_fits, brought_sound, moved_sound, values_fit}
 use Rattle.v4_client.proofs.SoundSteps.{arp_sound, begin_sound, heard_sound, off_sound, rebind_sound, release_sound, rests_sound, tick_sound, unsent_sound}
 
-within : (at : ℕ) → moment_of at < 10 ^ 15
+within : (at : ℕ) → IsMoment (moment_of at)
 within at = omega arith
 
-step_sound : (event : Event4) (c : ClientContent) → IsTimely event → IsSound c → IsSoundStep c.state (step_of event c)
+pub step_sound : (event : Event4) (c : ClientContent) → IsTimely event → IsSound c → IsSoundStep c.state (step_of event c)
 step_sound (Tick at salt) c timely sound =
     gated (IsSoundStep c.state) (is_due (due_of c.state) (moment_of at)) _ _
     (tick_sound (turn_of (moment_of at) salt c) c.state (within at) sound.state)
     (rests_sound (turn_of (moment_of at) salt c) c.state sound.state)
 step_sound (Heard arrival salt) c timely sound =
     heard_sound (turn_of arrival.at salt c) (answer_to arrival c) c.state timely sound.state
-    (answer_fits c.settings arrival c.state sound.state)
+    (answer_fits c.settings arrival c.state timely sound.state)
 step_sound (HeardArp own arp at salt) c timely sound = arp_sound own (turn_of (moment_of at) salt c) arp c.state sound.state
 step_sound (Unsent at salt) c timely sound = unsent_sound (turn_of (moment_of at) salt c) c.state sound.state
 step_sound (Carries Up at salt) c timely sound =

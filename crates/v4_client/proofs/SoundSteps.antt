@@ -1,5 +1,6 @@
 -- Each row of the table keeps what holds of every client.
-use Rattle.std.proofs.Common.{◌≡◌, ℕ, ◌+◌, ◌*◌, ◌<◌, ◌≤◌, ◌^◌, Bool, true, false, ◌||◌, List, Option, Some, None, IfSome, refl, sym, if◌then◌else◌, nat_le, eqb, arith}
+use Rattle.std.proofs.Common.{◌≡◌, ℕ, ◌+◌, ◌*◌, ◌≤◌, Bool, true, false, ◌||◌, List, Option, Some, None, IfSome, refl, sym, if◌then◌else◌, nat_le, eqb, arith}
+use Rattle.net_types.specs.Moments.{IsMoment}
 use Rattle.machine.specs.Moment.{is_due}
 use Rattle.net_types.proofs.CaseLaws.{gated}
 use Rattle.net_types.specs.declared.address.Mac.{Mac}
@@ -73,21 +74,10 @@ again_by : (end : Option ℕ) (at : ℕ) → IfSome end (λ last. again_at end a
 again_by None at = tt
 again_by (Some end) at = omega arith
 
-again_before : (endless : Bool) (rebinds ends at : ℕ) → rebinds ≤ ends
-    → IfSome (if endless then None else Some ends) (λ last. again_at (if endless then None else Some rebinds) at ≤ last)
-again_before true rebinds ends at before = tt
-again_before false rebinds ends at before = omega arith
-
 renewing_sound : (turn : Turn4) (before : State4) (exchange : Exchange4) (terms : Terms4) (acd : Option Acd)
     → held_terms before ≡ Some terms → FitsRenewal exchange terms → IsSoundStep before (renewing turn exchange terms acd)
 renewing_sound turn before exchange terms acd held fits =
-    let ordered : terms.t2 ≤ terms.lease = fits.holds.rebinds in
-    let earlier : terms.first + SECOND * terms.t2 ≤ terms.first + SECOND * terms.lease = omega arith in
-    record {
-      state = record { renewal = fits; wakes = again_before (eqb terms.lease INFINITE_LEASE) _ _ turn.at earlier };
-      keep = tt;
-      held = held;
-    }
+    record { state = record { renewal = fits; wakes = again_by (rebinding_at terms) turn.at }; keep = tt; held = held }
 
 rebinding_sound : (turn : Turn4) (before : State4) (exchange : Exchange4) (terms : Terms4) (acd : Option Acd)
     → held_terms before ≡ Some terms → FitsRenewal exchange terms → IsSoundStep before (rebinding turn exchange terms acd)
@@ -95,7 +85,7 @@ rebinding_sound turn before exchange terms acd held fits =
     record { state = record { renewal = fits; wakes = again_by (expiry terms) turn.at }; keep = tt; held = held }
 
 -- a new exchange for the address of a lease
-anew : (turn : Turn4) (terms : Terms4) → turn.at < 10 ^ 15 → FitsTerms terms → FitsRenewal (new_exchange turn terms.net.ip) terms
+anew : (turn : Turn4) (terms : Terms4) → IsMoment turn.at → FitsTerms terms → FitsRenewal (new_exchange turn terms.net.ip) terms
 anew turn terms at fits =
     record { asks = record { address = fits.address; first = at }; holds = fits; same = refl }
 
@@ -165,7 +155,7 @@ checked_sound turn before xid terms origin acd GivenUp fits = record { state = f
 
 -- ---- ticks
 
-bound_sound : (turn : Turn4) (xid : ℕ) (terms : Terms4) (acd : Option Acd) → turn.at < 10 ^ 15 → FitsTerms terms
+bound_sound : (turn : Turn4) (xid : ℕ) (terms : Terms4) (acd : Option Acd) → IsMoment turn.at → FitsTerms terms
     → IsSoundStep (Bound xid terms acd) (bound_tick turn xid terms acd)
 bound_sound turn xid terms acd at fits =
     let here : State4 = Bound xid terms acd in
@@ -176,8 +166,8 @@ bound_sound turn xid terms acd at fits =
     (renewing_sound turn here (new_exchange turn terms.net.ip) terms acd refl (anew turn terms at fits))
     (detects_sound turn xid terms here acd fits)))
 
-renewing_tick_sound : (turn : Turn4) (exchange : Exchange4) (terms : Terms4) (acd : Option Acd) (due : ℕ) → turn.at < 10 ^ 15
-    → FitsRenewing exchange terms due → IsSoundStep (Renewing exchange terms acd due) (renewing_tick turn exchange terms acd due)
+renewing_tick_sound : (turn : Turn4) (exchange : Exchange4) (terms : Terms4) (acd : Option Acd) (due : ℕ) → IsMoment turn.at
+    → FitsRenewing exchange terms (rebinding_at terms) due → IsSoundStep (Renewing exchange terms acd due) (renewing_tick turn exchange terms acd due)
 renewing_tick_sound turn exchange terms acd due at fits =
     let here : State4 = Renewing exchange terms acd due in
     gated (IsSoundStep here) (is_due (expiry terms) turn.at) _ _ (expires_sound turn here)
@@ -186,8 +176,8 @@ renewing_tick_sound turn exchange terms acd due at fits =
     (gated (IsSoundStep here) (nat_le due turn.at) _ _ (renewing_sound turn here exchange terms acd refl fits.renewal)
     (detects_sound turn exchange.xid terms here acd fits)))
 
-rebinding_tick_sound : (turn : Turn4) (exchange : Exchange4) (terms : Terms4) (acd : Option Acd) (due : ℕ) → turn.at < 10 ^ 15
-    → FitsRenewing exchange terms due → IsSoundStep (Rebinding exchange terms acd due) (rebinding_tick turn exchange terms acd due)
+rebinding_tick_sound : (turn : Turn4) (exchange : Exchange4) (terms : Terms4) (acd : Option Acd) (due : ℕ) → IsMoment turn.at
+    → FitsRenewing exchange terms (expiry terms) due → IsSoundStep (Rebinding exchange terms acd due) (rebinding_tick turn exchange terms acd due)
 rebinding_tick_sound turn exchange terms acd due at fits =
     let here : State4 = Rebinding exchange terms acd due in
     gated (IsSoundStep here) (is_due (expiry terms) turn.at) _ _ (expires_sound turn here)
@@ -198,7 +188,7 @@ requesting_sound : (turn : Turn4) (before : State4) (exchange : Exchange4) (secs
     → IsSoundStep before (requesting turn exchange secs backoff)
 requesting_sound turn before exchange secs backoff fits = record { state = fits; keep = tt; held = tt }
 
-pub tick_sound : (turn : Turn4) (state : State4) → turn.at < 10 ^ 15 → FitsState state → IsSoundStep state (tick_row turn state)
+pub tick_sound : (turn : Turn4) (state : State4) → IsMoment turn.at → FitsState state → IsSoundStep state (tick_row turn state)
 tick_sound turn Off at fits = rests_sound turn Off tt
 tick_sound turn (Init due) at fits = discovers_sound turn (Init due)
 tick_sound turn (Waiting due) at fits = discovers_sound turn (Waiting due)
@@ -211,7 +201,7 @@ tick_sound turn (Requesting exchange secs SixtyFour due) at fits = record { stat
 tick_sound turn (Rebooting exchange backoff end due) at fits =
     let here : State4 = Rebooting exchange backoff end due in
     gated (IsSoundStep here) (nat_le end turn.at) (discovers turn) (rebooting turn exchange (doubled backoff) end) (discovers_sound turn here)
-    (record { state = fits; keep = tt; held = tt })
+    (record { state = record { asks = fits.asks; wakes = omega arith }; keep = tt; held = tt })
 tick_sound turn (Checking xid terms origin acd) at fits =
     let here : State4 = Checking xid terms origin acd in
     gated (IsSoundStep here) (is_due (expiry terms) turn.at) _ _ (to_init_sound turn here)
@@ -229,7 +219,7 @@ granted_sound turn before xid terms origin fits =
     gated (IsSoundStep before) turn.site.noarp _ _ (binds_sound turn before xid terms (bound_news origin) None fits)
     (record { state = fits; keep = tt; held = tt })
 
-offered_sound : (turn : Turn4) (xid secs : ℕ) (state : State4) (answer : Answer4) → turn.at < 10 ^ 15 → FitsState state
+offered_sound : (turn : Turn4) (xid secs : ℕ) (state : State4) (answer : Answer4) → IsMoment turn.at → FitsState state
     → FitsAnswer answer → IsSoundStep state (offered turn xid secs state answer)
 offered_sound turn xid secs state answer.Nothing at fits good = rests_sound turn state fits
 offered_sound turn xid secs state (answer.Offer address server) at fits good =
@@ -251,7 +241,7 @@ renewed_sound turn xid news acd state (answer.Offer address server) fits good = 
 renewed_sound turn xid news acd state (answer.Ack terms) fits good = binds_sound turn state xid terms news acd good
 renewed_sound turn xid news acd state answer.Nak fits good = refused_sound turn state
 
-pub heard_sound : (turn : Turn4) (answer : Answer4) (state : State4) → turn.at < 10 ^ 15 → FitsState state → FitsAnswer answer
+pub heard_sound : (turn : Turn4) (answer : Answer4) (state : State4) → IsMoment turn.at → FitsState state → FitsAnswer answer
     → IsSoundStep state (heard_row turn answer state)
 heard_sound turn answer Off at fits good = rests_sound turn Off tt
 heard_sound turn answer (Init due) at fits good = rests_sound turn (Init due) tt
@@ -290,15 +280,15 @@ arp_sound own turn arp (Rebinding exchange terms acd due) fits =
 
 -- ---- the other inputs
 
-begins_sound : (turn : Turn4) (kept : Option Terms4) (before : State4) → turn.at < 10 ^ 15 → FitsBegin kept
+begins_sound : (turn : Turn4) (kept : Option Terms4) (before : State4) → IsMoment turn.at → FitsBegin kept
     → IsSoundStep before (begins turn kept)
 begins_sound turn None before at fits = to_init_sound turn before
 begins_sound turn (Some terms) before at fits =
     gated (IsSoundStep before) (is_due (expiry terms) turn.at || eqb turn.site.reboot 0) (to_init turn)
     (rebooting turn (new_exchange turn terms.net.ip) Four (turn.at + SECOND * turn.site.reboot)) (to_init_sound turn before)
-    (record { state = record { address = fits.address; first = at }; keep = tt; held = tt })
+    (record { state = record { asks = record { address = fits.address; first = at }; wakes = omega arith }; keep = tt; held = tt })
 
-pub begin_sound : (turn : Turn4) (kept : Option Terms4) (state : State4) → turn.at < 10 ^ 15 → FitsBegin kept → FitsState state
+pub begin_sound : (turn : Turn4) (kept : Option Terms4) (state : State4) → IsMoment turn.at → FitsBegin kept → FitsState state
     → IsSoundStep state (begin_row turn kept state)
 begin_sound turn kept Off at begin fits = begins_sound turn kept Off at begin
 begin_sound turn kept (Init due) at begin fits = rests_sound turn (Init due) fits
@@ -333,7 +323,7 @@ release_sound turn tell (Bound xid terms acd) = released_sound turn tell terms (
 release_sound turn tell (Renewing exchange terms acd due) = released_sound turn tell terms (Renewing exchange terms acd due)
 release_sound turn tell (Rebinding exchange terms acd due) = released_sound turn tell terms (Rebinding exchange terms acd due)
 
-pub rebind_sound : (turn : Turn4) (kept : Option Terms4) (state : State4) → turn.at < 10 ^ 15 → FitsBegin kept → FitsState state
+pub rebind_sound : (turn : Turn4) (kept : Option Terms4) (state : State4) → IsMoment turn.at → FitsBegin kept → FitsState state
     → IsSoundStep state (rebind_row turn kept state)
 rebind_sound turn kept Off at begin fits = begins_sound turn kept Off at begin
 rebind_sound turn kept (Init due) at begin fits = rests_sound turn (Init due) fits

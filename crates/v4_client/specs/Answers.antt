@@ -84,7 +84,7 @@ abbrev pub ack_by : SettingsContent → Exchange4 → Arrival → (server : Ip4)
 ack_by settings exchange arrival server None = Nothing
 ack_by settings exchange arrival server (Some lease) =
     if is_good_ack settings exchange arrival lease
-    then Ack (terms_granted settings.refused arrival exchange server lease)
+    then Ack (terms_granted settings arrival exchange server lease)
     else Nothing
 
 abbrev pub reply_of : SettingsContent → Exchange4 → Arrival → (server : Ip4) → MessageKind → Answer4

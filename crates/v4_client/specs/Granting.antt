@@ -14,6 +14,7 @@ use Rattle.lease_text.specs.ValueForms.{is_well_formed}
 use Rattle.v4_client.specs.declared.states.Exchange4.{Exchange4}
 use Rattle.v4_message.specs.Messages.{address_at}
 use Rattle.v4_client.specs.Messages.{Arrival, number_at, is_among}
+use Rattle.v4_client.specs.Settings.{SettingsContent}
 use Rattle.v4_client.specs.declared.options.Times4.{Times4}
 
 -- the length of an address by its class (RFC 791, section 3.2)
@@ -58,12 +59,16 @@ times_taken refused instances lease =
     times_of lease (unless_refused refused RENEWAL_TIME (number_at RENEWAL_TIME instances))
     (unless_refused refused REBINDING_TIME (number_at REBINDING_TIME instances))
 
--- the terms of the lease that an exchange is granted
-abbrev pub terms_granted : (refused : List ℕ) → Arrival → Exchange4 → (server : Ip4) → (lease : ℕ) → Terms4
-terms_granted refused arrival exchange server lease =
-    let times : Times4 = times_taken refused arrival.message.instances lease in
+-- the terms of the lease that an exchange is granted; it was confirmed when the ACK was heard
+abbrev pub terms_granted : SettingsContent → Arrival → Exchange4 → (server : Ip4) → (lease : ℕ) → Terms4
+terms_granted settings arrival exchange server lease =
+    let times : Times4 = times_taken settings.refused arrival.message.instances lease in
     record {
-      net = record { ip = exchange.address; len = net_len exchange.address (mask_taken refused arrival.message.instances) };
+      origin = Some (record { mac = settings.site.iface.mac; confirmed = arrival.at });
+      net = record {
+        ip = exchange.address;
+        len = net_len exchange.address (mask_taken settings.refused arrival.message.instances);
+      };
       server = server;
       server_mac = arrival.source;
       first = exchange.first;

@@ -1,6 +1,7 @@
 -- What holds of a client: of each event in each state, and over every list of events.
-use Rattle.std.specs.Prelude.{◌≡◌, ◌≢◌, ℕ, ◌<◌, ◌^◌, ◌⊎◌, true, false, List, Option, Some, None, bytes_eq}
+use Rattle.std.specs.Prelude.{◌≡◌, ◌≢◌, ℕ, ◌⊎◌, true, false, List, Option, Some, None, bytes_eq}
 use Rattle.std.specs.List.{AllByRecursion}
+use Rattle.net_types.specs.Moments.{IsMoment}
 use Rattle.machine.specs.Moment.{is_due, moment_of}
 use Rattle.machine.specs.Since.{Since}
 use Rattle.net_types.specs.declared.address.Ip4.{Ip4}
@@ -74,7 +75,7 @@ HoldsGranted = (start : ClientContent) (past : List Event4) (terms : Terms4) →
 -- ---- bounds
 
 abbrev pub IsTimely : Event4 → Type 0
-IsTimely (Heard arrival salt) = arrival.at < 10 ^ 15
+IsTimely (Heard arrival salt) = IsMoment arrival.at
 IsTimely _ = Unit {0}
 
 -- What holds of a client as it is made holds after all events.

@@ -18,4 +18,6 @@ pub mod Rests
 pub mod Sound
 pub mod History
 pub mod Laws
+pub mod Origins
 pub mod Probes
+pub mod InTime

@@ -33,6 +33,15 @@ is_of_held news.Nak = true
 is_of_held news.Expire = true
 is_of_held news.Stop = true
 
+abbrev pub stays_kept : Keep4 → Bool
+stays_kept Stays = true
+stays_kept Clears = false
+stays_kept (Takes terms) = false
+
+-- the lease that was held is told and stays kept, so that it is copied
+abbrev pub is_copied : Step4 → (held : Bool) → Bool
+is_copied step held = stays_kept step.keep && is_of_held step.news && held
+
 -- the lease that was held before, where the news is of it
 abbrev pub old_of : News4 → (held : Bool) → Option LeaseContent → Option LeaseContent
 old_of news held kept = if is_of_held news && held then kept else None
@@ -75,6 +84,10 @@ fresh_with answer.Nak values fresh = fresh
 
 abbrev pub with_values : Answer4 → List ValueContent → ClientContent → ClientContent
 with_values answer values c = record c { fresh = fresh_with answer values c.fresh }
+
+-- such a step takes room
+abbrev pub takes_room : Step4 → ClientContent → Bool
+takes_room step c = is_copied step (is_held c.state)
 
 -- nothing is said
 pub record IsQuiet (out : OutContent) : Type 0 where

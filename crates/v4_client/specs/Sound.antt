@@ -1,5 +1,6 @@
 -- What holds of every client: its leases are within the bounds of their texts, and the lease that it holds is the kept one.
-use Rattle.std.specs.Prelude.{◌≡◌, ℕ, ◌<◌, ◌≤◌, ◌^◌, true, Option, Some, None, option_map, IfSome}
+use Rattle.std.specs.Prelude.{◌≡◌, ℕ, ◌≤◌, true, Option, Some, None, option_map, IfSome}
+use Rattle.net_types.specs.Moments.{IsMoment}
 use Rattle.net_types.specs.NameText.{FitsName}
 use Rattle.v4_message.specs.Requests.{AskFits}
 use Rattle.lease_text.specs.declared.lease.Terms4.{Terms4}
@@ -14,12 +15,12 @@ use Rattle.v4_client.specs.declared.states.State4.{State4}
 use Rattle.v4_client.specs.declared.states.State4.TheVariants.{Off, Init, Selecting, Requesting, Rebooting, Checking, Waiting, Bound, Renewing, Rebinding}
 use Rattle.v4_client.specs.declared.states.Step4.{Step4}
 use Rattle.v4_client.specs.Clients.{ClientContent, held_terms}
-use Rattle.v4_client.specs.Moments.{expiry}
+use Rattle.v4_client.specs.Moments.{expiry, rebinding_at}
 
 -- an exchange asks for an address that a host may have
 pub record FitsExchange (exchange : Exchange4) : Type 0 where
   pub address : is_host_address exchange.address ≡ true
-  pub first : exchange.first < 10 ^ 15
+  pub first : IsMoment exchange.first
 
 -- one that renews a lease asks for the address of the lease
 pub record FitsRenewal (exchange : Exchange4) (terms : Terms4) : Type 0 where
@@ -27,25 +28,27 @@ pub record FitsRenewal (exchange : Exchange4) (terms : Terms4) : Type 0 where
   pub holds : FitsTerms terms
   pub same : exchange.address.number ≡ terms.net.ip.number
 
--- such a moment is one at which the client acts before the lease is over
-abbrev pub WakesIn : Terms4 → (due : ℕ) → Type 0
-WakesIn terms due = IfSome (expiry terms) (λ end. due ≤ end)
-
-pub record FitsRenewing (exchange : Exchange4) (terms : Terms4) (due : ℕ) : Type 0 where
+-- its REQUEST is said again by the moment at which that ends: T2 while the lease is renewed, its expiry while it is rebound
+pub record FitsRenewing (exchange : Exchange4) (terms : Terms4) (end : Option ℕ) (due : ℕ) : Type 0 where
   pub renewal : FitsRenewal exchange terms
-  pub wakes : WakesIn terms due
+  pub wakes : IfSome end (λ last. due ≤ last)
+
+-- one for the kept lease says its REQUEST again by its end
+pub record FitsRebooting (exchange : Exchange4) (end due : ℕ) : Type 0 where
+  pub asks : FitsExchange exchange
+  pub wakes : due ≤ end
 
 abbrev pub FitsState : State4 → Type 0
 FitsState Off = Unit {0}
 FitsState (Init due) = Unit {0}
 FitsState (Selecting xid began secs backoff due) = Unit {0}
 FitsState (Requesting exchange secs backoff due) = FitsExchange exchange
-FitsState (Rebooting exchange backoff end due) = FitsExchange exchange
+FitsState (Rebooting exchange backoff end due) = FitsRebooting exchange end due
 FitsState (Checking xid terms origin acd) = FitsTerms terms
 FitsState (Waiting due) = Unit {0}
 FitsState (Bound xid terms acd) = FitsTerms terms
-FitsState (Renewing exchange terms acd due) = FitsRenewing exchange terms due
-FitsState (Rebinding exchange terms acd due) = FitsRenewing exchange terms due
+FitsState (Renewing exchange terms acd due) = FitsRenewing exchange terms (rebinding_at terms) due
+FitsState (Rebinding exchange terms acd due) = FitsRenewing exchange terms (expiry terms) due
 
 -- the lease that is held is the kept one
 abbrev pub IsKept : (held : Option Terms4) → Option LeaseContent → Type 0
@@ -67,9 +70,11 @@ FitsKeep Stays = Unit {0}
 FitsKeep Clears = Unit {0}
 FitsKeep (Takes terms) = FitsTerms terms
 
--- the terms that are held after a step are those that were held before, or that are taken
+-- the terms that are held after a step are those that were held before, or that are taken; what is taken is held
 abbrev pub KeepsHeld : (before : Option Terms4) → Keep4 → (after : Option Terms4) → Type 0
-KeepsHeld before keep None = Unit {0}
+KeepsHeld before Stays None = Unit {0}
+KeepsHeld before Clears None = Unit {0}
+KeepsHeld before (Takes taken) None = ⊥
 KeepsHeld before Stays (Some terms) = before ≡ Some terms
 KeepsHeld before Clears (Some terms) = ⊥
 KeepsHeld before (Takes taken) (Some terms) = taken ≡ terms

@@ -1,6 +1,7 @@
 //! What a message says to a client: whether it is acceptable in its state.
 
-ghost use Rattle.std.specs.Prelude.{◌≡◌, ◌<◌, ◌^◌, true, Some, IfOk, OnErr};
+ghost use Rattle.std.specs.Prelude.{◌≡◌, true, Some, IfOk, OnErr};
+ghost use Rattle.net_types.specs.Moments.{IsMoment};
 ghost use Rattle.v4_client.specs.Answers.{answer_of, answering, is_answer, is_blacklisted, is_chosen, is_unexpired, offer_by, offer_of, reply_by, reply_in, reply_of};
 ghost use Rattle.v4_client.specs.Awaited.{is_awaited, is_awaited_by};
 ghost use Rattle.v4_client.specs.Messages.{arrival_of, has_long_value};
@@ -102,7 +103,7 @@ fn is_chosen(chosen: Option<Ip4>, server: Ip4) -> bool
 
 /// Whether a lease of so many seconds, counted from `first`, isn't over.
 fn is_unexpired(first: u64, lease: u32, at: u64) -> bool
-    requires { first < 10 ^ 15 }
+    requires { IsMoment first }
     ensures { result ≡ is_unexpired first lease at }
 {
     lease == INFINITE_LEASE || at < first + SECOND * u64::from(lease)
@@ -116,7 +117,7 @@ fn ack_by(
     arrival: &Arrival4,
     server: Ip4,
 ) -> Result<Answer4, NoMemory>
-    requires { exchange.first < 10 ^ 15 }
+    requires { IsMoment exchange.first }
     ensures memory { OnErr result (has_long_value (arrival_of arrival.now).message.instances (settings_content set.now).required ≡ true) }
     ensures answer { IfOk result (λ answer. answer ≡ reply_of (settings_content set.now) exchange (arrival_of arrival.now) server MessageKind.Ack) }
 {
@@ -136,7 +137,7 @@ fn ack_by(
     if !are_there(alloc, &message.options, &set.required)? {
         return Ok(Answer4::Nothing);
     }
-    let terms = terms_granted(arrival, &set.refused, exchange, server, lease);
+    let terms = terms_granted(arrival, set, exchange, server, lease);
     Ok(Answer4::Ack(terms))
 }
 
@@ -148,7 +149,7 @@ fn reply_by(
     arrival: &Arrival4,
     server: Ip4,
 ) -> Result<Answer4, NoMemory>
-    requires { exchange.first < 10 ^ 15 }
+    requires { IsMoment exchange.first }
     ensures memory { OnErr result (has_long_value (arrival_of arrival.now).message.instances (settings_content set.now).required ≡ true) }
     ensures answer { IfOk result (λ answer. answer ≡ reply_by (settings_content set.now) exchange (arrival_of arrival.now) (Some server)) }
 {
@@ -174,7 +175,7 @@ fn reply_in(
     arrival: &Arrival4,
     exchange: Exchange4,
 ) -> Result<Answer4, NoMemory>
-    requires { exchange.first < 10 ^ 15 }
+    requires { IsMoment exchange.first }
     ensures memory { OnErr result (has_long_value (arrival_of arrival.now).message.instances (settings_content set.now).required ≡ true) }
     ensures awaited { OnErr result (is_awaited_by (settings_content set.now) (arrival_of arrival.now) (Some exchange.xid) ≡ true) }
     ensures answer { IfOk result (λ answer. answer ≡ reply_in (settings_content set.now) (arrival_of arrival.now) exchange) }

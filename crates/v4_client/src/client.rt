@@ -1,6 +1,7 @@
 //! The client: its calls, each a step of the table.
 
-ghost use Rattle.std.specs.Prelude.{◌≡◌, ◌<◌, ◌^◌, true, option_map, IfOk, IfSome, OnErr, OnOk};
+ghost use Rattle.std.specs.Prelude.{◌≡◌, true, option_map, IfOk, IfSome, OnErr, OnOk};
+ghost use Rattle.net_types.specs.Moments.{IsMoment};
 ghost use Rattle.machine.specs.Moment.{moment_of};
 ghost use Rattle.net_types.specs.NameText.{FitsName};
 ghost use Rattle.lease_text.specs.Bounds.{FitsLease};
@@ -10,7 +11,7 @@ ghost use Rattle.v4_client.specs.Answers.{answer_of};
 ghost use Rattle.v4_client.specs.Awaited.{is_awaited, may_want_memory};
 ghost use Rattle.v4_client.specs.Calls.{Hears, answer_to, arp_step, carrier_step, rebind_step, release_step, unsent_step};
 ghost use Rattle.v4_client.specs.Clients.{client_made, held_of, kept_terms, out_content, turn_of};
-ghost use Rattle.v4_client.specs.Moves.{IsStep4, is_grant, is_of_held, with_values};
+ghost use Rattle.v4_client.specs.Moves.{IsStep4, is_grant, takes_room, with_values};
 ghost use Rattle.v4_client.specs.Granting.{kept_values};
 ghost use Rattle.v4_client.specs.Messages.{arrival_from, arrival_of, has_long_value};
 ghost use Rattle.v4_client.specs.Rests.{IsQuietAnswer, Ticks, tick_rests};
@@ -94,7 +95,7 @@ impl Client4 {
     /// The terms of the kept lease.
     fn kept_terms(&self) -> Option<Terms4>
         ensures value { result ≡ kept_terms self.now }
-        ensures first { IfSome result (λ terms. terms.first < 10 ^ 15) }
+        ensures first { IfSome result (λ terms. IsMoment terms.first) }
     {
         match &self.leases.kept {
             Some(lease) => Some(lease.terms()),
@@ -105,7 +106,7 @@ impl Client4 {
     /// Goes a step of the table.
     fn go(&mut self, step: Step4) -> Result<Out4, NoMemory>
         requires { IsSoundStep self.old.state step }
-        ensures memory { OnErr result (is_of_held step.news ≡ true) }
+        ensures memory { OnErr result (takes_room step self.old ≡ true) }
         ensures step { IfOk result (λ out. IsStep4 step self.old self.new (out_content out)) }
     {
         let old = self
@@ -195,8 +196,8 @@ impl Machine for Client4 {
 }
 
 /// Hears a message whose frame came from the hardware address `from`. Memory is wanted only for an answer that is waited
-/// for, and only where it is accepted, or where an option that it must have is longer than `VALUE_LIMIT`; any other message
-/// changes nothing.
+/// for, and only where it is an ACK that is taken, or where an option that it must have is longer than `VALUE_LIMIT`; what is
+/// not acceptable changes nothing.
 pub fn heard4(c: &mut Client4, msg: &Msg4, from: Mac, at: u64, salt: u64) -> Result<Out4, NoMemory>
     ensures memory { OnErr result (may_want_memory c.old.settings (arrival_from from (moment_of at) msg.now) c.old.state ≡ true) }
     ensures awaited { OnErr result (is_awaited c.old.settings (arrival_from from (moment_of at) msg.now) c.old.state ≡ true) }
@@ -221,7 +222,8 @@ pub fn heard_arp4(
     salt: u64,
     own: &[Mac],
 ) -> Result<Out4, NoMemory>
-    ensures { IfOk result (λ out. IsStep4 (arp_step own.now (moment_of at) salt arp.now c.old) c.old c.new (out_content out)) }
+    ensures memory { OnErr result (takes_room (arp_step own.now (moment_of at) salt arp.now c.old) c.old ≡ true) }
+    ensures step { IfOk result (λ out. IsStep4 (arp_step own.now (moment_of at) salt arp.now c.old) c.old c.new (out_content out)) }
 {
     let turn = c.turn(clamp_moment(at), salt);
     let step = arp_row(own, turn, arp, c.state);
@@ -238,7 +240,8 @@ pub fn unsent4(c: &mut Client4, at: u64, salt: u64)
 
 /// The carrier comes or goes.
 pub fn carrier4(c: &mut Client4, carrier: Carrier, at: u64, salt: u64) -> Result<Out4, NoMemory>
-    ensures { IfOk result (λ out. IsStep4 (carrier_step carrier (moment_of at) salt c.old) c.old c.new (out_content out)) }
+    ensures memory { OnErr result (takes_room (carrier_step carrier (moment_of at) salt c.old) c.old ≡ true) }
+    ensures step { IfOk result (λ out. IsStep4 (carrier_step carrier (moment_of at) salt c.old) c.old c.new (out_content out)) }
 {
     let turn = c.turn(clamp_moment(at), salt);
     let step = match carrier {
@@ -250,7 +253,8 @@ pub fn carrier4(c: &mut Client4, carrier: Carrier, at: u64, salt: u64) -> Result
 
 /// The client stops; where a lease is held, `tell` says whether its server is told.
 pub fn release4(c: &mut Client4, tell: Tell, at: u64, salt: u64) -> Result<Out4, NoMemory>
-    ensures { IfOk result (λ out. IsStep4 (release_step tell (moment_of at) salt c.old) c.old c.new (out_content out)) }
+    ensures memory { OnErr result (takes_room (release_step tell (moment_of at) salt c.old) c.old ≡ true) }
+    ensures step { IfOk result (λ out. IsStep4 (release_step tell (moment_of at) salt c.old) c.old c.new (out_content out)) }
 {
     let turn = c.turn(clamp_moment(at), salt);
     let step = release_row(turn, tell, c.state);
@@ -259,7 +263,8 @@ pub fn release4(c: &mut Client4, tell: Tell, at: u64, salt: u64) -> Result<Out4,
 
 /// The lease is to be rebound at once; a client that is off begins.
 pub fn rebind4(c: &mut Client4, at: u64, salt: u64) -> Result<Out4, NoMemory>
-    ensures { IfOk result (λ out. IsStep4 (rebind_step (moment_of at) salt c.old) c.old c.new (out_content out)) }
+    ensures memory { OnErr result (takes_room (rebind_step (moment_of at) salt c.old) c.old ≡ true) }
+    ensures step { IfOk result (λ out. IsStep4 (rebind_step (moment_of at) salt c.old) c.old c.new (out_content out)) }
 {
     let turn = c.turn(clamp_moment(at), salt);
     let step = rebind_row(turn, c.kept_terms(), c.state);

@@ -1,6 +1,7 @@
 //! What conflict detection says of an address that is checked or held.
 
-ghost use Rattle.std.specs.Prelude.{◌≡◌, ◌<◌, ◌^◌};
+ghost use Rattle.std.specs.Prelude.{◌≡◌};
+ghost use Rattle.net_types.specs.Moments.{IsMoment};
 ghost use Rattle.v4_client.specs.Detection as detection;
 
 use crate::states::{Origin4, State4, Step4, Turn4};
@@ -17,7 +18,7 @@ pub(crate) fn checked(
     acd: Acd,
     says: AcdSays,
 ) -> Step4
-    requires { turn.at < 10 ^ 15 }
+    requires { IsMoment turn.at }
     ensures { result ≡ detection.checked turn xid terms origin acd says }
 {
     let stays = rests(
@@ -90,7 +91,7 @@ pub(crate) fn with_acd(state: State4, acd: Acd) -> State4
 
 /// Of an address that is held.
 pub(crate) fn defended(turn: Turn4, xid: u32, terms: Terms4, state: State4, says: AcdSays) -> Step4
-    requires { turn.at < 10 ^ 15 }
+    requires { IsMoment turn.at }
     ensures { result ≡ detection.defended turn xid terms state says }
 {
     let stays = rests(turn, state);

@@ -1,6 +1,7 @@
 //! What a client does with a message that was judged, and with an ARP packet.
 
-ghost use Rattle.std.specs.Prelude.{◌≡◌, ◌<◌, ◌^◌};
+ghost use Rattle.std.specs.Prelude.{◌≡◌};
+ghost use Rattle.net_types.specs.Moments.{IsMoment};
 ghost use Rattle.v4_client.specs.Hearing as hearing;
 
 use crate::detection::{checked, defended, with_acd};
@@ -14,7 +15,7 @@ use net_types::Mac;
 
 /// In Selecting.
 fn offered(turn: Turn4, xid: u32, secs: u16, state: State4, answer: Answer4) -> Step4
-    requires { turn.at < 10 ^ 15 }
+    requires { IsMoment turn.at }
     ensures { result ≡ hearing.offered turn xid secs state answer }
 {
     match answer {
@@ -34,7 +35,7 @@ fn offered(turn: Turn4, xid: u32, secs: u16, state: State4, answer: Answer4) -> 
 
 /// A granted address is bound at once, or checked first.
 fn granted(turn: Turn4, xid: u32, terms: Terms4, origin: Origin4) -> Step4
-    requires { turn.at < 10 ^ 15 }
+    requires { IsMoment turn.at }
     ensures { result ≡ hearing.granted turn xid terms origin }
 {
     if turn.site.noarp {
@@ -54,7 +55,7 @@ fn granted(turn: Turn4, xid: u32, terms: Terms4, origin: Origin4) -> Step4
 
 /// In Requesting and Rebooting.
 fn answered(turn: Turn4, xid: u32, origin: Origin4, state: State4, answer: Answer4) -> Step4
-    requires { turn.at < 10 ^ 15 }
+    requires { IsMoment turn.at }
     ensures { result ≡ hearing.answered turn xid origin state answer }
 {
     match answer {
@@ -74,7 +75,7 @@ fn renewed(
     state: State4,
     answer: Answer4,
 ) -> Step4
-    requires { turn.at < 10 ^ 15 }
+    requires { IsMoment turn.at }
     ensures { result ≡ hearing.renewed turn xid news acd state answer }
 {
     match answer {
@@ -87,7 +88,7 @@ fn renewed(
 
 /// A message that says `answer` to a client in this state.
 pub(crate) fn heard_row(turn: Turn4, answer: Answer4, state: State4) -> Step4
-    requires { turn.at < 10 ^ 15 }
+    requires { IsMoment turn.at }
     ensures { result ≡ hearing.heard_row turn answer state }
 {
     match state {
@@ -126,7 +127,7 @@ fn contested(
     state: State4,
     acd: Option<Acd>,
 ) -> Step4
-    requires { turn.at < 10 ^ 15 }
+    requires { IsMoment turn.at }
     ensures { result ≡ hearing.contested own.now turn arp.now xid terms state acd }
 {
     let Some(mut acd) = acd else {
@@ -138,7 +139,7 @@ fn contested(
 
 /// An ARP packet. `own` holds the hardware addresses of all interfaces of the host's client.
 pub(crate) fn arp_row(own: &[Mac], turn: Turn4, arp: &ArpView, state: State4) -> Step4
-    requires { turn.at < 10 ^ 15 }
+    requires { IsMoment turn.at }
     ensures { result ≡ hearing.arp_row own.now turn arp.now state }
 {
     match state {

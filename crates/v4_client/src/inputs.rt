@@ -1,6 +1,7 @@
 //! What a client does when the carrier comes, a send fails, or the host wishes it.
 
-ghost use Rattle.std.specs.Prelude.{◌≡◌, ◌<◌, ◌^◌, IfSome};
+ghost use Rattle.std.specs.Prelude.{◌≡◌, IfSome};
+ghost use Rattle.net_types.specs.Moments.{IsMoment};
 ghost use Rattle.v4_client.specs.Inputs as inputs;
 ghost use Rattle.v4_client.specs.Sound.{FitsState};
 
@@ -14,8 +15,8 @@ use machine::has_come;
 
 /// The client begins, with the terms of the kept lease.
 fn begins(turn: Turn4, kept: Option<Terms4>) -> Step4
-    requires at { turn.at < 10 ^ 15 }
-    requires first { IfSome kept (λ terms. terms.first < 10 ^ 15) }
+    requires at { IsMoment turn.at }
+    requires first { IfSome kept (λ terms. IsMoment terms.first) }
     ensures { result ≡ inputs.begins turn kept }
 {
     let Some(terms) = kept else {
@@ -32,8 +33,8 @@ fn begins(turn: Turn4, kept: Option<Terms4>) -> Step4
 
 /// The carrier comes.
 pub(crate) fn begin_row(turn: Turn4, kept: Option<Terms4>, state: State4) -> Step4
-    requires at { turn.at < 10 ^ 15 }
-    requires first { IfSome kept (λ terms. terms.first < 10 ^ 15) }
+    requires at { IsMoment turn.at }
+    requires first { IfSome kept (λ terms. IsMoment terms.first) }
     ensures { result ≡ inputs.begin_row turn kept state }
 {
     match state {
@@ -100,8 +101,8 @@ pub(crate) fn release_row(turn: Turn4, tell: Tell, state: State4) -> Step4
 
 /// The lease is to be rebound at once.
 pub(crate) fn rebind_row(turn: Turn4, kept: Option<Terms4>, state: State4) -> Step4
-    requires at { turn.at < 10 ^ 15 }
-    requires first { IfSome kept (λ terms. terms.first < 10 ^ 15) }
+    requires at { IsMoment turn.at }
+    requires first { IfSome kept (λ terms. IsMoment terms.first) }
     requires fits { FitsState state }
     ensures { result ≡ inputs.rebind_row turn kept state }
 {
@@ -124,7 +125,7 @@ pub(crate) fn rebind_row(turn: Turn4, kept: Option<Terms4>, state: State4) -> St
 
 /// A frame of the interface couldn't be sent, which may have been a probe.
 pub(crate) fn unsent_row(turn: Turn4, state: State4) -> State4
-    requires { turn.at < 10 ^ 15 }
+    requires { IsMoment turn.at }
     ensures { result ≡ inputs.unsent_row turn state }
 {
     match state {

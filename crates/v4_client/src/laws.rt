@@ -1,6 +1,8 @@
 //! What is true of every client. These functions do nothing: their contracts are the laws.
 
 ghost use Rattle.v4_client.specs.Laws.{EndsAtExpiry, HoldsGranted, IgnoresForeign, StaysSound};
+ghost use Rattle.v4_client.specs.InTime.{WakesInTime};
+ghost use Rattle.v4_client.specs.Origins.{KeepsOrigins};
 ghost use Rattle.v4_client.specs.Probes.{ProbesFirst};
 
 /// Law: a message of another exchange, to another hardware address, or of another server than the chosen one changes nothing
@@ -30,4 +32,17 @@ pub fn probes_first()
 /// Law: the leases of a client stay within the bounds of their texts, and the lease that it holds is the kept one.
 pub fn stays_sound()
     ensures { StaysSound }
+{}
+
+/// Law: a client asks to be woken at the first moment at which a timed row of its table fits: a message for the first time or
+/// again, T1, T2, the end of a lease, a probe or an announcement. From that moment on a tick does something, and before it
+/// nothing (RFC 2131, section 4.4).
+pub fn wakes_in_time()
+    ensures { WakesInTime }
+{}
+
+/// Law: a kept lease that was granted since the client was made has the hardware address of its interface and the moment at
+/// which that ACK was heard as its origin, and one that was read keeps the origin that it had.
+pub fn keeps_origins()
+    ensures { KeepsOrigins }
 {}

@@ -1,9 +1,9 @@
 //! The leases of a client, and what becomes of them in a step.
 
-ghost use Rattle.std.specs.Prelude.{◌≡◌, true, option_map, IfOk, OnErr, OnOk};
+ghost use Rattle.std.specs.Prelude.{◌≡◌, true, ◌&&◌, option_map, IfOk, OnErr, OnOk};
 ghost use Rattle.lease_text.specs.Leases.{lease_content};
 ghost use Rattle.v4_client.specs.Clients.{fresh_in, is_held, kept_in};
-ghost use Rattle.v4_client.specs.Moves.{fresh_after, is_of_held, kept_after, old_of};
+ghost use Rattle.v4_client.specs.Moves.{fresh_after, is_copied, is_of_held, kept_after, old_of};
 
 use crate::states::{Keep4, News4, State4, Step4};
 use lease_text::{Lease4, Value};
@@ -62,7 +62,7 @@ fn old_copied(
     state: State4,
     kept: &Option<Lease4>,
 ) -> Result<Option<Lease4>, NoMemory>
-    ensures memory { OnErr result (is_of_held news ≡ true) }
+    ensures memory { OnErr result ((is_of_held news && is_held state) ≡ true) }
     ensures old { IfOk result (λ old. option_map lease_content old ≡ old_of news (is_held state) (option_map lease_content kept.now)) }
 {
     if !(is_of_held(news) && is_held(state)) {
@@ -76,7 +76,7 @@ fn old_copied(
 
 impl Leases4 {
     /// What becomes of the leases in a step from the state. Answers the lease that was held before, where the news is of it.
-    /// Without memory nothing changes.
+    /// Memory is wanted for a lease that stays kept and is told alone. Without it nothing changes.
     pub(crate) fn keep(
         &mut self,
         alloc: Global,
@@ -88,7 +88,7 @@ impl Leases4 {
         ensures fresh { OnOk result (fresh_in self.new ≡ fresh_after step.now.keep (fresh_in self.old)) }
         ensures old { IfOk result (λ old. option_map lease_content old ≡ old_of step.now.news (is_held state) (kept_in self.old)) }
         ensures err { OnErr result (self.new ≡ self.old) }
-        ensures memory { OnErr result (is_of_held step.now.news ≡ true) }
+        ensures memory { OnErr result (is_copied step.now (is_held state) ≡ true) }
     {
         match step.keep {
             Keep4::Stays => old_copied(alloc, step.news, state, &self.kept),

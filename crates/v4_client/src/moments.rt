@@ -1,6 +1,7 @@
 //! When a client acts. Moments are in milliseconds since 1970.
 
-ghost use Rattle.std.specs.Prelude.{◌≡◌, ◌<◌, ◌≤◌, ◌^◌};
+ghost use Rattle.std.specs.Prelude.{◌≡◌, ◌≤◌};
+ghost use Rattle.net_types.specs.Moments.{IsMoment};
 ghost use Rattle.v4_client.specs.Moments.{again_at, doubled, earlier, expiry, first_delay, moment_in, rebinding_at, renewal_at, seconds, secs_since, wait};
 
 use crate::settings::Site4;
@@ -92,7 +93,7 @@ pub(crate) fn secs_since(began: u64, at: u64) -> u16
 
 /// The moment so many seconds after the first REQUEST of a lease, and none in a lease that never ends.
 fn moment_in(terms: Terms4, seconds: u32) -> Option<u64>
-    requires { terms.first < 10 ^ 15 }
+    requires { IsMoment terms.first }
     ensures { result ≡ moment_in terms seconds }
 {
     if terms.lease == INFINITE_LEASE {
@@ -104,7 +105,7 @@ fn moment_in(terms: Terms4, seconds: u32) -> Option<u64>
 
 /// When a lease ends.
 pub(crate) fn expiry(terms: Terms4) -> Option<u64>
-    requires { terms.first < 10 ^ 15 }
+    requires { IsMoment terms.first }
     ensures { result ≡ expiry terms }
 {
     moment_in(terms, terms.lease)
@@ -112,7 +113,7 @@ pub(crate) fn expiry(terms: Terms4) -> Option<u64>
 
 /// When a lease is renewed (T1).
 pub(crate) fn renewal_at(terms: Terms4) -> Option<u64>
-    requires { terms.first < 10 ^ 15 }
+    requires { IsMoment terms.first }
     ensures { result ≡ renewal_at terms }
 {
     moment_in(terms, terms.t1)
@@ -120,7 +121,7 @@ pub(crate) fn renewal_at(terms: Terms4) -> Option<u64>
 
 /// When a lease is rebound (T2).
 pub(crate) fn rebinding_at(terms: Terms4) -> Option<u64>
-    requires { terms.first < 10 ^ 15 }
+    requires { IsMoment terms.first }
     ensures { result ≡ rebinding_at terms }
 {
     moment_in(terms, terms.t2)
@@ -128,7 +129,7 @@ pub(crate) fn rebinding_at(terms: Terms4) -> Option<u64>
 
 /// When a REQUEST that renews is said again, where that has time until `end`.
 pub(crate) fn again_at(end: Option<u64>, at: u64) -> u64
-    requires { at < 10 ^ 15 }
+    requires { IsMoment at }
     ensures { result ≡ again_at end at }
 {
     match end {

@@ -7,11 +7,13 @@ ghost use Rattle.v4_options.specs.OptionViews.{view_instances};
 ghost use Rattle.lease_text.specs.Leases.{values_content};
 ghost use Rattle.v4_client.specs.Granting.{class_len, kept_of, kept_values, mask_taken, net_len, terms_granted, times_of, times_taken, told_times, unless_refused, usual_times};
 ghost use Rattle.v4_client.specs.Messages.{are_there, arrival_of, has_long_value, is_among, is_long, is_there};
+ghost use Rattle.v4_client.specs.Settings.{settings_content};
 
 use crate::answers::Arrival4;
+use crate::settings::Set4;
 use crate::states::Exchange4;
 use arrayvec::ArrayVec;
-use lease_text::{INFINITE_LEASE, KEPT_CODES, Terms4, VALUE_LIMIT, Value, is_well_formed};
+use lease_text::{INFINITE_LEASE, KEPT_CODES, Origin, Terms4, VALUE_LIMIT, Value, is_well_formed};
 use net_types::{Ip4, Net4, NoMemory};
 use option_index::{Found, OptionIndex};
 use std::alloc::Global;
@@ -179,22 +181,26 @@ fn times_taken(index: &OptionIndex, refused: &[u8], lease: u32) -> Times4
     times_of(lease, t1, t2)
 }
 
-/// The terms of the lease that an exchange is granted.
+/// The terms of the lease that an exchange is granted. Its origin is the interface and the moment of the message.
 pub(crate) fn terms_granted(
     arrival: &Arrival4,
-    refused: &[u8],
+    set: &Set4,
     exchange: Exchange4,
     server: Ip4,
     lease: u32,
 ) -> Terms4
-    ensures value { result ≡ terms_granted refused.now (arrival_of arrival.now) exchange server lease }
+    ensures value { result ≡ terms_granted (settings_content set.now) (arrival_of arrival.now) exchange server lease }
 {
     let index = OptionIndex::of(&arrival.message.options);
-    let times = times_taken(&index, refused, lease);
+    let times = times_taken(&index, &set.refused, lease);
     Terms4 {
+        origin: Some(Origin {
+            mac: set.iface.mac,
+            confirmed: arrival.at,
+        }),
         net: Net4 {
             ip: exchange.address,
-            len: net_len(exchange.address, mask_taken(&index, refused)),
+            len: net_len(exchange.address, mask_taken(&index, &set.refused)),
         },
         server,
         server_mac: arrival.source,

@@ -1,6 +1,7 @@
 //! The steps that the rows of the table are made of.
 
-ghost use Rattle.std.specs.Prelude.{◌≡◌, ◌<◌, ◌^◌};
+ghost use Rattle.std.specs.Prelude.{◌≡◌};
+ghost use Rattle.net_types.specs.Moments.{IsMoment};
 ghost use Rattle.v4_client.specs.Steps as steps;
 
 use crate::moments::{
@@ -35,7 +36,7 @@ pub(crate) fn rests(turn: Turn4, state: State4) -> Step4
 
 /// To Init.
 pub(crate) fn to_init(turn: Turn4) -> Step4
-    requires { turn.at < 10 ^ 15 }
+    requires { IsMoment turn.at }
     ensures { result ≡ steps.to_init turn }
 {
     let due = turn.at + first_delay(turn.site, turn.salt);
@@ -44,7 +45,7 @@ pub(crate) fn to_init(turn: Turn4) -> Step4
 
 /// A DISCOVER of the exchange that began at `began`.
 pub(crate) fn selecting(turn: Turn4, xid: u32, began: u64, backoff: Backoff) -> Step4
-    requires { turn.at < 10 ^ 15 }
+    requires { IsMoment turn.at }
     ensures { result ≡ steps.selecting turn xid began backoff }
 {
     let secs = secs_since(began, turn.at);
@@ -70,7 +71,7 @@ pub(crate) fn new_xid(turn: Turn4) -> u32
 
 /// The DISCOVER of a new exchange.
 pub(crate) fn discovers(turn: Turn4) -> Step4
-    requires { turn.at < 10 ^ 15 }
+    requires { IsMoment turn.at }
     ensures { result ≡ steps.discovers turn }
 {
     selecting(turn, new_xid(turn), turn.at, Backoff::Four)
@@ -78,7 +79,7 @@ pub(crate) fn discovers(turn: Turn4) -> Step4
 
 /// A REQUEST for an offered address.
 pub(crate) fn requesting(turn: Turn4, exchange: Exchange4, secs: u16, backoff: Backoff) -> Step4
-    requires { turn.at < 10 ^ 15 }
+    requires { IsMoment turn.at }
     ensures { result ≡ steps.requesting turn exchange secs backoff }
 {
     let due = turn.at + wait(turn.site, turn.salt, backoff);
@@ -96,7 +97,7 @@ pub(crate) fn requesting(turn: Turn4, exchange: Exchange4, secs: u16, backoff: B
 
 /// A REQUEST for the address of the kept lease.
 pub(crate) fn rebooting(turn: Turn4, exchange: Exchange4, backoff: Backoff, end: u64) -> Step4
-    requires { turn.at < 10 ^ 15 }
+    requires { IsMoment turn.at }
     ensures { result ≡ steps.rebooting turn exchange backoff end }
 {
     let due = end.min(turn.at + wait(turn.site, turn.salt, backoff));
@@ -126,8 +127,8 @@ pub(crate) fn new_exchange(turn: Turn4, address: Ip4) -> Exchange4
 
 /// A REQUEST to the server of the lease.
 pub(crate) fn renewing(turn: Turn4, exchange: Exchange4, terms: Terms4, acd: Option<Acd>) -> Step4
-    requires at { turn.at < 10 ^ 15 }
-    requires first { terms.first < 10 ^ 15 }
+    requires at { IsMoment turn.at }
+    requires first { IsMoment terms.first }
     ensures { result ≡ steps.renewing turn exchange terms acd }
 {
     let state = State4::Renewing {
@@ -144,8 +145,8 @@ pub(crate) fn renewing(turn: Turn4, exchange: Exchange4, terms: Terms4, acd: Opt
 
 /// A REQUEST to any server.
 pub(crate) fn rebinding(turn: Turn4, exchange: Exchange4, terms: Terms4, acd: Option<Acd>) -> Step4
-    requires at { turn.at < 10 ^ 15 }
-    requires first { terms.first < 10 ^ 15 }
+    requires at { IsMoment turn.at }
+    requires first { IsMoment terms.first }
     ensures { result ≡ steps.rebinding turn exchange terms acd }
 {
     let state = State4::Rebinding {
@@ -182,7 +183,7 @@ pub(crate) fn binds(turn: Turn4, xid: u32, terms: Terms4, news: News4, acd: Opti
 
 /// The lease ends.
 pub(crate) fn expires(turn: Turn4) -> Step4
-    requires { turn.at < 10 ^ 15 }
+    requires { IsMoment turn.at }
     ensures { result ≡ steps.expires turn }
 {
     Step4 {
@@ -194,7 +195,7 @@ pub(crate) fn expires(turn: Turn4) -> Step4
 
 /// To Waiting, without a kept lease.
 pub(crate) fn to_waiting(turn: Turn4) -> Step4
-    requires { turn.at < 10 ^ 15 }
+    requires { IsMoment turn.at }
     ensures { result ≡ steps.to_waiting turn }
 {
     let due = turn.at + REFUSED_WAIT;
@@ -206,7 +207,7 @@ pub(crate) fn to_waiting(turn: Turn4) -> Step4
 
 /// A server refuses the address.
 pub(crate) fn refused(turn: Turn4) -> Step4
-    requires { turn.at < 10 ^ 15 }
+    requires { IsMoment turn.at }
     ensures { result ≡ steps.refused turn }
 {
     Step4 {
@@ -217,7 +218,7 @@ pub(crate) fn refused(turn: Turn4) -> Step4
 
 /// Another host has the granted address.
 pub(crate) fn declines(turn: Turn4, xid: u32, terms: Terms4) -> Step4
-    requires { turn.at < 10 ^ 15 }
+    requires { IsMoment turn.at }
     ensures { result ≡ steps.declines turn xid terms }
 {
     Step4 {
@@ -228,7 +229,7 @@ pub(crate) fn declines(turn: Turn4, xid: u32, terms: Terms4) -> Step4
 
 /// Another host contests the held address.
 pub(crate) fn gives_up(turn: Turn4, xid: u32, terms: Terms4) -> Step4
-    requires { turn.at < 10 ^ 15 }
+    requires { IsMoment turn.at }
     ensures { result ≡ steps.gives_up turn xid terms }
 {
     Step4 {

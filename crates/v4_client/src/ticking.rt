@@ -1,6 +1,7 @@
 //! What a client does when its moment has come.
 
-ghost use Rattle.std.specs.Prelude.{◌≡◌, ◌<◌, ◌^◌, true};
+ghost use Rattle.std.specs.Prelude.{◌≡◌, true};
+ghost use Rattle.net_types.specs.Moments.{IsMoment};
 ghost use Rattle.v4_client.specs.Clients.{is_held};
 ghost use Rattle.v4_client.specs.Due as moments;
 ghost use Rattle.v4_client.specs.Sound.{FitsState};
@@ -57,7 +58,7 @@ fn is_longest(backoff: Backoff) -> bool
 
 /// What conflict detection of a held address says.
 fn detects(turn: Turn4, xid: u32, terms: Terms4, state: State4, acd: Option<Acd>) -> Step4
-    requires { turn.at < 10 ^ 15 }
+    requires { IsMoment turn.at }
     ensures { result ≡ ticks.detects turn xid terms state acd }
 {
     let Some(mut acd) = acd else {
@@ -68,8 +69,8 @@ fn detects(turn: Turn4, xid: u32, terms: Terms4, state: State4, acd: Option<Acd>
 }
 
 fn bound_tick(turn: Turn4, xid: u32, terms: Terms4, acd: Option<Acd>) -> Step4
-    requires at { turn.at < 10 ^ 15 }
-    requires first { terms.first < 10 ^ 15 }
+    requires at { IsMoment turn.at }
+    requires first { IsMoment terms.first }
     ensures { result ≡ ticks.bound_tick turn xid terms acd }
 {
     // the lease is over
@@ -94,8 +95,8 @@ fn renewing_tick(
     acd: Option<Acd>,
     due: u64,
 ) -> Step4
-    requires at { turn.at < 10 ^ 15 }
-    requires first { terms.first < 10 ^ 15 }
+    requires at { IsMoment turn.at }
+    requires first { IsMoment terms.first }
     ensures { result ≡ ticks.renewing_tick turn exchange terms acd due }
 {
     // the lease is over
@@ -126,8 +127,8 @@ fn rebinding_tick(
     acd: Option<Acd>,
     due: u64,
 ) -> Step4
-    requires at { turn.at < 10 ^ 15 }
-    requires first { terms.first < 10 ^ 15 }
+    requires at { IsMoment turn.at }
+    requires first { IsMoment terms.first }
     ensures { result ≡ ticks.rebinding_tick turn exchange terms acd due }
 {
     // the lease is over
@@ -148,7 +149,7 @@ fn rebinding_tick(
 }
 
 fn requesting_tick(turn: Turn4, exchange: Exchange4, secs: u16, backoff: Backoff) -> Step4
-    requires { turn.at < 10 ^ 15 }
+    requires { IsMoment turn.at }
     ensures { result ≡ ticks.requesting_tick turn exchange secs backoff }
 {
     // after the longest wait
@@ -160,7 +161,7 @@ fn requesting_tick(turn: Turn4, exchange: Exchange4, secs: u16, backoff: Backoff
 }
 
 fn rebooting_tick(turn: Turn4, exchange: Exchange4, backoff: Backoff, end: u64) -> Step4
-    requires { turn.at < 10 ^ 15 }
+    requires { IsMoment turn.at }
     ensures { result ≡ ticks.rebooting_tick turn exchange backoff end }
 {
     // no answer came
@@ -172,8 +173,8 @@ fn rebooting_tick(turn: Turn4, exchange: Exchange4, backoff: Backoff, end: u64) 
 }
 
 fn checking_tick(turn: Turn4, xid: u32, terms: Terms4, origin: Origin4, acd: Acd) -> Step4
-    requires at { turn.at < 10 ^ 15 }
-    requires first { terms.first < 10 ^ 15 }
+    requires at { IsMoment turn.at }
+    requires first { IsMoment terms.first }
     ensures { result ≡ ticks.checking_tick turn xid terms origin acd }
 {
     // the lease is over before it is held
@@ -187,7 +188,7 @@ fn checking_tick(turn: Turn4, xid: u32, terms: Terms4, origin: Origin4, acd: Acd
 
 /// A tick of a state in which a lease is held.
 fn held_tick(turn: Turn4, state: State4) -> Step4
-    requires at { turn.at < 10 ^ 15 }
+    requires at { IsMoment turn.at }
     requires fits { FitsState state }
     ensures { is_held state ≡ true → result ≡ ticks.tick_row turn state }
 {
@@ -217,7 +218,7 @@ fn held_tick(turn: Turn4, state: State4) -> Step4
 
 /// A tick of a state whose moment has come.
 pub(crate) fn tick_row(turn: Turn4, state: State4) -> Step4
-    requires at { turn.at < 10 ^ 15 }
+    requires at { IsMoment turn.at }
     requires fits { FitsState state }
     ensures { result ≡ ticks.tick_row turn state }
 {

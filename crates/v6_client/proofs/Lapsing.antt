@@ -1,10 +1,11 @@
 -- After a tick no item is held whose valid lifetime is over.
-use Rattle.std.proofs.Common.{◌≡◌, ℕ, Bool, true, false, not, cond, ◌&&◌, List, [], ◌∷◌, filter, fold, min, nat_le, Option, Some, None, option_map, refl, sym, ap, ◌∙◌, subst, arith, leb}
+use Rattle.std.proofs.Common.{◌≡◌, ℕ, Bool, true, false, not, cond, ◌&&◌, List, [], ◌∷◌, filter, fold, min, nat_le, Option, Some, None, option_map, refl, sym, ap, ◌∙◌, subst, arith}
 use Rattle.std.specs.List.{AllByRecursion, list_any}
+use Rattle.std.proofs.lemmas.Bool.{and_from, not_from_false}
 use Rattle.std.proofs.lemmas.Bool.Decides.{nat_tests}
 use Rattle.machine.specs.Moment.{is_due, moment_of}
 use Rattle.net_types.proofs.AllLaws.{all_join}
-use Rattle.net_types.proofs.CaseLaws.{gated, split}
+use Rattle.net_types.proofs.CaseLaws.{split}
 use Rattle.v6_options.specs.declared.ia.IaKind.{IaKind}
 use Rattle.lease6_text.specs.declared.lease.Item6.{Item6}
 use Rattle.lease6_text.specs.Leases.{IaLeaseContent, Lease6Content}
@@ -21,17 +22,15 @@ use Rattle.v6_client.specs.declared.states.State6.{State6}
 use Rattle.v6_client.specs.declared.states.State6.TheVariants.{Off, Waiting, Soliciting, Requesting, Bound, Renewing, Rebinding, Restarting, Declining}
 use Rattle.v6_client.specs.declared.states.Step6.{Step6}
 use Rattle.v6_client.specs.declared.turn.Turn6.{Turn6}
-use Rattle.v6_retrans.specs.declared.parameters.TheConstants.{REQUEST, DECLINE}
 use Rattle.v6_client.specs.Calls.{IsTicked, dates_in, due_of}
 use Rattle.v6_client.specs.Clients.{ClientContent, holds, is_all, scope_of, turn_of}
 use Rattle.v6_client.specs.Due.{due_row}
-use Rattle.v6_client.specs.Exchanges.{is_again_due, is_used_up}
 use Rattle.v6_client.specs.Items.{asked_at, dates_of, goes_of, is_in, ia_with, ias_of, is_live, items_at, lapse_of, staying, thinned, without}
 use Rattle.v6_client.specs.Laws.{HoldsNothingOver, is_over_at}
 use Rattle.v6_client.specs.Moves.{OutContent, kept_after, lapsed, out_content, parting_at, thinned_lease}
-use Rattle.v6_client.specs.Steps.{is_last}
 use Rattle.v6_client.specs.Ticks.{tick_row}
 use Rattle.v6_client.specs.Times.{earlier}
+use Rattle.v6_client.proofs.RowFacts.{tick_facts}
 
 -- ---- what is left isn't over
 
@@ -81,47 +80,10 @@ none_over at asks = none_of (goes_of (Lapse at) scope.All []) (λ ask. refl) ask
 
 -- ---- the step of a tick
 
-abbrev Ends : Step6 → Type 0
-Ends step = holds step.state ≡ true → step.keep ≡ Clears
-
--- where the last item goes, none is held afterwards, or none is kept
-last_row : (turn : Turn6) (dates : Dates6) (state : State6) → Ends (tick_row turn dates (record { goes = true; stays = false }) state)
-last_row turn dates Off = λ h. absurd cc
-last_row turn dates (Waiting due) = λ h. absurd cc
-last_row turn dates (Soliciting exchange None) = λ h. absurd cc
-last_row turn dates (Soliciting exchange (Some preference)) = λ h. absurd cc
-last_row turn dates (Requesting exchange) = gated Ends (is_used_up REQUEST exchange) _ _ (λ h. absurd cc) (λ h. absurd cc)
-last_row turn dates Bound = λ h. absurd cc
-last_row turn dates (Renewing exchange) = λ h. absurd cc
-last_row turn dates (Rebinding exchange) = λ h. absurd cc
-last_row turn dates (Restarting exchange end since) = λ h. absurd cc
-last_row turn dates (Declining exchange) =
-    gated Ends (is_again_due turn exchange) _ _ (gated Ends (is_used_up DECLINE exchange) _ _ (λ h. absurd cc) (λ h. refl)) (λ h. refl)
-
-over_by : (turn : Turn6) (dates : Dates6) (state : State6) (goes stays : Bool) → goes ≡ true → stays ≡ false
-    → Ends (tick_row turn dates (record { goes = goes; stays = stays }) state)
-over_by turn dates state true false e f = last_row turn dates state
-over_by turn dates state true true e f = absurd cc
-over_by turn dates state false stays e f = absurd cc
-
-abbrev HoldsNone : Step6 → Type 0
-HoldsNone step = holds step.state ≡ false
-
 -- a tick makes no client hold items that doesn't
 pub start_row : (turn : Turn6) (dates : Dates6) (parting : Parting6) (state : State6) → holds state ≡ false
-    → HoldsNone (tick_row turn dates parting state)
-start_row turn dates parting Off e = refl
-start_row turn dates parting (Waiting due) e = refl
-start_row turn dates parting (Soliciting exchange None) e = refl
-start_row turn dates parting (Soliciting exchange (Some preference)) e = refl
-start_row turn dates parting (Requesting exchange) e = gated HoldsNone (is_used_up REQUEST exchange) _ _ refl refl
-start_row turn dates parting Bound e = absurd cc
-start_row turn dates parting (Renewing exchange) e = absurd cc
-start_row turn dates parting (Rebinding exchange) e = absurd cc
-start_row turn dates parting (Restarting exchange end since) e =
-    gated HoldsNone (is_last parting) _ _ refl
-    (gated HoldsNone (leb end turn.at) _ _ refl (gated HoldsNone (is_again_due turn exchange) _ _ refl refl))
-start_row turn dates parting (Declining exchange) e = absurd cc
+    → holds (tick_row turn dates parting state).state ≡ false
+start_row turn dates parting state e = (tick_facts turn dates None parting state).none e
 
 after_step : (at : ℕ) (asks : List IaAsk) (kept : Option Lease6Content) (keep : Keep6) (goes stays : Bool)
     → list_any (goes_of (Lapse at) scope.All (ias_of kept)) asks ≡ goes → (goes ≡ true → stays ≡ false → keep ≡ Clears)
@@ -174,7 +136,7 @@ ticked c new at salt out goes held =
     ap (λ (n : ClientContent). n.settings) goes.goes_on ∙ asks_of (holds c.state && p.goes) c _ refl in
     (λ i. list_any (goes_of (Lapse at) scope.All (ias_of (kept i))) (settings i).asks)
     ∙ after_step at c.settings.asks c.kept step.keep p.goes p.stays same
-    (λ g s. over_by turn (dates_in c) c.state p.goes p.stays g s holds_step))
+    (λ g s. (tick_facts turn (dates_in c) c.kept p c.state).ends (and_from p.goes (not p.stays) g (not_from_false p.stays s)) holds_step))
     (λ h.
     let none : holds step.state ≡ false = start_row turn (dates_in c) p c.state h in
     absurd (never (holds step.state) holds_step none))

@@ -1,6 +1,7 @@
 -- The lease that a Reply grants is within the bounds of its text, and so are leases that items go from.
 use Rattle.std.proofs.Common.{◌≡◌, ℕ, ◌+◌, ◌<◌, ◌^◌, true, List, ◌++◌, Option, Some, None, IfSome, option_map, unwrap_or, refl, arith, lit<}
 use Rattle.std.specs.List.{AllByRecursion}
+use Rattle.net_types.specs.Moments.{IsMoment}
 use Rattle.net_types.proofs.AllLaws.{all_join, all_map}
 use Rattle.net_types.proofs.CaseLaws.{gated, split}
 use Rattle.v6_options.specs.declared.code.TheConstants.{DNS_SERVERS, DOMAIN_LIST}
@@ -47,17 +48,17 @@ ias_fit m asks fits kept saids =
 
 -- ---- T1 and T2
 
-later : (at : ℕ) (span : Option ℕ) → at < 10 ^ 15 → unwrap_or span 0 < 10 ^ 13 → FitsMoment (option_map (λ time. at + time) (raised span))
+later : (at : ℕ) (span : Option ℕ) → IsMoment at → unwrap_or span 0 < 10 ^ 13 → FitsMoment (option_map (λ time. at + time) (raised span))
 later at None early short = tt
 later at (Some time) early short = omega arith
 
-earlier_fits : (at : ℕ) (one other : Option ℕ) → at < 10 ^ 15 → unwrap_or one 0 < 10 ^ 13 → unwrap_or other 0 < 10 ^ 13
+earlier_fits : (at : ℕ) (one other : Option ℕ) → IsMoment at → unwrap_or one 0 < 10 ^ 13 → unwrap_or other 0 < 10 ^ 13
     → FitsMoment (option_map (λ time. at + time) (earlier (raised one) (raised other)))
 earlier_fits at None other early one_short short = later at other early short
 earlier_fits at (Some time) None early short other_short = omega arith
 earlier_fits at (Some time) (Some other) early short other_short = omega arith
 
-pub t1_fits : (m : Meeting) (spans : Option Spans6) → m.at < 10 ^ 15 → IfSome spans AreShort → IfSome m.kept FitsLease6
+pub t1_fits : (m : Meeting) (spans : Option Spans6) → IsMoment m.at → IfSome spans AreShort → IfSome m.kept FitsLease6
     → FitsMoment (t1_granted m spans)
 t1_fits m (Some spans) early short kept = earlier_fits m.at spans.t1 spans.t2 early short.t1 short.t2
 t1_fits m None early short kept = of_kept m.kept kept
@@ -66,7 +67,7 @@ t1_fits m None early short kept = of_kept m.kept kept
     of_kept None fits = tt
     of_kept (Some lease) fits = fits.t1
 
-pub t2_fits : (m : Meeting) (spans : Option Spans6) → m.at < 10 ^ 15 → IfSome spans AreShort → IfSome m.kept FitsLease6
+pub t2_fits : (m : Meeting) (spans : Option Spans6) → IsMoment m.at → IfSome spans AreShort → IfSome m.kept FitsLease6
     → FitsMoment (t2_granted m spans)
 t2_fits m (Some spans) early short kept = later m.at spans.t2 early short.t2
 t2_fits m None early short kept = of_kept m.kept kept
@@ -103,6 +104,7 @@ pub thinned_fits : (cause : Cause6) (kept : Option Lease6Content) → IfSome kep
     → IfSome (option_map (thinned_lease cause) kept) FitsLease6
 thinned_fits cause None fits = tt
 thinned_fits cause (Some lease) fits = record {
+  origin = fits.origin;
   name = fits.name;
   t1 = fits.t1;
   t2 = fits.t2;

@@ -6,9 +6,11 @@ pub mod TakenFits
 pub mod SaidFits
 pub mod LeaseFits
 pub mod Granting
+pub mod RowFacts
 pub mod Lapsing
 pub mod CallRuns
 pub mod QuietSteps
 pub mod OwnGrants
 pub mod StayingRuns
 pub mod TimedReplies
+pub mod KeptOrigins

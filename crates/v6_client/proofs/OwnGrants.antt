@@ -13,8 +13,6 @@ use Rattle.lease6_text.specs.declared.lease.Item6.{Item6}
 use Rattle.lease6_text.specs.Leases.{IaLeaseContent, Lease6Content}
 use Rattle.lease6_text.specs.LineParts.{is_ia, is_same_kind}
 use Rattle.v6_client.specs.declared.settings.IaAsk.{IaAsk}
-use Rattle.v6_client.specs.declared.states.Answer6.{Answer6}
-use Rattle.v6_client.specs.declared.states.Answer6.TheVariants as answer
 use Rattle.v6_client.specs.declared.states.Carrier6.TheVariants.{Up, Down}
 use Rattle.v6_client.specs.declared.states.Cause6.{Cause6}
 use Rattle.v6_client.specs.declared.states.Cause6.TheVariants.{Lapse, Duplicate}
@@ -23,22 +21,21 @@ use Rattle.v6_client.specs.declared.states.Keep6.{Keep6}
 use Rattle.v6_client.specs.declared.states.Keep6.TheVariants.{Stays, Clears, Takes}
 use Rattle.v6_client.specs.declared.states.Parting6.{Parting6}
 use Rattle.v6_client.specs.declared.states.State6.{State6}
-use Rattle.v6_client.specs.declared.states.State6.TheVariants.{Off, Waiting, Soliciting, Requesting, Bound, Renewing, Rebinding, Restarting, Declining}
 use Rattle.v6_client.specs.declared.states.Step6.{Step6}
-use Rattle.v6_client.specs.declared.states.Tell6.{Tell6}
 use Rattle.v6_client.specs.declared.turn.Turn6.{Turn6}
 use Rattle.v6_client.specs.Answers.{advertise_answer, counts, granted, is_taken, learnt, meeting_of, server_of}
 use Rattle.v6_client.specs.Bounds.{ask_key}
 use Rattle.v6_client.specs.Calls.{IsAnswered, answer_in, dates_in, fresh_in, parting_begun}
 use Rattle.v6_client.specs.Clients.{ClientContent, holds, turn_of}
-use Rattle.v6_client.specs.Hearing.{heard_row, is_better, is_kept_offer, is_taken_at_once}
-use Rattle.v6_client.specs.Inputs.{begin_row, duplicate_row, off_row, rebind_row, release_row}
+use Rattle.v6_client.specs.Hearing.{heard_row, is_kept_offer}
+use Rattle.v6_client.specs.Inputs.{duplicate_row, off_row}
 use Rattle.v6_client.specs.Items.{ia_with, ias_of, is_nonempty, staying, thinned, without}
 use Rattle.v6_client.specs.Moves.{IsStep6, OutContent, given_up, kept_after, kept_live, lapsed, moved, parting_at, thinned_lease}
 use Rattle.v6_client.specs.OwnLeases.{AreAsked, CarriersOwn, DuplicatesOwn, GrantsOwn, HeldOwn, MadeOwn, MessagesOwn, OwnIas, RebindsOwn, ReleasesOwn, TicksOwn, is_asked}
 use Rattle.v6_client.specs.Taking.{Meeting, ia_granted, ias_granted, taken_by}
 use Rattle.v6_client.specs.Ticks.{tick_row}
 use Rattle.v6_client.proofs.Lapsing.{start_row}
+use Rattle.v6_client.proofs.RowFacts.{begin_facts, duplicate_facts, heard_facts, rebind_facts, release_facts}
 
 -- ---- IAs
 
@@ -129,75 +126,6 @@ tick_starts : (turn : Turn6) (dates : Dates6) (parting : Parting6) (state : Stat
 tick_starts turn dates parting state h k =
     split (holds state) (λ e. e) (λ e. absurd (never _ h (start_row turn dates parting state e)))
 
-heard_starts : (turn : Turn6) (a : Answer6) (state : State6) → Starts state (heard_row turn a state)
-heard_starts turn a Off = λ h k. absurd cc
-heard_starts turn a (Waiting due) = λ h k. absurd cc
-heard_starts turn (answer.Offer preference) (Soliciting exchange offer) =
-    gated (Starts (Soliciting exchange offer)) (is_taken_at_once exchange preference) _ _ (λ h k. absurd cc)
-    (gated (Starts (Soliciting exchange offer)) (is_better offer preference) _ _ (λ h k. absurd cc) (λ h k. absurd cc))
-heard_starts turn answer.Grants (Soliciting exchange offer) = λ h k. absurd cc
-heard_starts turn answer.Empties (Soliciting exchange offer) = λ h k. absurd cc
-heard_starts turn answer.Keeps (Soliciting exchange offer) = λ h k. absurd cc
-heard_starts turn answer.Nothing (Soliciting exchange offer) = λ h k. absurd cc
-heard_starts turn (answer.Offer preference) (Requesting exchange) = λ h k. absurd cc
-heard_starts turn answer.Grants (Requesting exchange) = λ h k. absurd cc
-heard_starts turn answer.Empties (Requesting exchange) = λ h k. absurd cc
-heard_starts turn answer.Keeps (Requesting exchange) = λ h k. absurd cc
-heard_starts turn answer.Nothing (Requesting exchange) = λ h k. absurd cc
-heard_starts turn a Bound = λ h k. refl
-heard_starts turn a (Renewing exchange) = λ h k. refl
-heard_starts turn a (Rebinding exchange) = λ h k. refl
-heard_starts turn (answer.Offer preference) (Restarting exchange end since) = λ h k. absurd cc
-heard_starts turn answer.Grants (Restarting exchange end since) = λ h k. absurd cc
-heard_starts turn answer.Empties (Restarting exchange end since) = λ h k. absurd cc
-heard_starts turn answer.Keeps (Restarting exchange end since) = λ h k. absurd cc
-heard_starts turn answer.Nothing (Restarting exchange end since) = λ h k. absurd cc
-heard_starts turn a (Declining exchange) = λ h k. refl
-
-duplicate_starts : (turn : Turn6) (parting : Parting6) (state : State6) → Starts state (duplicate_row turn parting state)
-duplicate_starts turn parting Off h k = absurd cc
-duplicate_starts turn parting (Waiting due) h k = absurd cc
-duplicate_starts turn parting (Soliciting exchange offer) h k = absurd cc
-duplicate_starts turn parting (Requesting exchange) h k = absurd cc
-duplicate_starts turn parting Bound h k = refl
-duplicate_starts turn parting (Renewing exchange) h k = refl
-duplicate_starts turn parting (Rebinding exchange) h k = refl
-duplicate_starts turn parting (Restarting exchange end since) h k = absurd cc
-duplicate_starts turn parting (Declining exchange) h k = refl
-
-begin_starts : (turn : Turn6) (parting : Parting6) (state : State6) → Starts state (begin_row turn parting state)
-begin_starts turn parting Off = gated (Starts Off) parting.stays _ _ (λ h k. absurd cc) (λ h k. absurd cc)
-begin_starts turn parting (Waiting due) = λ h k. absurd cc
-begin_starts turn parting (Soliciting exchange offer) = λ h k. absurd cc
-begin_starts turn parting (Requesting exchange) = λ h k. absurd cc
-begin_starts turn parting Bound = λ h k. refl
-begin_starts turn parting (Renewing exchange) = λ h k. refl
-begin_starts turn parting (Rebinding exchange) = λ h k. refl
-begin_starts turn parting (Restarting exchange end since) = λ h k. absurd cc
-begin_starts turn parting (Declining exchange) = λ h k. refl
-
-rebind_starts : (turn : Turn6) (parting : Parting6) (state : State6) → Starts state (rebind_row turn parting state)
-rebind_starts turn parting Off = gated (Starts Off) parting.stays _ _ (λ h k. absurd cc) (λ h k. absurd cc)
-rebind_starts turn parting (Waiting due) = λ h k. absurd cc
-rebind_starts turn parting (Soliciting exchange offer) = λ h k. absurd cc
-rebind_starts turn parting (Requesting exchange) = λ h k. absurd cc
-rebind_starts turn parting Bound = λ h k. refl
-rebind_starts turn parting (Renewing exchange) = λ h k. refl
-rebind_starts turn parting (Rebinding exchange) = λ h k. refl
-rebind_starts turn parting (Restarting exchange end since) = λ h k. absurd cc
-rebind_starts turn parting (Declining exchange) = λ h k. refl
-
-release_starts : (turn : Turn6) (tell : Tell6) (kept : Bool) (state : State6) → Starts state (release_row turn tell kept state)
-release_starts turn tell kept Off h k = absurd cc
-release_starts turn tell kept (Waiting due) h k = absurd cc
-release_starts turn tell kept (Soliciting exchange offer) h k = absurd cc
-release_starts turn tell kept (Requesting exchange) h k = absurd cc
-release_starts turn tell kept Bound h k = refl
-release_starts turn tell kept (Renewing exchange) h k = refl
-release_starts turn tell kept (Rebinding exchange) h k = refl
-release_starts turn tell kept (Restarting exchange end since) h k = absurd cc
-release_starts turn tell kept (Declining exchange) h k = refl
-
 -- ---- calls
 
 kept_own : (asks : List IaAsk) (keep : Keep6) (fresh kept : Option Lease6Content) → AreAsked asks (ias_of fresh)
@@ -234,7 +162,7 @@ pub duplicates_own : DuplicatesOwn
 duplicates_own c new address at salt out own goes =
     let p : Parting6 = parting_at (Duplicate address) c in
     let step : Step6 = duplicate_row (turn_of at salt c) p c.state in
-    let row : Starts c.state step = duplicate_starts (turn_of at salt c) p c.state in
+    let row : Starts c.state step = (duplicate_facts (turn_of at salt c) p c.kept c.state).row.starts in
     go_own step (given_up address p c) new out
     (gated (IsStart step) (holds c.state && p.goes) _ _
     (record { starts = row; own = λ h. thinned_asked c.settings.asks (Duplicate address) c.kept (own h) })
@@ -244,13 +172,13 @@ pub answers_own : (kind : ServerKind6) (c new : ClientContent) (message : Conten
     → IsAnswered at salt message kind c new out → OwnIas new
 answers_own Advertise c new message at salt out own goes =
     let step : Step6 = heard_row (turn_of at salt c) (advertise_answer c message) c.state in
-    let row : Starts c.state step = heard_starts (turn_of at salt c) (advertise_answer c message) c.state in
+    let row : Starts c.state step = (heard_facts (turn_of at salt c) (advertise_answer c message) c.kept c.state).starts in
     go_own step _ new out
     (gated (IsStart step) (is_kept_offer (advertise_answer c message) c.state) _ _ (record { starts = row; own = own })
     (record { starts = row; own = own })) goes
 answers_own Reply c new message at salt out own goes =
     step_own _ (fresh_in at c message) c new out (fresh_asked at c message)
-    (heard_starts (turn_of at salt c) (answer_in at c message) c.state) own goes
+    (heard_facts (turn_of at salt c) (answer_in at c message) c.kept c.state).starts own goes
 
 pub messages_own : MessagesOwn
 messages_own c new message at salt out own hears =
@@ -260,13 +188,13 @@ messages_own c new message at salt out own hears =
 
 pub carriers_own : CarriersOwn
 carriers_own c new Up at salt out own goes =
-    step_own _ None c new out tt (begin_starts (turn_of at salt c) (parting_begun at c) c.state) own goes
+    step_own _ None c new out tt (begin_facts (turn_of at salt c) (parting_begun at c) c.kept c.state).starts own goes
 carriers_own c new Down at salt out own goes = step_own (off_row (turn_of at salt c)) None c new out tt (λ h k. absurd cc) own goes
 
 pub releases_own : ReleasesOwn
 releases_own c new tell at salt out own goes =
-    step_own _ None c new out tt (release_starts (turn_of at salt c) tell _ c.state) own goes
+    step_own _ None c new out tt (release_facts (turn_of at salt c) tell c.kept c.state).starts own goes
 
 pub rebinds_own : RebindsOwn
 rebinds_own c new at salt out own goes =
-    step_own _ None c new out tt (rebind_starts (turn_of at salt c) (parting_begun at c) c.state) own goes
+    step_own _ None c new out tt (rebind_facts (turn_of at salt c) (parting_begun at c) c.kept c.state).starts own goes

@@ -3,6 +3,7 @@ use Rattle.std.proofs.Common.{◌≡◌, ℕ, zero, suc, ◌+◌, ◌*◌, ◌-�
 use Rattle.std.specs.List.{AllByRecursion, cons_option, filter_map}
 use Rattle.std.proofs.Math.Nat.{div-add-mod', mul-mod_left}
 use Rattle.std.proofs.lemmas.Bool.{and_parts, leb-true}
+use Rattle.net_types.specs.Moments.{IsMoment}
 use Rattle.net_types.proofs.AllLaws.{all_both}
 use Rattle.net_types.proofs.CaseLaws.{split}
 use Rattle.v6_options.specs.declared.ia.IaKind.{IaKind}
@@ -121,11 +122,11 @@ found_nets ask (ia ∷ ias) all =
 
 -- ---- their moments
 
-pub moment_fits : (at seconds : ℕ) → at < 10 ^ 15 → seconds < 2 ^ 32 → FitsMoment (moment_after at seconds)
+pub moment_fits : (at seconds : ℕ) → IsMoment at → seconds < 2 ^ 32 → FitsMoment (moment_after at seconds)
 moment_fits at seconds early short =
     split (eqb seconds FOREVER) (λ e. rw e tt) (λ e. rw e (omega (arith, early, short)))
 
-said_fits : (kind : IaKind) (at : ℕ) (said : ItemSaid) → at < 10 ^ 15 → HasNet kind said → IsTimed said → FitsItem kind (item_from at said)
+said_fits : (kind : IaKind) (at : ℕ) (said : ItemSaid) → IsMoment at → HasNet kind said → IsTimed said → FitsItem kind (item_from at said)
 said_fits kind at said early net timed = record {
   len = net.len;
   network = net.network;
@@ -134,7 +135,7 @@ said_fits kind at said early net timed = record {
 }
 
 -- what counts of an IA of a message
-pub saids_fit : (ask : IaAsk) (at : ℕ) (options : List ℕ) → at < 10 ^ 15 → AreTimed (saids_of (ia_for ask (ias_in options)))
+pub saids_fit : (ask : IaAsk) (at : ℕ) (options : List ℕ) → IsMoment at → AreTimed (saids_of (ia_for ask (ias_in options)))
     → AllByRecursion (λ said. FitsItem ask.kind (item_from at said)) (saids_of (ia_for ask (ias_in options)))
 saids_fit ask at options early timed =
     all_both (HasNet ask.kind) IsTimed (λ said. FitsItem ask.kind (item_from at said)) (λ said net time. said_fits ask.kind at said early net time)

@@ -2,6 +2,7 @@
 use Rattle.std.proofs.Common.{ℕ, zero, suc, ◌*◌, ◌^◌, ◌<◌, Bool, List, [], ◌∷◌, take, drop, get_or, find, fold, Option, Some, None, IfSome, arith, unwrap_or, eqb}
 use Rattle.std.specs.List.{AllByRecursion, filter_map}
 use Rattle.std.specs.Option.{option_and_then}
+use Rattle.net_types.specs.Moments.{IsMoment}
 use Rattle.net_types.proofs.CaseLaws.{gated}
 use Rattle.net_types.proofs.Checksum.{drop_bytes, take_bytes}
 use Rattle.net_types.proofs.WireNumbers.{four_bytes_fit}
@@ -205,7 +206,7 @@ every : {X : Type 0} (P : X → Type 0) → ((x : X) → P x) → (xs : List X) 
 every P each [] = tt
 every P each (x ∷ xs) = (each x, every P each xs)
 
-granted_fits : (c : ClientContent) (message : Content6) (at : ℕ) (server : List ℕ) → at < 10 ^ 15 → IsSound c → AllBytes message.options
+granted_fits : (c : ClientContent) (message : Content6) (at : ℕ) (server : List ℕ) → IsMoment at → IsSound c → AllBytes message.options
     → IfSome (granted at c message server) FitsLease6
 granted_fits c message at server early sound bytes =
     let m : Meeting = meeting_of at c message in
@@ -217,6 +218,7 @@ granted_fits c message at server early sound bytes =
     (fold_short at (saids_of (ia_for ask m.ias)) _ (timed ask) tt)) tt in
     gated (λ lease. IfSome lease FitsLease6) (is_nonempty (ias_granted m c.settings.asks)) _ None
     (record {
+      origin = early;
       name = sound.name;
       t1 = t1_fits m (spans_granted m c.settings.asks) early short sound.kept;
       t2 = t2_fits m (spans_granted m c.settings.asks) early short sound.kept;
@@ -226,12 +228,12 @@ granted_fits c message at server early sound bytes =
       values = values_fit message.dns message.search;
     }) tt
 
-of_server : (c : ClientContent) (message : Content6) (at : ℕ) (server : Option (List ℕ)) → at < 10 ^ 15 → IsSound c → AllBytes message.options
+of_server : (c : ClientContent) (message : Content6) (at : ℕ) (server : Option (List ℕ)) → IsMoment at → IsSound c → AllBytes message.options
     → IfSome (option_and_then (granted at c message) server) FitsLease6
 of_server c message at None early sound bytes = tt
 of_server c message at (Some server) early sound bytes = granted_fits c message at server early sound bytes
 
-fresh_fits : (c : ClientContent) (message : Content6) (at : ℕ) → at < 10 ^ 15 → IsSound c → AllBytes message.options
+fresh_fits : (c : ClientContent) (message : Content6) (at : ℕ) → IsMoment at → IsSound c → AllBytes message.options
     → IfSome (fresh_in at c message) FitsLease6
 fresh_fits c message at early sound bytes =
     gated (λ lease. IfSome lease FitsLease6) (is_taken c message) _ None (of_server c message at (server_of message) early sound bytes) tt

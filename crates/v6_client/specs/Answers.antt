@@ -138,7 +138,7 @@ meeting_of at c message = record { at = at; scope = scope_of c.state; kept = c.k
 
 abbrev pub granted : (at : ℕ) → ClientContent → Content6 → (server : List ℕ) → Option Lease6Content
 granted at c message server =
-    lease_granted c.settings.site.iface.name server message (meeting_of at c message) c.settings.asks
+    lease_granted c.settings.site.iface server message (meeting_of at c message) c.settings.asks
 
 -- the lease that the Reply grants, where it is taken
 abbrev pub fresh_of : (at : ℕ) → (taken : Bool) → ClientContent → Content6 → Option Lease6Content

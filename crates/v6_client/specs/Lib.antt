@@ -26,3 +26,4 @@ pub mod RunLaws
 pub mod QuietLaws
 pub mod OwnLeases
 pub mod RunsStay
+pub mod Origins

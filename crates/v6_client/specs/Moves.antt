@@ -90,6 +90,7 @@ parting_at cause c = parting_of cause (scope_of c.state) (ias_of c.kept) c.setti
 
 abbrev pub thinned_lease : Cause6 → Lease6Content → Lease6Content
 thinned_lease cause lease = record {
+  origin = lease.origin;
   name = lease.name;
   server = lease.server;
   t1 = lease.t1;

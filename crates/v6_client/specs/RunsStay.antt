@@ -1,5 +1,6 @@
 -- What stays so of a client whatever call comes.
-use Rattle.std.specs.Prelude.{◌≡◌, ℕ, ◌<◌, ◌^◌, IfSome}
+use Rattle.std.specs.Prelude.{◌≡◌, ℕ, IfSome}
+use Rattle.net_types.specs.Moments.{IsMoment}
 use Rattle.net_types.specs.declared.address.Ip6.{Ip6}
 use Rattle.v6_options.specs.OptionGrammar.{AreBytes}
 use Rattle.v6_message.specs.Replies.{Content6}
@@ -40,5 +41,5 @@ SoundStays = (c : ClientContent) (at salt : ℕ) → IsSound c → AfterEach IsS
 
 -- so it is where the options are bytes, and the moment is one at which calls come
 abbrev pub GrantsFit : Type 0
-GrantsFit = (c : ClientContent) (message : Content6) (at : ℕ) → at < 10 ^ 15 → IsSound c → AreBytes message.options
+GrantsFit = (c : ClientContent) (message : Content6) (at : ℕ) → IsMoment at → IsSound c → AreBytes message.options
     → GrantsFitting at c message

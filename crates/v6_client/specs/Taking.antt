@@ -1,12 +1,13 @@
 -- How a Reply is taken (RFC 8415, sections 18.2.10.1 and 14.2): which items stay, which change their moments, and which come.
 use Rattle.std.specs.Prelude.{ℕ, Bool, true, false, ◌&&◌, List, [], ◌∷◌, ◌++◌, filter, fold, length, position, remove, slice_set, min, Option, Some, None, nat_lt, ◌==◌, if◌then◌else◌}
 use Rattle.std.specs.List.{list_any, flat_map}
-use Rattle.net_types.specs.declared.interface.Name.{Name}
+use Rattle.net_types.specs.declared.interface.IfSpec.{IfSpec}
 use Rattle.net_types.specs.declared.address.Net6.{Net6}
 use Rattle.v6_options.specs.declared.code.TheConstants.{DNS_SERVERS, DOMAIN_LIST}
 use Rattle.v6_options.specs.declared.ia.ItemSaid.{ItemSaid}
 use Rattle.v6_options.specs.Ias.{IaContent}
 use Rattle.v6_message.specs.Replies.{Content6}
+use Rattle.lease_text.specs.declared.lease.Origin.{Origin}
 use Rattle.lease_text.specs.Leases.{ValueContent}
 use Rattle.lease6_text.specs.declared.lease.Item6.{Item6}
 use Rattle.lease6_text.specs.declared.lease.TheConstants.{ITEM_LIMIT}
@@ -142,12 +143,17 @@ value_granted code bytes = if is_well_formed6 code bytes then record { code = co
 abbrev pub values_granted : Content6 → List ValueContent
 values_granted message = value_granted DNS_SERVERS message.dns ++ value_granted DOMAIN_LIST message.search
 
+-- it is given to the interface, and the moment of the Reply's arrival confirms it
+abbrev pub origin_granted : IfSpec → Meeting → Origin
+origin_granted iface m = record { mac = iface.mac; confirmed = m.at }
+
 -- the lease of an interface after the Reply of a server, unless no item is left
-abbrev pub lease_granted : Name → (server : List ℕ) → Content6 → Meeting → List IaAsk → Option Lease6Content
-lease_granted name server message m asks =
+abbrev pub lease_granted : IfSpec → (server : List ℕ) → Content6 → Meeting → List IaAsk → Option Lease6Content
+lease_granted iface server message m asks =
     if is_nonempty (ias_granted m asks)
     then Some (record {
-      name = name;
+      origin = Some (origin_granted iface m);
+      name = iface.name;
       server = server;
       t1 = t1_granted m (spans_granted m asks);
       t2 = t2_granted m (spans_granted m asks);

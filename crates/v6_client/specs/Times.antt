@@ -1,12 +1,13 @@
 -- The times of a client, in milliseconds; moments are in milliseconds since 1970.
-use Rattle.std.specs.Prelude.{ℕ, ◌+◌, ◌-◌, ◌*◌, ◌/◌, ◌<◌, ◌≤◌, ◌^◌, min, Option, Some, None, ◌==◌, if◌then◌else◌}
+use Rattle.std.specs.Prelude.{ℕ, ◌+◌, ◌-◌, ◌*◌, ◌/◌, ◌≤◌, min, Option, Some, None, ◌==◌, if◌then◌else◌}
+use Rattle.net_types.specs.Moments.{IsMoment}
 use Rattle.machine.specs.Draw.{draw_of}
 use Rattle.v6_client.specs.declared.times.TheConstants.{SECOND, FOREVER, DELAY_SPREAD}
 use Rattle.v6_client.specs.declared.turn.Turn6.{Turn6}
 
 -- the limits within which turns come
 pub record FitsTurn (turn : Turn6) : Type 0 where
-  pub timely : turn.at < 10 ^ 15
+  pub timely : IsMoment turn.at
   pub day : turn.sol_max ≤ 86400000
 
 -- up to a second by chance, or a millisecond (RFC 8415, section 18.2.1)

@@ -1,6 +1,7 @@
 //! The client: its calls, each a step of the table.
 
-ghost use Rattle.std.specs.Prelude.{◌≡◌, ◌≤◌, ◌<◌, ◌^◌, length, true, option_map, IfOk, IfSome, OnErr, OnOk};
+ghost use Rattle.std.specs.Prelude.{◌≡◌, ◌≤◌, length, true, option_map, IfOk, IfSome, OnErr, OnOk};
+ghost use Rattle.net_types.specs.Moments.{IsMoment};
 ghost use Rattle.machine.specs.Moment.{moment_of};
 ghost use Rattle.v6_message.specs.Shown.{message_shown};
 ghost use Rattle.net_types.specs.NameText.{FitsName};
@@ -95,7 +96,7 @@ impl Model for Client6 {
 impl Client6 {
     /// What the table looks at beside the state.
     fn turn(&self, at: u64, salt: u64) -> Turn6
-        requires { at < 10 ^ 15 }
+        requires { IsMoment at }
         ensures value { result ≡ turn_of at salt self.now }
         ensures fits { FitsTurn result }
     {
@@ -221,7 +222,7 @@ impl Client6 {
 
     /// Hears an Advertise that counts.
     fn hear_advertise(&mut self, message: &Msg6, at: u64, salt: u64) -> Result<Out6, NoMemory>
-        requires { at < 10 ^ 15 }
+        requires { IsMoment at }
         ensures { IfOk result (λ out. calls.Advertises at salt (message_shown message.now) self.old self.new (out_content out)) }
     {
         let answer = self.advertise_answer(message);
@@ -238,7 +239,7 @@ impl Client6 {
 
     /// The lease that a Reply grants, where it is taken.
     fn fresh(&self, message: &Msg6, at: u64, taken: bool) -> Result<Option<Lease6>, NoMemory>
-        requires { at < 10 ^ 15 }
+        requires { IsMoment at }
         ensures lease { IfOk result (λ fresh. option_map lease6_content fresh ≡ answers.fresh_of at taken self.now (message_shown message.now)) }
         ensures fits { IfOk result (λ fresh. IfSome (option_map lease6_content fresh) FitsLease6) }
     {
@@ -254,18 +255,12 @@ impl Client6 {
             kept: &self.leases.kept,
             message,
         };
-        lease_granted(
-            self.alloc,
-            self.set.iface.name,
-            server,
-            meeting,
-            &self.set.ias,
-        )
+        lease_granted(self.alloc, self.set.iface, server, meeting, &self.set.ias)
     }
 
     /// Hears a Reply that counts.
     fn hear_reply(&mut self, message: &Msg6, at: u64, salt: u64) -> Result<Out6, NoMemory>
-        requires { at < 10 ^ 15 }
+        requires { IsMoment at }
         ensures { IfOk result (λ out. calls.Replies at salt (message_shown message.now) self.old self.new (out_content out)) }
     {
         let taken = self.is_taken(message);
@@ -280,7 +275,7 @@ impl Client6 {
 impl Client6 {
     /// Hears a message that counts.
     fn hear(&mut self, message: &Msg6, at: u64, salt: u64) -> Result<Out6, NoMemory>
-        requires { at < 10 ^ 15 }
+        requires { IsMoment at }
         ensures { IfOk result (λ out. calls.IsAnswered at salt (message_shown message.now) message.now.kind self.old self.new (out_content out)) }
     {
         match message.kind {

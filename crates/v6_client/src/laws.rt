@@ -1,6 +1,7 @@
 //! What is true of every client. These functions do nothing: their contracts are the laws.
 
 ghost use Rattle.v6_client.specs.Laws.{BringsNothing, HoldsNothingOver, IgnoresForeign, KeepsGranted, TicksBringNothing};
+ghost use Rattle.v6_client.specs.Origins.{GrantsOrigin, OriginsStay};
 ghost use Rattle.v6_client.specs.OwnLeases.{CarriersOwn, DuplicatesOwn, GrantsOwn, HeldOwn, MadeOwn, MessagesOwn, RebindsOwn, ReleasesOwn, TicksOwn};
 ghost use Rattle.v6_client.specs.QuietLaws.{AllRunsTell, BeginsTell, DuplicatesTell, MessagesTell, RebindsTell, ReleasesTell, TicksTell};
 ghost use Rattle.v6_client.specs.RunLaws.{CarriersRun, DuplicatesRun, MessagesRun, RebindsRun, ReleasesRun, StepsRun, TicksRun, TicksWait};
@@ -67,4 +68,11 @@ pub fn stays_sound6()
     ensures settings { SettingsStay }
     ensures sound { SoundStays }
     ensures grants { GrantsFit }
+{}
+
+/// Law: a lease that a Reply grants tells the interface's hardware address and the moment at which the Reply was heard. Every other
+/// lease that is kept tells what it told before, items that went or not.
+pub fn keeps_origins6()
+    ensures grants { GrantsOrigin }
+    ensures stays { OriginsStay }
 {}

@@ -97,6 +97,7 @@ fn lease_copied(alloc: Global, lease: &Lease6) -> Result<Lease6, NoMemory>
     ensures { IfOk result (λ copy. lease6_content copy ≡ lease6_content lease.now) }
 {
     Ok(Lease6 {
+        origin: lease.origin,
         name: lease.name,
         server: duid_copied(alloc, &lease.server)?,
         t1: lease.t1,

@@ -2,6 +2,7 @@
 
 ghost use Rattle.std.specs.Prelude.{◌≡◌, ◌+◌, ◌<◌, ◌^◌, unwrap_or, IfSome};
 ghost use Rattle.std.specs.Option.{option_map};
+ghost use Rattle.net_types.specs.Moments.{IsMoment};
 ghost use Rattle.v6_options.specs.IaViews.{ia_shown};
 ghost use Rattle.v6_client.specs.Renewing as renewing;
 ghost use Rattle.v6_client.specs.Renewing.{AreShort};
@@ -93,7 +94,7 @@ fn raised(span: Option<u64>) -> Option<u64>
 }
 
 fn after(at: u64, span: Option<u64>) -> Option<u64>
-    requires at { at < 10 ^ 15 }
+    requires at { IsMoment at }
     requires span { unwrap_or span 0 < 10 ^ 13 }
     ensures { result ≡ option_map (λ time. at + time) span }
 {
@@ -105,7 +106,7 @@ fn after(at: u64, span: Option<u64>) -> Option<u64>
 
 /// T1, counted from `at`, which isn't after T2.
 pub(crate) fn t1_from(at: u64, spans: Spans6) -> Option<u64>
-    requires at { at < 10 ^ 15 }
+    requires at { IsMoment at }
     requires short { AreShort spans }
     ensures { result ≡ renewing.t1_from at spans }
 {
@@ -114,7 +115,7 @@ pub(crate) fn t1_from(at: u64, spans: Spans6) -> Option<u64>
 
 /// T2, counted from `at`.
 pub(crate) fn t2_from(at: u64, spans: Spans6) -> Option<u64>
-    requires at { at < 10 ^ 15 }
+    requires at { IsMoment at }
     requires short { AreShort spans }
     ensures { result ≡ renewing.t2_from at spans }
 {

@@ -1,6 +1,6 @@
 //! How a Reply is taken: which items stay, which change their moments, and which come.
 
-ghost use Rattle.std.specs.Prelude.{◌≡◌, ◌++◌, ◌<◌, ◌^◌, length, option_map, IfOk, IfSome, OnOk};
+ghost use Rattle.std.specs.Prelude.{◌≡◌, ◌++◌, ◌<◌, length, option_map, IfOk, IfSome, OnOk};
 ghost use Rattle.v6_options.specs.IaViews.{ia_shown};
 ghost use Rattle.v6_message.specs.Shown.{message_shown};
 ghost use Rattle.lease_text.specs.Leases.{values_content};
@@ -12,6 +12,7 @@ ghost use Rattle.v6_client.specs.Reading.{saids_of};
 ghost use Rattle.net_types.specs.NameText.{FitsName};
 ghost use Rattle.lease6_text.specs.Bounds.{FitsLease6};
 ghost use Rattle.std.specs.List.{AllByRecursion};
+ghost use Rattle.net_types.specs.Moments.{IsMoment};
 ghost use Rattle.v6_client.specs.Meetings.{asked_in, meeting_shown, taking_content};
 ghost use Rattle.v6_client.specs.Renewing.{AreShort, joined};
 
@@ -22,9 +23,9 @@ use crate::renewing::{Spans6, joined, spans_of, t1_from, t2_from};
 use crate::settings::IaAsk;
 use crate::states::Scope6;
 use crate::times::moment_after;
-use lease_text::Value;
+use lease_text::{Origin, Value};
 use lease6_text::{ITEM_LIMIT, IaLease, Item6, Lease6, is_well_formed6};
-use net_types::{Name, Net6, NoMemory};
+use net_types::{IfSpec, Net6, NoMemory};
 use std::alloc::{AllocError, Global};
 use v6_message::Msg6;
 use v6_options::{Duid, IaView, ItemSaid, code};
@@ -56,7 +57,7 @@ pub(crate) struct Meeting6<'a> {
 // ---- the items of an IA
 
 fn item_from(at: u64, said: ItemSaid) -> Item6
-    requires { at < 10 ^ 15 }
+    requires { IsMoment at }
     ensures { result ≡ taking.item_from at said }
 {
     Item6 {
@@ -86,7 +87,7 @@ fn place_of(net: Net6, items: &[Item6]) -> Option<usize>
 impl Taking6 {
     /// The item changes its moments, or comes last, unless there are four.
     fn set(&mut self, at: u64, said: ItemSaid) -> Result<(), NoMemory>
-        requires { at < 10 ^ 15 }
+        requires { IsMoment at }
         ensures { OnOk result (taking_content self.new ≡ taking.placed at said (taking.place_of said.net self.old.items.items) (taking_content self.old)) }
     {
         match place_of(said.net, &self.items) {
@@ -115,7 +116,7 @@ impl Taking6 {
 
     /// The item goes where its valid lifetime is 0; else it is set.
     fn take(&mut self, at: u64, said: ItemSaid) -> Result<(), NoMemory>
-        requires { at < 10 ^ 15 }
+        requires { IsMoment at }
         ensures { OnOk result (taking_content self.new ≡ taking.takes_item at (taking_content self.old) said) }
     {
         if said.valid == 0 {
@@ -176,7 +177,7 @@ fn carried(
 
 /// Takes the items that a Reply has for an IA.
 fn taken_from(at: u64, items: Vec<Item6>, saids: &[ItemSaid]) -> Result<Taking6, NoMemory>
-    requires { at < 10 ^ 15 }
+    requires { IsMoment at }
     ensures { IfOk result (λ taken. taking_content taken ≡ taking.taken_from at items.items saids.now) }
 {
     let mut taken = Taking6 {
@@ -213,7 +214,7 @@ fn ia_taken(
     ia: Option<IaView>,
     items: &[Item6],
 ) -> Result<Taking6, NoMemory>
-    requires { at < 10 ^ 15 }
+    requires { IsMoment at }
     ensures taken { IfOk result (λ taken. taking_content taken ≡ taking.ia_taken at scope (option_map ia_shown ia.entry) items.now) }
     ensures timed { OnOk result (AreTimed (saids_of (option_map ia_shown ia.entry))) }
 {
@@ -232,7 +233,7 @@ fn taken_by(
     ask: IaAsk,
     ia: Option<IaView>,
 ) -> Result<Taking6, NoMemory>
-    requires { meeting.at < 10 ^ 15 }
+    requires { IsMoment meeting.at }
     ensures taken { IfOk result (λ taken. taking_content taken ≡ taking.ia_taken meeting.entry.at meeting.entry.scope (option_map ia_shown ia.entry) (asked_in meeting.entry ask)) }
     ensures timed { OnOk result (AreTimed (saids_of (option_map ia_shown ia.entry))) }
 {
@@ -243,7 +244,7 @@ fn taken_by(
 impl Granting6 {
     /// Takes what the Reply has for a further IA.
     fn add(&mut self, alloc: Global, meeting: Meeting6, ask: IaAsk) -> Result<(), NoMemory>
-        requires at { meeting.at < 10 ^ 15 }
+        requires at { IsMoment meeting.at }
         requires short { IfSome self.old.spans AreShort }
         ensures ias { OnOk result (ias_content self.new.ias.items ≡ ias_content self.old.ias.items ++ taking.ia_granted (meeting_shown meeting.entry) ask) }
         ensures spans { OnOk result (self.new.spans ≡ joined self.old.spans (taking.ia_spans (meeting_shown meeting.entry) ask)) }
@@ -259,7 +260,7 @@ impl Granting6 {
 
 /// Takes what the Reply has for the IAs that are asked for.
 fn granted_by(alloc: Global, meeting: Meeting6, asks: &[IaAsk]) -> Result<Granting6, NoMemory>
-    requires { meeting.at < 10 ^ 15 }
+    requires { IsMoment meeting.at }
     ensures ias { IfOk result (λ granting. ias_content granting.ias.items ≡ taking.ias_granted (meeting_shown meeting.entry) asks.now) }
     ensures spans { IfOk result (λ granting. granting.spans ≡ taking.spans_granted (meeting_shown meeting.entry) asks.now) }
     ensures short { IfOk result (λ granting. IfSome granting.spans AreShort) }
@@ -277,7 +278,7 @@ fn granted_by(alloc: Global, meeting: Meeting6, asks: &[IaAsk]) -> Result<Granti
 
 /// T1 and T2 of the lease; they stay where no IA brought items.
 fn times_granted(meeting: Meeting6, spans: Option<Spans6>) -> (Option<u64>, Option<u64>)
-    requires at { meeting.at < 10 ^ 15 }
+    requires at { IsMoment meeting.at }
     requires short { IfSome spans AreShort }
     ensures t1 { result.0 ≡ taking.t1_granted (meeting_shown meeting.entry) spans }
     ensures t2 { result.1 ≡ taking.t2_granted (meeting_shown meeting.entry) spans }
@@ -320,17 +321,17 @@ fn values_granted(alloc: Global, message: &Msg6) -> Result<Vec<Value>, NoMemory>
 /// The lease of an interface after the Reply of a server, unless no item is left.
 pub(crate) fn lease_granted(
     alloc: Global,
-    name: Name,
+    iface: IfSpec,
     server: Duid,
     meeting: Meeting6,
     asks: &[IaAsk],
 ) -> Result<Option<Lease6>, NoMemory>
-    requires name { FitsName name }
-    requires at { meeting.at < 10 ^ 15 }
+    requires name { FitsName iface.name }
+    requires at { IsMoment meeting.at }
     requires asks { FitsAsks asks.now }
     requires kept { IfSome (option_map lease6_content meeting.kept.now) FitsLease6 }
     ensures fits { IfOk result (λ lease. IfSome (option_map lease6_content lease) FitsLease6) }
-    ensures lease { IfOk result (λ lease. option_map lease6_content lease ≡ taking.lease_granted name server.bytes.items (message_shown meeting.entry.message.now) (meeting_shown meeting.entry) asks.now) }
+    ensures lease { IfOk result (λ lease. option_map lease6_content lease ≡ taking.lease_granted iface server.bytes.items (message_shown meeting.entry.message.now) (meeting_shown meeting.entry) asks.now) }
 {
     let granting = granted_by(alloc, meeting, asks)?;
     if granting.ias.is_empty() {
@@ -339,7 +340,11 @@ pub(crate) fn lease_granted(
     let (t1, t2) = times_granted(meeting, granting.spans);
     let values = values_granted(alloc, meeting.message)?;
     Ok(Some(Lease6 {
-        name,
+        origin: Some(Origin {
+            mac: iface.mac,
+            confirmed: meeting.at,
+        }),
+        name: iface.name,
         server,
         t1,
         t2,

@@ -1,6 +1,7 @@
 //! The times of a client, in milliseconds.
 
-ghost use Rattle.std.specs.Prelude.{◌≡◌, ◌≤◌, ◌<◌, ◌^◌};
+ghost use Rattle.std.specs.Prelude.{◌≡◌, ◌≤◌};
+ghost use Rattle.net_types.specs.Moments.{IsMoment};
 ghost use Rattle.v6_client.specs.Times as times;
 
 use crate::turn::Turn6;
@@ -54,7 +55,7 @@ pub(crate) fn earlier(first: Option<u64>, second: Option<u64>) -> Option<u64>
 
 /// The moment so many seconds after `at`; None is never.
 pub(crate) fn moment_after(at: u64, seconds: u32) -> Option<u64>
-    requires { at < 10 ^ 15 }
+    requires { IsMoment at }
     ensures { result ≡ times.moment_after at seconds }
 {
     if seconds == FOREVER {

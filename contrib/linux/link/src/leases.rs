@@ -41,8 +41,8 @@ impl Lease {
         let interface = lines.next()?.strip_prefix("interface ")?.to_string();
         let rest: Vec<Vec<&str>> = lines.map(|line| line.split(' ').collect()).collect();
         match (begins, rest.last()?.as_slice()) {
-            ("dhcpcd-lease4 1", ["end"]) => lease4(interface, &rest),
-            ("dhcpcd-lease6 1", ["end"]) => lease6(interface, &rest),
+            ("dhcpcd-lease4 1" | "dhcpcd-lease4 2", ["end"]) => lease4(interface, &rest),
+            ("dhcpcd-lease6 1" | "dhcpcd-lease6 2", ["end"]) => lease6(interface, &rest),
             _ => None,
         }
     }
@@ -174,6 +174,16 @@ mod tests {
         assert_eq!(lease.until("eth0", &row("addr 1 10.0.0.51/24")), None);
         assert_eq!(lease.until("eth0", &row("route 1 10.0.0.0/24 metric 1")), None);
         assert_eq!((lease.mtu, lease.granted()), (Some(1500), "10.0.0.50".to_string()));
+    }
+
+    #[test]
+    fn a_lease_that_tells_its_origin_speaks_likewise() {
+        let origin = "interface eth0\nmac 02:00:00:00:00:01\nconfirmed 1000\n";
+        for plain in [FOUR, SIX] {
+            let text = plain.replacen(" 1\n", " 2\n", 1).replace("interface eth0\n", origin);
+            assert_eq!(Lease::read(&text), Lease::read(plain));
+            assert!(Lease::read(&text).is_some());
+        }
     }
 
     #[test]

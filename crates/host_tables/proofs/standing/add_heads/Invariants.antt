@@ -13,5 +13,5 @@ invariant-loop-row g l = record {
   len : vec_len l.heads ≤ vec_len l.initial.heads + l.row-index;
   capacity : vec_capacity l.initial.heads ≤ vec_capacity l.heads;
   grows : l.initial.steps ≤ l.steps;
-  steps : (n : ℕ) → length l.brought < 2 ^ n → vec_len l.initial.heads + length l.rows < 2 ^ n → l.steps ≤ l.initial.steps + l.row-index * (2 * n);
+  steps : (n : ℕ) → length l.brought < 2 ^ n → vec_len l.initial.heads + length l.rows < 2 ^ (n + 1) → l.steps ≤ l.initial.steps + l.row-index * (2 * (n + 1));
 }

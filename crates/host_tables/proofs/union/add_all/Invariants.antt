@@ -12,5 +12,5 @@ invariant-loop-row g l = record {
   len : vec_len l.all ≤ vec_len l.initial.all + l.row-index;
   capacity : vec_capacity l.initial.all ≤ vec_capacity l.all;
   grows : l.initial.steps ≤ l.steps;
-  steps : (n : ℕ) → vec_len l.initial.all + length l.rows < 2 ^ n → l.steps ≤ l.initial.steps + l.row-index * n;
+  steps : (n : ℕ) → vec_len l.all < 2 ^ n → l.steps ≤ l.initial.steps + l.row-index * n;
 }

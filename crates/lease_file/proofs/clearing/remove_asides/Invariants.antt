@@ -6,7 +6,7 @@ use Rattle.std.specs.Vec.Iter.{into_iter_items, into_iter_len}
 use Rattle.world.specs.FileNames.{IsFileName}
 use Rattle.lease_file.specs.ToldStore.{told_files, told_calls, with_calls}
 use Rattle.lease_file.specs.AsideCalls.{any_left, removal_calls}
-use Rattle.lease_file.specs.StoreAnswers.{Answered}
+use Rattle.file_choices.specs.StoreWalks.{Answered}
 use Rattle.lease_file.specs.AsideFiles.{without, TakesFiles}
 use Rattle.lease_file.proofs.Removals.{names_of}
 use Rattle.lease_file.proofs.clearing.remove_asides.Given as goal

@@ -1,4 +1,5 @@
-use Rattle.std.proofs.Common.{◌≡◌, ◌<◌, ◌^◌, ap, subst}
+use Rattle.std.proofs.Common.{◌≡◌, ap, subst}
+use Rattle.net_types.specs.Moments.{IsMoment}
 use Rattle.v4_client.specs.declared.states.State4.{State4}
 use Rattle.v4_client.specs.Clients.{ClientContent}
 use Rattle.v4_client.specs.Sound.{IsSound, IsSoundStep, FitsBegin}
@@ -11,7 +12,7 @@ pub go-requires : goal.go-requires
 go-requires c =
     let same : c.c.inside.state ≡ c.args.c.now.state = ap (λ (v : ClientContent). v.state) c.c.view_is in
     let sound : IsSound c.args.c.now = subst IsSound c.c.view_is c.c.invariant in
-    let at : c.turn-turn.result.at < 10 ^ 15 = early c.turn-turn.result c.args.at c.clamp_moment.result c.args.salt c.args.c.now c.clamp_moment.ensures c.turn-turn.ensures in
+    let at : IsMoment c.turn-turn.result.at = early c.turn-turn.result c.args.at c.clamp_moment.result c.args.salt c.args.c.now c.clamp_moment.ensures c.turn-turn.ensures in
     subst (λ (s : State4). IsSoundStep s c.match-carrier.step) same
     (elim c.match-carrier.branch [
       | in-Up w ↦

@@ -19,6 +19,7 @@ returns-clause-fits c =
     all_map (IsTimedFor m) (λ (ask : IaAsk). AllByRecursion (λ said. FitsItem ask.kind (item_from m.at said)) (saids_of (ia_for ask m.ias)))
     (λ ask timed. saids_fit ask m.at c.args.meeting.message.now.options.now c.requires.at timed) c.args.asks.now c.in_ok-granting.ensures.timed in
     record {
+      origin = c.requires.at;
       name = c.requires.name;
       t1 = subst (λ (t : Option ℕ). FitsMoment t) (sym c.times_granted-t1.ensures.t1)
           (t1_fits m c.in_ok-granting.granting.spans c.requires.at c.in_ok-granting.ensures.short c.requires.kept);

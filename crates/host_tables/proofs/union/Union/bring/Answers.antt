@@ -1,10 +1,10 @@
-use Rattle.std.proofs.Common.{List, ◌&&◌, ◌||◌, ◌∙◌, ap, arith}
+use Rattle.std.proofs.Common.{◌<◌, ◌^◌, vec_len, List, ◌&&◌, ◌||◌, ◌∙◌, ap, arith}
 use Rattle.std.specs.Prelude.{◌==◌}
 use Rattle.std.proofs.lemmas.List.{take_all}
 use Rattle.world.specs.declared.rows.HostRow.{HostRow}
 use Rattle.world.specs.RowOrder.{has_row}
 use Rattle.host_tables.specs.Bringings.{has_bringing}
-use Rattle.host_tables.proofs.Counting.{more_steps, one_more}
+use Rattle.host_tables.proofs.Counting.{more_steps, no_fewer, one_more}
 use Rattle.host_tables.proofs.RowByRow.{brought_more}
 use Rattle.host_tables.proofs.Heads.{bringing_at}
 use Rattle.host_tables.proofs.union.Union.bring.Goals as goal
@@ -20,7 +20,9 @@ loop-row-preserved g c =
       len = omega (arith, i.len, one_more _ _ _ put.len);
       capacity = omega (arith, i.capacity, put.capacity);
       grows = omega (arith, i.grows, put.grows);
-      steps = λ n few. more_steps _ n c.loop-row.row-index _ _ (i.steps n few) (put.steps n (omega (arith, i.len)));
+      steps = λ n few.
+          let was : vec_len c.loop-row.self.brought < 2 ^ n = omega (arith, no_fewer _ _ _ put.len, few) in
+          more_steps _ n c.loop-row.row-index _ _ (i.steps n was) (put.steps n was);
     }
 
 pub returns-clause-brings : goal.returns-clause-brings

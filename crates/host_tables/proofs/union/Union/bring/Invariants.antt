@@ -14,5 +14,5 @@ invariant-loop-row g l = record {
   len : vec_len l.self.brought ≤ vec_len l.initial.self.brought + l.row-index;
   capacity : vec_capacity l.initial.self.brought ≤ vec_capacity l.self.brought;
   grows : l.initial.steps ≤ l.steps;
-  steps : (n : ℕ) → vec_len l.initial.self.brought + length l.rows < 2 ^ n → l.steps ≤ l.initial.steps + l.row-index * n;
+  steps : (n : ℕ) → vec_len l.self.brought < 2 ^ n → l.steps ≤ l.initial.steps + l.row-index * n;
 }

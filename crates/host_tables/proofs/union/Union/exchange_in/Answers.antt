@@ -6,7 +6,7 @@ use Rattle.world.specs.RowOrder.{rows_beyond}
 use Rattle.host_tables.specs.declared.bringing.Bringing.{Bringing}
 use Rattle.host_tables.specs.Bringings.{rows_in}
 use Rattle.host_tables.specs.Unions.{AddsRows, AreHeads, RemovesRows}
-use Rattle.host_tables.proofs.Counting.{all_steps, both_few, fewer_left}
+use Rattle.host_tables.proofs.Counting.{all_steps, fewer_left}
 use Rattle.host_tables.proofs.Exchanges.{exchanged}
 use Rattle.host_tables.proofs.union.Union.exchange_in.Goals as goal
 
@@ -47,13 +47,13 @@ returns-clause-steps g c = λ d few.
     let come : length c.deref-8.result.now ≤ m + k =
     omega (arith, stand, subst (λ (rows : List HostRow). length rows ≤ length c.deref-5.result.now) (sym (c.deref-8.ensures.value ∙ c.beyond_into-2.ensures.found)) (fewer_left _ c.deref-5.result.now)) in
     let before = c.heads_into.ensures.steps d (omega (arith, ap length c.deref.ensures.value, c.args.self.now.brought.ok.0, few.brought)) few.changed in
-    let out = c.take_out.ensures.steps d (omega (arith, few.brought)) in
-    let brought = c.bring.ensures.steps d (omega (arith, c.take_out.ensures.len, few.brought)) in
-    let after = c.heads_into-2.ensures.steps d (omega (arith, ap length c.deref-2.ensures.value, c.bring.new.self.brought.ok.0, c.bring.ensures.len, c.take_out.ensures.len, few.brought)) few.changed in
+    let out = c.take_out.ensures.steps d few.brought in
+    let brought = c.bring.ensures.steps d few.brings in
+    let after = c.heads_into-2.ensures.steps d (omega (arith, ap length c.deref-2.ensures.value, c.bring.new.self.brought.ok.0, few.brings)) few.changed in
     let same : c.bring.new.self.wanted ≡ c.args.self.now.wanted = c.bring.ensures.brings.wanted ∙ c.take_out.ensures.takes_out.wanted in
     let wanted : vec_len c.bring.new.self.wanted < 2 ^ d = subst (λ (all : Vec HostRow). vec_len all < 2 ^ d) (sym same) few.wanted in
     let removed = c.remove_all.ensures.steps d wanted in
-    let added = c.add_all.ensures.steps (d + 1) (omega (arith, come, c.remove_all.ensures.len, both_few (vec_len c.bring.new.self.wanted) (m + k) d wanted few.changed)) in
+    let added = c.add_all.ensures.steps d few.wants in
     all_steps m k d (length c.deref-7.result.now) (length c.deref-8.result.now) c.args.steps.now c.heads_into.new.steps c.take_out.new.steps c.bring.new.steps c.heads_into-2.new.steps
     c.beyond_into.new.steps c.beyond_into-2.new.steps c.remove_all.new.steps c.add_all.new.steps gone come before out brought after
     (omega (arith, stood, lacking, c.beyond_into.ensures.steps)) (omega (arith, stand, others, c.beyond_into-2.ensures.steps)) removed added

@@ -1,4 +1,5 @@
-use Rattle.std.proofs.Common.{◌≡◌, ◌<◌, ◌^◌, ap, subst}
+use Rattle.std.proofs.Common.{◌≡◌, ap, subst}
+use Rattle.net_types.specs.Moments.{IsMoment}
 use Rattle.v4_client.specs.declared.states.State4.{State4}
 use Rattle.v4_client.specs.Clients.{ClientContent}
 use Rattle.v4_client.specs.Sound.{IsSoundStep}
@@ -9,6 +10,6 @@ use Rattle.v4_client.proofs.client.Client4Machine.tick.Goals as goal
 pub go-requires : goal.go-requires
 go-requires c =
     let same : c.self.inside.state ≡ c.args.self.now.state = ap (λ (v : ClientContent). v.state) c.self.view_is in
-    let at : c.turn.result.at < 10 ^ 15 = early c.turn.result c.args.at c.clamp_moment-at.result c.args.salt c.args.self.now c.clamp_moment-at.ensures c.turn.ensures in
+    let at : IsMoment c.turn.result.at = early c.turn.result c.args.at c.clamp_moment-at.result c.args.salt c.args.self.now c.clamp_moment-at.ensures c.turn.ensures in
     subst (λ (s : State4). IsSoundStep s c.tick_row-step.result) same
     (rw c.tick_row-step.ensures (tick_sound c.turn.result c.self.inside.state at c.self.invariant.state))

@@ -1,0 +1,65 @@
+//! A work that reads the whole of its input, makes a text of it, and writes that.
+ghost use Rattle.std.specs.Prelude.{◌≡◌, ◌≢◌, ◌≤◌, true, Err, IfOk, IfErr};
+ghost use Rattle.dhcpcd.specs.Input.{ReadsWithin, input_told};
+ghost use Rattle.dhcpcd.specs.Statuses.{HasStatusCause, Completes};
+ghost use Rattle.dhcpcd.specs.Works.{IsDecided, IsDone, IsWorked, MayRefuse, Serves, Work};
+
+use crate::input::read_all;
+use crate::status::Status;
+use crate::writing::write_text;
+use std::alloc::Global;
+use world::{Sink, Source};
+
+/// What is made of the bytes of an input.
+pub trait TextWork {
+    // the text that bytes give, and how others are refused
+    ghost work: { Self → Work };
+
+    /// The text that the bytes give, or why they are refused.
+    fn text_of(&self, alloc: Global, bytes: &[u8]) -> Result<Vec<u8>, Status>
+        ensures gives { IfOk result (λ text. (work self.now).Gives bytes.now text.items) }
+        ensures refuses { IfErr result (MayRefuse ((work self.now).Refuses bytes.now)) };
+}
+
+/// Reads the input, and writes the text that it gives.
+#[tactic(auto, using(crate::proofs::WorkLaws::unread, crate::proofs::WorkLaws::refused_cause, crate::proofs::WorkLaws::cut_short))]
+fn give<K: TextWork, I: Source, O: Sink>(
+    alloc: Global,
+    work: &K,
+    input: &mut I,
+    out: &mut O,
+) -> Result<(), Status>
+    ensures ok { IfOk result (λ _. IsDone (K.work work.now) (I.left input.old) (O.written out.old) (O.written out.new) × (I.faults input.old ≤ I.faults input.new) × (O.faults out.old ≤ O.faults out.new)) }
+    ensures err { IfErr result (λ status. IsWorked (K.work work.now) status (I.left input.old) (O.written out.old) (O.written out.new)) }
+    ensures cause { IfErr result (λ status. HasStatusCause status (I.faults input.old) (I.faults input.new) (O.faults out.old) (O.faults out.new)) }
+    ensures not_done { result ≢ Err Status.Done }
+    ensures reads { ReadsWithin (input_told (I.left input.old) (I.taken input.old) (I.reads input.old)) (input_told (I.left input.new) (I.taken input.new) (I.reads input.new)) }
+    ensures input_steady { I.never_fails input.old ≡ true → I.faults input.new ≡ I.faults input.old }
+    ensures out_steady { O.never_fails out.old ≡ true → O.faults out.new ≡ O.faults out.old }
+{
+    let bytes = read_all(alloc, input)?;
+    let text = work.text_of(alloc, &bytes)?;
+    write_text(out, &text)?;
+    Ok(())
+}
+
+/// Reads at most 16,777,216 bytes from the input, and writes the text that they give.
+#[tactic(auto, using(crate::proofs::WorkLaws::completes_work))]
+pub fn perform<K: TextWork, I: Source, O: Sink>(
+    alloc: Global,
+    work: &K,
+    input: &mut I,
+    out: &mut O,
+) -> Status
+    requires decided { IsDecided (K.work work.now) }
+    ensures answer { IsWorked (K.work work.now) result (I.left input.old) (O.written out.old) (O.written out.new) }
+    ensures cause { HasStatusCause result (I.faults input.old) (I.faults input.new) (O.faults out.old) (O.faults out.new) }
+    ensures complete { Serves (K.work work.now) (I.left input.old) → I.faults input.new ≡ I.faults input.old → O.faults out.new ≡ O.faults out.old → Completes result }
+    ensures serves { Serves (K.work work.now) (I.left input.old) → I.never_fails input.old ≡ true → O.never_fails out.old ≡ true → Completes result }
+    ensures reads { ReadsWithin (input_told (I.left input.old) (I.taken input.old) (I.reads input.old)) (input_told (I.left input.new) (I.taken input.new) (I.reads input.new)) }
+{
+    match give(alloc, work, input, out) {
+        Ok(()) => Status::Done,
+        Err(status) => status,
+    }
+}

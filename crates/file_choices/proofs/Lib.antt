@@ -1,0 +1,4 @@
+pub mod FileWalks
+pub mod Walking
+pub mod Choosing
+pub mod Given

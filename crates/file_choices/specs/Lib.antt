@@ -1,0 +1,4 @@
+pub mod StoreWalks
+pub mod Choices
+pub mod Savings
+pub mod LeftWhole

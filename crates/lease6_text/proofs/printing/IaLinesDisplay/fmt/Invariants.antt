@@ -1,9 +1,0 @@
-use Rattle.std.proofs.Common.{◌∷◌, map, take}
-use Rattle.std.specs.Fmt.{HasWritten, IsPlainFormatter}
-use Rattle.net_types.specs.TextLines.{lines_text}
-use Rattle.lease6_text.specs.LeaseLines.{ia_line, item_line}
-use Rattle.lease6_text.proofs.printing.IaLinesDisplay.fmt.Given as goal
-
-abbrev pub invariant-loop-item : goal.invariant-loop-item
-invariant-loop-item g l =
-    IsPlainFormatter l.fn.f → HasWritten g.W.Write.write_str_gives l.fn.f (lines_text (ia_line l.ia.kind l.ia.iaid ∷ map (item_line l.ia.kind) (take l.item-index l.item-items))) l.f

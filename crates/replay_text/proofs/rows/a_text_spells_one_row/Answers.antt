@@ -1,7 +1,0 @@
-use Rattle.replay_text.proofs.RowLaws.{row_finds}
-use Rattle.replay_text.proofs.SpellingLaws.{one_value}
-use Rattle.replay_text.proofs.rows.a_text_spells_one_row.Goals as goal
-
-pub returns : goal.returns
-returns c text one other fits fits_other spells spells_other =
-    one_value text one other row_finds (spells, fits) (spells_other, fits_other)
