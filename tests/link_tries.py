@@ -382,6 +382,15 @@ def service(net, score):
         monitor.terminate()
         changes = monitor.communicate()[0].decode()
         expect(changes, "Deleted" not in changes and rows == (net.leased(4), net.routes()))
+    with score.step("both are killed and started again, and all is there at each moment"):
+        count = host.reasons().count("REBOOT")
+        host.crash()
+        host.start()
+        until = time.monotonic() + 20
+        while host.reasons().count("REBOOT") == count:
+            expect("a row is gone", rows == (net.leased(4), net.routes()))
+            expect("no answer", time.monotonic() < until)
+            time.sleep(0.02)
 
 
 RIGHTS = "+net_admin,+net_raw,+net_bind_service"

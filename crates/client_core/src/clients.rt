@@ -194,6 +194,13 @@ pub fn rows(core: &Core) -> &[HostRow]
     core.kept.tables.wanted()
 }
 
+/// The managed interfaces, in order of their numbers.
+pub fn ifaces(core: &Core) -> &[Iface]
+    ensures { result.now ≡ core.now.ifaces }
+{
+    &core.ifaces
+}
+
 /// The DHCPv4 lease that the interface of this number keeps for its next start, held or not.
 pub fn kept4(core: &Core, index: IfIndex) -> Option<&Lease4>
     ensures value { option_map (λ lease. lease_content lease.now) result ≡ kept_lease index.number core.now.ifaces }

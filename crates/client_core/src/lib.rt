@@ -23,8 +23,8 @@ mod told_parts;
 mod turning;
 
 pub use clients::{
-    Core, Opened, Stepped, changes, core_due, core_open, kept4, kept6, looks, resolver_wanted,
-    rows, step,
+    Core, Opened, Stepped, changes, core_due, core_open, ifaces, kept4, kept6, looks,
+    resolver_wanted, rows, step,
 };
 pub use effects::{Resolver, Touched};
 pub use host_tables::Diff;

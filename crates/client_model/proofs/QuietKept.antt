@@ -37,11 +37,11 @@ use Rattle.v4_client.specs.Detection.{checked, defended, with_acd}
 use Rattle.v4_client.specs.Due.{due_of}
 use Rattle.v4_client.specs.Hearing.{offered, granted, answered, renewed, heard_row, contested, arp_row}
 use Rattle.v4_client.specs.History.{tick_step}
-use Rattle.v4_client.specs.Inputs.{begins, rebind_row}
-use Rattle.v4_client.specs.Moments.{doubled, expiry, rebinding_at, renewal_at}
+use Rattle.v4_client.specs.Inputs.{begins, rebind_row, stood}
+use Rattle.v4_client.specs.Moments.{doubled, expiry, rebinding_at, renewal_at, standing_until}
 use Rattle.v4_client.specs.Moves.{kept_after}
-use Rattle.v4_client.specs.Steps.{binds, discovers, expires, new_exchange, rebinding, rebooting, renewing, requesting, rests, to_init}
-use Rattle.v4_client.specs.Ticks.{detects, is_longest, tick_row}
+use Rattle.v4_client.specs.Steps.{binds, discovers, expires, new_exchange, rebinding, rebooting, renewing, requesting, rests, standing_news, to_init}
+use Rattle.v4_client.specs.Ticks.{detects, falls, is_longest, tick_row}
 use Rattle.world.specs.declared.wakes.Event.{Event}
 use Rattle.world.specs.declared.wakes.Event.TheVariants.{Frame, Carrier, Duplicate, Release, Rebind, Stop, Quiet, End}
 use Rattle.script_model.specs.IfaceSets.{is_in}
@@ -88,14 +88,15 @@ no_other say Clears name fresh kept still some = cc
 no_other None (Takes terms) name fresh kept still some = cc
 no_other (Some say) (Takes terms) name fresh kept still some = cc
 
-checked_still : (turn : Turn4) (xid : ℕ) (terms : Terms4) (origin : Origin4) (acd : Acd) (said : AcdSays) → Stilly (checked turn xid terms origin acd said)
-checked_still turn xid terms origin acd says.SayProbe n = refl
-checked_still turn xid terms Offered acd says.Passed n = cc
-checked_still turn xid terms Rebooted acd says.Passed n = cc
-checked_still turn xid terms origin acd says.Conflict n = cc
-checked_still turn xid terms origin acd says.Quiet n = refl
-checked_still turn xid terms origin acd says.SayAnnounce n = refl
-checked_still turn xid terms origin acd says.GivenUp n = refl
+checked_still : (turn : Turn4) (xid : ℕ) (terms : Terms4) (origin : Origin4) (acd : Acd) (stands : Option Terms4) (said : AcdSays)
+    → Stilly (checked turn xid terms origin acd stands said)
+checked_still turn xid terms origin acd stands says.SayProbe n = refl
+checked_still turn xid terms Offered acd stands says.Passed n = cc
+checked_still turn xid terms Rebooted acd stands says.Passed n = cc
+checked_still turn xid terms origin acd stands says.Conflict n = refl
+checked_still turn xid terms origin acd stands says.Quiet n = refl
+checked_still turn xid terms origin acd stands says.SayAnnounce n = refl
+checked_still turn xid terms origin acd stands says.GivenUp n = refl
 
 defended_still : (turn : Turn4) (xid : ℕ) (terms : Terms4) (state : State4) (said : AcdSays) → Stilly (defended turn xid terms state said)
 defended_still turn xid terms state says.SayAnnounce n = refl
@@ -123,12 +124,15 @@ tick_still turn (Waiting due) = λ n. refl
 tick_still turn (Selecting xid began secs backoff due) = λ n. refl
 tick_still turn (Requesting exchange secs backoff due) =
     gated Stilly (is_longest backoff) (to_init turn) (requesting turn exchange secs (doubled backoff)) (λ n. refl) (λ n. refl)
-tick_still turn (Rebooting exchange backoff end due) =
-    gated Stilly (nat_le end turn.at) (discovers turn) (rebooting turn exchange (doubled backoff) end) (λ n. refl) (λ n. refl)
-tick_still turn (Checking xid terms origin acd) =
-    gated Stilly (is_due (expiry terms) turn.at) (to_init turn)
-    (checked turn xid terms origin (detection.acd_tick acd turn.at turn.salt).acd (detection.acd_tick acd turn.at turn.salt).says) (λ n. refl)
-    (checked_still turn xid terms origin (detection.acd_tick acd turn.at turn.salt).acd (detection.acd_tick acd turn.at turn.salt).says)
+tick_still turn (Rebooting exchange backoff end due stands) =
+    gated Stilly (is_due (standing_until stands) turn.at) (expires turn) _ (λ n. cc)
+    (gated Stilly (nat_le end turn.at) (record (discovers turn) { news = standing_news stands }) (rebooting turn exchange (doubled backoff) end stands)
+    (λ n. refl) (λ n. refl))
+tick_still turn (Checking xid terms origin acd stands) =
+    gated Stilly (is_due (standing_until stands) turn.at) (falls turn (Checking xid terms origin acd None)) _ (λ n. cc)
+    (gated Stilly (is_due (expiry terms) turn.at) (record (to_init turn) { news = standing_news stands })
+    (checked turn xid terms origin (detection.acd_tick acd turn.at turn.salt).acd stands (detection.acd_tick acd turn.at turn.salt).says) (λ n. refl)
+    (checked_still turn xid terms origin (detection.acd_tick acd turn.at turn.salt).acd stands (detection.acd_tick acd turn.at turn.salt).says))
 tick_still turn (Bound xid terms acd) =
     gated Stilly (is_due (expiry terms) turn.at) (expires turn) _ (λ n. cc)
     (gated Stilly (is_due (rebinding_at terms) turn.at) (rebinding turn (new_exchange turn terms.net.ip) terms acd) _ (λ n. refl)
@@ -144,9 +148,9 @@ tick_still turn (Rebinding exchange terms acd due) =
     (gated Stilly (nat_le due turn.at) (rebinding turn exchange terms acd) _ (λ n. refl)
     (detects_still turn exchange.xid terms (Rebinding exchange terms acd due) acd))
 
-granted_still : (turn : Turn4) (xid : ℕ) (terms : Terms4) (origin : Origin4) → Stilly (granted turn xid terms origin)
-granted_still turn xid terms Offered = gated Stilly turn.site.noarp (binds turn xid terms news.Bound None) _ (λ n. cc) (λ n. refl)
-granted_still turn xid terms Rebooted = gated Stilly turn.site.noarp (binds turn xid terms news.Reboot None) _ (λ n. cc) (λ n. refl)
+granted_still : (turn : Turn4) (xid : ℕ) (terms : Terms4) (origin : Origin4) (stands : Option Terms4) → Stilly (granted turn xid terms origin stands)
+granted_still turn xid terms Offered stands = gated Stilly turn.site.noarp (binds turn xid terms news.Bound None) _ (λ n. cc) (λ n. refl)
+granted_still turn xid terms Rebooted stands = gated Stilly turn.site.noarp (binds turn xid terms news.Reboot None) _ (λ n. cc) (λ n. refl)
 
 offered_still : (turn : Turn4) (xid secs : ℕ) (state : State4) (said : Answer4) → Stilly (offered turn xid secs state said)
 offered_still turn xid secs state (answer.Offer address server) n = refl
@@ -154,11 +158,12 @@ offered_still turn xid secs state answer.Nothing n = refl
 offered_still turn xid secs state (answer.Ack terms) n = refl
 offered_still turn xid secs state answer.Nak n = refl
 
-answered_still : (turn : Turn4) (xid : ℕ) (origin : Origin4) (state : State4) (said : Answer4) → Stilly (answered turn xid origin state said)
-answered_still turn xid origin state (answer.Ack terms) = granted_still turn xid terms origin
-answered_still turn xid origin state answer.Nak = λ n. cc
-answered_still turn xid origin state answer.Nothing = λ n. refl
-answered_still turn xid origin state (answer.Offer address server) = λ n. refl
+answered_still : (turn : Turn4) (xid : ℕ) (origin : Origin4) (stands : Option Terms4) (state : State4) (said : Answer4)
+    → Stilly (answered turn xid origin stands state said)
+answered_still turn xid origin stands state (answer.Ack terms) = granted_still turn xid terms origin stands
+answered_still turn xid origin stands state answer.Nak = λ n. cc
+answered_still turn xid origin stands state answer.Nothing = λ n. refl
+answered_still turn xid origin stands state (answer.Offer address server) = λ n. refl
 
 renewed_still : (turn : Turn4) (xid : ℕ) (acd : Option Acd) (state : State4) (said : Answer4) → Stilly (renewed turn xid news.Renew acd state said)
 renewed_still turn xid acd state (answer.Ack terms) n = cc
@@ -176,9 +181,9 @@ heard_still : (turn : Turn4) (said : Answer4) (state : State4) → Stilly (heard
 heard_still turn said Off = λ n. refl
 heard_still turn said (Init due) = λ n. refl
 heard_still turn said (Selecting xid began secs backoff due) = offered_still turn xid secs (Selecting xid began secs backoff due) said
-heard_still turn said (Requesting exchange secs backoff due) = answered_still turn exchange.xid Offered (Requesting exchange secs backoff due) said
-heard_still turn said (Rebooting exchange backoff end due) = answered_still turn exchange.xid Rebooted (Rebooting exchange backoff end due) said
-heard_still turn said (Checking xid terms origin acd) = λ n. refl
+heard_still turn said (Requesting exchange secs backoff due) = answered_still turn exchange.xid Offered None (Requesting exchange secs backoff due) said
+heard_still turn said (Rebooting exchange backoff end due stands) = answered_still turn exchange.xid Rebooted stands (Rebooting exchange backoff end due stands) said
+heard_still turn said (Checking xid terms origin acd stands) = λ n. refl
 heard_still turn said (Waiting due) = λ n. refl
 heard_still turn said (Bound xid terms acd) = λ n. refl
 heard_still turn said (Renewing exchange terms acd due) = renewed_still turn exchange.xid acd (Renewing exchange terms acd due) said
@@ -189,27 +194,27 @@ arp_still own turn arp Off = λ n. refl
 arp_still own turn arp (Init due) = λ n. refl
 arp_still own turn arp (Selecting xid began secs backoff due) = λ n. refl
 arp_still own turn arp (Requesting exchange secs backoff due) = λ n. refl
-arp_still own turn arp (Rebooting exchange backoff end due) = λ n. refl
-arp_still own turn arp (Checking xid terms origin acd) =
-    checked_still turn xid terms origin (detection.acd_hears own acd arp turn.at).acd (detection.acd_hears own acd arp turn.at).says
+arp_still own turn arp (Rebooting exchange backoff end due stands) = λ n. refl
+arp_still own turn arp (Checking xid terms origin acd stands) =
+    checked_still turn xid terms origin (detection.acd_hears own acd arp turn.at).acd stands (detection.acd_hears own acd arp turn.at).says
 arp_still own turn arp (Waiting due) = λ n. refl
 arp_still own turn arp (Bound xid terms acd) = contested_still own turn arp xid terms (Bound xid terms acd) acd
 arp_still own turn arp (Renewing exchange terms acd due) = contested_still own turn arp exchange.xid terms (Renewing exchange terms acd due) acd
 arp_still own turn arp (Rebinding exchange terms acd due) = contested_still own turn arp exchange.xid terms (Rebinding exchange terms acd due) acd
 
-begins_still : (turn : Turn4) (kept : Option Terms4) → Stilly (begins turn kept)
+begins_still : (turn : Turn4) (kept : Option Terms4) → Stilly (begins turn false kept)
 begins_still turn None = λ n. refl
 begins_still turn (Some terms) =
     gated Stilly (is_due (expiry terms) turn.at || nat_eq turn.site.reboot 0) (to_init turn)
-    (rebooting turn (new_exchange turn terms.net.ip) Four (turn.at + SECOND * turn.site.reboot)) (λ n. refl) (λ n. refl)
+    (rebooting turn (new_exchange turn terms.net.ip) Four (turn.at + SECOND * turn.site.reboot) (stood turn false terms)) (λ n. refl) (λ n. refl)
 
 rebind_still : (turn : Turn4) (kept : Option Terms4) (state : State4) → Stilly (rebind_row turn kept state)
 rebind_still turn kept Off = begins_still turn kept
 rebind_still turn kept (Init due) = λ n. refl
 rebind_still turn kept (Selecting xid began secs backoff due) = λ n. refl
 rebind_still turn kept (Requesting exchange secs backoff due) = λ n. refl
-rebind_still turn kept (Rebooting exchange backoff end due) = λ n. refl
-rebind_still turn kept (Checking xid terms origin acd) = λ n. refl
+rebind_still turn kept (Rebooting exchange backoff end due stands) = λ n. refl
+rebind_still turn kept (Checking xid terms origin acd stands) = λ n. refl
 rebind_still turn kept (Waiting due) = λ n. refl
 rebind_still turn kept (Bound xid terms acd) = λ n. refl
 rebind_still turn kept (Renewing exchange terms acd due) = λ n. refl

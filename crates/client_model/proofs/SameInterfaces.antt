@@ -20,7 +20,7 @@ use Rattle.script_model.specs.IfaceSets.{is_in, is_up}
 use Rattle.client_model.specs.declared.interfaces.Iface.{Iface}
 use Rattle.client_model.specs.ClientSettings.{runs_dhcp4}
 use Rattle.client_model.specs.ClientSettings6.{runs_dhcp6}
-use Rattle.client_model.specs.Dhcp4Steps.{arms, begin_dhcp4, dhcp4_step, rebind_dhcp4}
+use Rattle.client_model.specs.Dhcp4Steps.{arms, begin_dhcp4, begin_local, dhcp4_step, rebind_dhcp4}
 use Rattle.client_model.specs.Dhcp6Steps.{begin_dhcp6, contested, dhcp6_step, rebind_dhcp6, tell6_of}
 use Rattle.client_model.specs.IfaceSteps.{IfaceStep, index_of, silent, then_step}
 use Rattle.client_model.specs.LocalSteps.{armed}
@@ -62,10 +62,11 @@ rebind_same at salt iface =
     gated (StepSame iface) (runs_dhcp4 iface.managed.conf) (dhcp4_step at iface (rebind_step at salt iface.dhcp4)) (silent iface)
     (record { managed = refl; settings = refl; settings6 = refl }) (itself iface)
 
+pub begin_local_same : (at : ℕ) (iface : Iface) → StepSame iface (begin_local at iface)
+begin_local_same at iface = record { managed = refl; settings = refl; settings6 = refl }
+
 pub arms_same : (at : ℕ) (iface : Iface) → StepSame iface (arms at iface)
-arms_same at iface =
-    gated (StepSame iface) _ (silent iface) (silent (record iface { local = armed iface.managed.conf at iface.local }))
-    (itself iface) (record { managed = refl; settings = refl; settings6 = refl })
+arms_same at iface = gated (StepSame iface) _ (silent iface) (begin_local at iface) (itself iface) (begin_local_same at iface)
 
 pub dhcp6_same : (iface : Iface) (turned : Turned6) → turned.client.settings ≡ iface.dhcp6.settings → StepSame iface (dhcp6_step iface turned)
 dhcp6_same iface turned same = record { managed = refl; settings = refl; settings6 = same }
@@ -83,8 +84,8 @@ rebind6_same at salt iface =
 begins_same : (at salt : ℕ) (iface : Iface) → StepSame iface (begins at salt iface)
 begins_same at salt iface =
     let first : IfaceStep = begin_dhcp4 at salt iface in
-    let local : IfaceStep = then_step first (arms at) in
-    both_same iface local (begin_dhcp6 at salt) (both_same iface first (arms at) (begin_same at salt iface) (arms_same at first.iface))
+    let local : IfaceStep = then_step first (begin_local at) in
+    both_same iface local (begin_dhcp6 at salt) (both_same iface first (begin_local at) (begin_same at salt iface) (begin_local_same at first.iface))
     (begin6_same at salt local.iface)
 
 rebinds_same : (at salt : ℕ) (iface : Iface) → StepSame iface (machines_rebind at salt iface)

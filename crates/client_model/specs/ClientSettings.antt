@@ -59,6 +59,7 @@ site_of managed = record {
   noarp = managed.conf.noarp;
   broadcast = managed.conf.broadcast;
   reboot = managed.conf.reboot;
+  persistent = managed.conf.persistent;
 }
 
 abbrev pub settings_of : (duid : List ℕ) → Managed → SettingsContent

@@ -22,7 +22,7 @@ abbrev pub ask_for : IaConf → IaAsk
 ask_for ia = record { kind = ia.kind; iaid = ia.iaid; hint = ia.hint }
 
 abbrev pub site6_of : Managed → Site6
-site6_of managed = record { iface = managed.spec; nodelay = managed.conf.nodelay; rapid = managed.conf.dhcp6.rapid }
+site6_of managed = record { iface = managed.spec; nodelay = managed.conf.nodelay; rapid = managed.conf.dhcp6.rapid; persistent = managed.conf.persistent }
 
 abbrev pub settings6_of : (duid : List ℕ) → Managed → SettingsContent
 settings6_of duid managed = record { site = site6_of managed; duid = duid; asks = map ask_for managed.conf.dhcp6.ias }

@@ -86,10 +86,13 @@ drop_dhcp4 at salt iface = dhcp4_step at iface (carrier_step Down at salt iface.
 abbrev pub stop_dhcp4 : Tell → (at salt : ℕ) → Iface → IfaceStep
 stop_dhcp4 tell at salt iface = dhcp4_step at iface (release_step tell at salt iface.dhcp4)
 
+-- link-local is armed where DHCPv4 begins, also where the client stands on its kept lease
+abbrev pub begin_local : (at : ℕ) → Iface → IfaceStep
+begin_local at iface = silent (record iface { local = armed iface.managed.conf at iface.local })
+
 -- link-local is armed where no lease is held
 abbrev pub arms : (at : ℕ) → Iface → IfaceStep
-arms at iface =
-    if holds_lease iface then silent iface else silent (record iface { local = armed iface.managed.conf at iface.local })
+arms at iface = if holds_lease iface then silent iface else begin_local at iface
 
 abbrev pub tick_dhcp4 : (at salt : ℕ) → Iface → IfaceStep
 tick_dhcp4 at salt iface = dhcp4_step at iface (tick_step at salt iface.dhcp4)

@@ -19,7 +19,7 @@ use Rattle.client_model.specs.declared.machines.TimedMachine.{TimedMachine}
 use Rattle.client_model.specs.declared.machines.TimedMachine.TheVariants.{Dhcp4, LinkLocal, Dhcp6}
 use Rattle.client_model.specs.ClientSettings.{settings_of}
 use Rattle.client_model.specs.ClientSettings6.{settings6_of}
-use Rattle.client_model.specs.Dhcp4Steps.{arms, begin_dhcp4, rebind_dhcp4, drop_dhcp4, stop_dhcp4, tick_dhcp4}
+use Rattle.client_model.specs.Dhcp4Steps.{arms, begin_dhcp4, begin_local, rebind_dhcp4, drop_dhcp4, stop_dhcp4, tick_dhcp4}
 use Rattle.client_model.specs.Dhcp6Steps.{begin_dhcp6, rebind_dhcp6, drop_dhcp6, stop_dhcp6, tick_dhcp6}
 use Rattle.client_model.specs.IfaceSteps.{IfaceStep, index_of, silent, then_step, with_news}
 use Rattle.client_model.specs.KeptLeases.{Beginning}
@@ -27,7 +27,7 @@ use Rattle.client_model.specs.LocalSteps.{local_off, tick_local}
 
 -- machines that are off begin
 abbrev pub begins : (at salt : ℕ) → Iface → IfaceStep
-begins at salt iface = then_step (then_step (begin_dhcp4 at salt iface) (arms at)) (begin_dhcp6 at salt)
+begins at salt iface = then_step (then_step (begin_dhcp4 at salt iface) (begin_local at)) (begin_dhcp6 at salt)
 
 -- the machines are off, and nobody is told
 abbrev pub machines_drop : (at salt : ℕ) → Iface → IfaceStep

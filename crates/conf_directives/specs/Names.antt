@@ -3,7 +3,7 @@ use Rattle.std.specs.Prelude.{ℕ, List, [], ◌∷◌, Option, Some, None, code
 use Rattle.v6_options.specs.declared.ia.IaKind.TheVariants.{Na, Pd}
 use Rattle.conf_directives.specs.declared.names.HeadingName.{HeadingName}
 use Rattle.conf_directives.specs.declared.names.HeadingName.TheVariants as headings
-use Rattle.conf_directives.specs.declared.names.FlagName.TheVariants.{Ipv4Only, Ipv6Only, NoDhcp, NoDhcp6, NoIpv4ll, NoArp, NoDelay, Broadcast, Release}
+use Rattle.conf_directives.specs.declared.names.FlagName.TheVariants.{Ipv4Only, Ipv6Only, NoDhcp, NoDhcp6, NoIpv4ll, NoArp, NoDelay, Broadcast, Release, Persistent}
 use Rattle.conf_directives.specs.declared.names.SecondsName.TheVariants.{Timeout, Reboot}
 use Rattle.conf_directives.specs.declared.names.CodeList.TheVariants.{Asked, Refused, Required}
 use Rattle.conf_directives.specs.declared.names.InterfaceList.TheVariants.{Allowed, Denied}
@@ -34,6 +34,7 @@ directive_rows =
     ∷ (codes "nodelay", directives.Flag NoDelay)
     ∷ (codes "broadcast", directives.Flag Broadcast)
     ∷ (codes "release", directives.Flag Release)
+    ∷ (codes "persistent", directives.Flag Persistent)
     ∷ (codes "timeout", directives.Value (values.Seconds Timeout))
     ∷ (codes "reboot", directives.Value (values.Seconds Reboot))
     ∷ (codes "metric", directives.Value values.Metric)

@@ -36,6 +36,8 @@ pub enum FlagName {
     Broadcast,
     /// `release`: the server of a held lease is told at a stop.
     Release,
+    /// `persistent`: a lease that was filed stays in force while it is reconfirmed.
+    Persistent,
 }
 
 /// A directive of a number of seconds.
@@ -143,6 +145,7 @@ pub fn directive_named(word: &[u8]) -> Option<DirectiveName>
         ("nodelay", DirectiveName::Flag(FlagName::NoDelay)),
         ("broadcast", DirectiveName::Flag(FlagName::Broadcast)),
         ("release", DirectiveName::Flag(FlagName::Release)),
+        ("persistent", DirectiveName::Flag(FlagName::Persistent)),
         (
             "timeout",
             DirectiveName::Value(ValueName::Seconds(SecondsName::Timeout)),

@@ -110,9 +110,8 @@ fn the_words_that_do_nothing(rt: HostRuntime) -> Result<(), Fail> {
         option domain_name_servers, domain_name, domain_search\noption classless_static_routes\noption interface_mtu\n\
         require dhcp_server_identifier\nslaac private\nprofile a\nfoo\ninterface eth0\nscript /dev/null\nnooption 51,x\n";
     let conf = read_conf(rt.alloc(), text)?;
-    let expected: [(u32, &str); 7] = [
+    let expected: [(u32, &str); 6] = [
         (1, "hostname"),
-        (3, "persistent"),
         (10, "slaac"),
         (11, "profile"),
         (14, "script"),
@@ -154,7 +153,7 @@ fn refused_by(set: &IfConf) -> &[u8] {
 /// Lines for all interfaces, of which eth1 is not managed, and lines for eth0.
 const TEXT: &[u8] =
     b"script /dev/null\nallowinterfaces eth*\ndenyinterfaces eth1\nmetric 5\nnooption 3\nnodelay\n\
-    interface eth0\nmetric 6\nmetric 7\nrelease\nnooption 6\nstatic routers=10.0.0.1 10.0.0.2\n";
+    interface eth0\nmetric 6\nmetric 7\nrelease\npersistent\nnooption 6\nstatic routers=10.0.0.1 10.0.0.2\n";
 
 #[test]
 fn what_is_in_force(rt: HostRuntime) -> Result<(), Fail> {
@@ -166,10 +165,11 @@ fn what_is_in_force(rt: HostRuntime) -> Result<(), Fail> {
         set.metric,
         set.nodelay,
         set.release,
+        set.persistent,
         set.timeout,
         set.reboot,
     );
-    assert_eq!(rt; found, (Some(7), true, true, 30, 5));
+    assert_eq!(rt; found, (Some(7), true, true, true, 30, 5));
     assert!(rt; refused_by(&set).starts_with(&[3, 6]));
     Ok(())
 }

@@ -7,7 +7,7 @@ use Rattle.std.proofs.lemmas.List.{append-nil}
 use Rattle.std.proofs.lemmas.List.Folds.{list_any-append}
 use Rattle.std.proofs.lemmas.List.Sums.{sum_by-append}
 use Rattle.conf_directives.specs.declared.names.FlagName.{FlagName}
-use Rattle.conf_directives.specs.declared.names.FlagName.TheVariants.{Ipv4Only, Ipv6Only, NoDhcp, NoDhcp6, NoIpv4ll, NoArp, NoDelay, Broadcast, Release}
+use Rattle.conf_directives.specs.declared.names.FlagName.TheVariants.{Ipv4Only, Ipv6Only, NoDhcp, NoDhcp6, NoIpv4ll, NoArp, NoDelay, Broadcast, Release, Persistent}
 use Rattle.conf_directives.specs.declared.names.CodeList.{CodeList}
 use Rattle.conf_directives.specs.declared.names.CodeList.TheVariants.{Asked, Refused, Required}
 use Rattle.conf_directives.specs.Contents.{DirectiveContent, CodesContent, StaticContent, Address, Routers, NameServers, DomainName, DomainSearch, Address6}
@@ -31,6 +31,7 @@ flags_more names NoArp = simp (list_any-append, or-false, or-true)
 flags_more names NoDelay = simp (list_any-append, or-false, or-true)
 flags_more names Broadcast = simp (list_any-append, or-false, or-true)
 flags_more names Release = simp (list_any-append, or-false, or-true)
+flags_more names Persistent = simp (list_any-append, or-false, or-true)
 
 sum_one : (said : CodesContent) → sum_by (λ (said : CodesContent). said.words) (said ∷ []) ≡ said.words
 sum_one said = grind (arith, common_steps)

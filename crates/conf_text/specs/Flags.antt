@@ -2,7 +2,7 @@
 use Rattle.std.specs.Prelude.{Bool, true, false, ◌||◌, List}
 use Rattle.std.specs.List.{list_any}
 use Rattle.conf_directives.specs.declared.names.FlagName.{FlagName}
-use Rattle.conf_directives.specs.declared.names.FlagName.TheVariants.{Ipv4Only, Ipv6Only, NoDhcp, NoDhcp6, NoIpv4ll, NoArp, NoDelay, Broadcast, Release}
+use Rattle.conf_directives.specs.declared.names.FlagName.TheVariants.{Ipv4Only, Ipv6Only, NoDhcp, NoDhcp6, NoIpv4ll, NoArp, NoDelay, Broadcast, Release, Persistent}
 use Rattle.conf_text.specs.declared.flags.Flags.{Flags}
 
 abbrev pub is_flag : FlagName → FlagName → Bool
@@ -15,6 +15,7 @@ is_flag NoArp NoArp = true
 is_flag NoDelay NoDelay = true
 is_flag Broadcast Broadcast = true
 is_flag Release Release = true
+is_flag Persistent Persistent = true
 is_flag _ _ = false
 
 abbrev pub flags_of : List FlagName → Flags
@@ -28,6 +29,7 @@ flags_of names = record {
   nodelay = list_any (is_flag NoDelay) names;
   broadcast = list_any (is_flag Broadcast) names;
   release = list_any (is_flag Release) names;
+  persistent = list_any (is_flag Persistent) names;
 }
 
 -- on in either
@@ -42,4 +44,5 @@ either one other = record {
   nodelay = one.nodelay || other.nodelay;
   broadcast = one.broadcast || other.broadcast;
   release = one.release || other.release;
+  persistent = one.persistent || other.persistent;
 }

@@ -107,6 +107,7 @@ in_force dhcp6 hooks global block =
       dhcp6 = dhcp6;
       resolver = resolver_in_force global.statics block.statics;
       hooks = hooks;
+      persistent = flags.persistent;
     }
 
 -- for the interface that has this block, among all of them

@@ -4,7 +4,7 @@ use Rattle.std.specs.Option.{option_or}
 use Rattle.net_types.specs.declared.interface.Name.{Name}
 use Rattle.conf_words.specs.Directives.{Directive}
 use Rattle.conf_directives.specs.declared.names.FlagName.{FlagName}
-use Rattle.conf_directives.specs.declared.names.FlagName.TheVariants.{Ipv4Only, Ipv6Only, NoDhcp, NoDhcp6, NoIpv4ll, NoArp, NoDelay, Broadcast, Release}
+use Rattle.conf_directives.specs.declared.names.FlagName.TheVariants.{Ipv4Only, Ipv6Only, NoDhcp, NoDhcp6, NoIpv4ll, NoArp, NoDelay, Broadcast, Release, Persistent}
 use Rattle.conf_directives.specs.declared.names.CodeList.TheVariants.{Asked, Refused, Required}
 use Rattle.conf_directives.specs.declared.names.InterfaceList.TheVariants.{Allowed, Denied}
 use Rattle.conf_directives.specs.declared.values.Directive.{Directive as RustDirective}
@@ -42,6 +42,7 @@ with_flag NoArp on = record on { noarp = true }
 with_flag NoDelay on = record on { nodelay = true }
 with_flag Broadcast on = record on { broadcast = true }
 with_flag Release on = record on { release = true }
+with_flag Persistent on = record on { persistent = true }
 
 abbrev pub flags_with : Flags → Option FlagName → Flags
 flags_with on None = on

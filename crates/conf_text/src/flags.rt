@@ -17,6 +17,7 @@ pub struct Flags {
     pub nodelay: bool,
     pub broadcast: bool,
     pub release: bool,
+    pub persistent: bool,
 }
 
 fn is_either(one: bool, other: bool) -> bool
@@ -40,6 +41,7 @@ impl Flags {
             nodelay: false,
             broadcast: false,
             release: false,
+            persistent: false,
         }
     }
 
@@ -57,6 +59,7 @@ impl Flags {
             FlagName::NoDelay => self.nodelay = true,
             FlagName::Broadcast => self.broadcast = true,
             FlagName::Release => self.release = true,
+            FlagName::Persistent => self.persistent = true,
         }
     }
 
@@ -74,6 +77,7 @@ impl Flags {
             nodelay: is_either(self.nodelay, other.nodelay),
             broadcast: is_either(self.broadcast, other.broadcast),
             release: is_either(self.release, other.release),
+            persistent: is_either(self.persistent, other.persistent),
         }
     }
 }

@@ -120,6 +120,7 @@ fn in_force(
         dhcp6,
         resolver,
         hooks,
+        persistent: flags.persistent,
     })
 }
 

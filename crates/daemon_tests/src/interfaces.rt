@@ -117,6 +117,7 @@ pub(crate) fn managed(alloc: Global, index: IfIndex) -> Result<Managed, Fail>
         dhcp6,
         resolver: resolver_conf(alloc),
         hooks: hook_conf(alloc),
+        persistent: false,
     };
     Ok(Managed { spec, conf })
 }

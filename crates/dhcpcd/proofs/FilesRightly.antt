@@ -59,7 +59,7 @@ module _ (text : List ℕ) (conf : Configuration) (is : IsConfOf text (Ok conf))
   managed = managed_of conf specs
 
   -- the managed interfaces are some of these, whose names are unlike
-  apart : AreNamedApart managed
+  pub apart : AreNamedApart managed
   apart = let all = in_force text conf is specs fits in named_apart managed all.fit (managed_unlike conf specs fits.unlike)
 
   pub life_keeps : (world : World) → InOrder world.store.told.files → KeepsRightly managed specs world

@@ -32,9 +32,11 @@ use Rattle.lease_evidence.proofs.Joining.{LeaseRelation}
 use Rattle.evidence.proofs.Items.{items_have_basis}
 use Rattle.evidence.proofs.Leasing.{leases_based}
 use Rattle.evidence.proofs.HostRests.{opening_rests, turns_rest}
-use Rattle.evidence.proofs.Starts.{opening_starts}
+use Rattle.evidence.proofs.Starts.{opening_starts, plain_opening_starts}
 use Rattle.evidence.proofs.Foretold.{foretold}
 use Rattle.dhcpcd.specs.Replays.{IsScript, configuration_text, managed_in, failing_in, at_first, Failing, Between, world_in, after_life}
+use Rattle.turn_model.specs.FilesInLife.{AreNamedApart}
+use Rattle.dhcpcd.proofs.FilesRightly.{apart}
 use Rattle.dhcpcd.proofs.LifeLeft.{left_in_order}
 use Rattle.dhcpcd.proofs.ManagedApart.{managed_numbered}
 use Rattle.dhcpcd.proofs.SharesApart.{shared_with_others}
@@ -87,6 +89,10 @@ module _ (text : List ℕ) (conf : Configuration) (is : IsConfOf text (Ok conf))
   fit : AreManaged managed
   fit = let all = in_force text conf is specs fits in all.fit
 
+  -- their files have unlike names
+  named : AreNamedApart managed
+  named = apart text conf is specs fits
+
   pub shares : SharesAreManaged managed
   shares = let all = in_force text conf is specs fits in all.shares
 
@@ -120,11 +126,12 @@ module _ (text : List ℕ) (conf : Configuration) (is : IsConfOf text (Ok conf))
     life_holds = record {
       opening_holds = opening_holds managed specs world shares sorted;
       turns_hold = λ earlier given. turn_in_life managed specs world shares sorted earlier given;
-      opening_starts = opening_starts managed specs (opening_of managed specs world) (run_makes (opening_asks managed specs world.link.told.begin) world);
-      opening_rests = λ well. opening_rests LeaseRelation leases_based items_have_basis managed specs world fit shares others numbered sorted well;
+      opening_starts = opening_starts managed specs (opening_of managed specs world) (run_makes (opening_asks managed specs world.link.told.begin) world) fit others numbered named;
+      plain_starts = λ plain. plain_opening_starts managed specs (opening_of managed specs world) (run_makes (opening_asks managed specs world.link.told.begin) world) plain;
+      opening_rests = λ well. opening_rests LeaseRelation leases_based items_have_basis managed specs world fit shares others numbered named sorted well;
       turns_rest = λ earlier given coming turn well.
           subst (λ (ms : List Met). RestOnEvidence managed specs (opening_of managed specs world) ms (lived_on managed specs world earlier given).world.host.told.rows) (handled_mets earlier given coming turn)
-          (turns_rest LeaseRelation leases_based items_have_basis managed specs world earlier given fit shares others numbered
+          (turns_rest LeaseRelation leases_based items_have_basis managed specs world earlier given fit shares others numbered named
           (up_to earlier given coming (subst (AllByRecursion BringsBytes) turn.stands octets)) sorted well);
     }
 

@@ -1,5 +1,6 @@
 -- What the host holds in a life: the wanted rows, and no address without its basis.
-use Rattle.std.specs.Prelude.{◌≡◌, ◌+◌, ◌<◌, List, [], ◌∷◌, ◌++◌, length, take}
+use Rattle.std.specs.Prelude.{◌≡◌, ◌+◌, ◌<◌, false, List, [], ◌∷◌, ◌++◌, length, take}
+use Rattle.std.specs.List.{AllByRecursion}
 use Rattle.net_types.specs.declared.interface.IfSpec.{IfSpec}
 use Rattle.world.specs.LinkCalls.{Given}
 use Rattle.settings.specs.declared.interfaces.Managed.{Managed}
@@ -9,7 +10,7 @@ use Rattle.host_model.specs.HostTable.{NoneFails, Table, unknown_table}
 use Rattle.device_calls.specs.Worlds.{World}
 use Rattle.turn_model.specs.Foretold.{opening_of, foretold_life}
 use Rattle.turn_model.specs.HostInLife.{Running, running_opened, running_turned, life_run, table_of, HoldsUnlessFailed}
-use Rattle.evidence.specs.HeldAddresses.{RestOnEvidence, WantsStaticAlone}
+use Rattle.evidence.specs.HeldAddresses.{RestOnEvidence, WantsStaticAlone, WantsStaticOrKept}
 use Rattle.dhcpcd.specs.Replays.{Failing, Between, world_in, after_life}
 
 -- No host call failed between two tables.
@@ -27,12 +28,15 @@ lived_on managed specs world earlier given = running_turned managed (life_run ma
 
 -- A life over devices that tell what they hold. After the opening, and after each turn, in which no host call failed, the host
 -- has exactly the wanted rows on managed interfaces, and on all others those with which the life began; and each address that it
--- holds on a managed interface has its basis in the turns of this life up to then. At the opening the client wants static addresses alone.
+-- holds on a managed interface has its basis in the turns of this life up to then. At the opening the client wants static
+-- addresses, and those of kept leases that are asked for again; static ones alone where no interface has `persistent`.
 pub record HoldsRightly (managed : List Managed) (specs : List IfSpec) (world : World) : Type 0 where
   pub opening_holds : HoldsUnlessFailed managed world.host.failing world.host.told.rows (unknown_table world.host.told) (running_opened managed specs world)
   pub turns_hold : (earlier : List Given) (given : Given)
       → HoldsUnlessFailed managed world.host.failing world.host.told.rows (table_of (life_run managed specs world earlier)) (lived_on managed specs world earlier given)
-  pub opening_starts : WantsStaticAlone managed specs (opening_of managed specs world)
+  pub opening_starts : WantsStaticOrKept managed specs (opening_of managed specs world)
+  pub plain_starts : AllByRecursion (λ (m : Managed). m.conf.persistent ≡ false) managed
+      → WantsStaticAlone managed specs (opening_of managed specs world)
   pub opening_rests : GoesWell (unknown_table world.host.told) (running_opened managed specs world) managed world
       → RestOnEvidence managed specs (opening_of managed specs world) [] (running_opened managed specs world).world.host.told.rows
   pub turns_rest : (earlier : List Given) (given : Given) (coming : List Given) → IsTurn managed specs world earlier given coming

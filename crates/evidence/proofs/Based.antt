@@ -43,12 +43,13 @@ use Rattle.evidence_words.proofs.Offers.{number_of}
 use Rattle.local_evidence.specs.LinkLocalBasis.{LinkLocalBasis, StrongBasis}
 use Rattle.local_evidence.proofs.Weakening.{local_weaker}
 use Rattle.lease6_evidence.specs.HeldItems.{ItemHasBasis}
-use Rattle.lease6_evidence.specs.ItemBasis.{AddressBasis}
+use Rattle.lease_evidence.specs.HeldLeases.{LeaseRests}
+use Rattle.lease6_evidence.specs.KeptBasis6.{KeptAddress6}
 use Rattle.evidence.specs.ShareBasis.{ShareBasis, SharesWithOthers}
 use Rattle.evidence.specs.StaticBasis.{StaticBasis}
-use Rattle.evidence.specs.Laws.{AreOctets, AreSharedWithOthers, Basis, BasisWithoutDhcp, LeasedBasis, LeasedBasis6, StrongestBasis, HasBasis, HasBasisOf, HasBasisWithoutDhcp, HasShareBasis, IsShared, IsLife, AddressesHave, AddressesHaveBasis, OthersHaveBasis, site_of}
+use Rattle.evidence.specs.Laws.{AreOctets, AreSharedWithOthers, Basis, BasisWithoutDhcp, LeasedBasis6, StrongestBasis, HasBasis, HasBasisOf, HasBasisWithoutDhcp, HasShareBasis, IsShared, IsLife, AddressesHave, AddressesHaveBasis, OthersHaveBasis, site_of}
 use Rattle.evidence_words.proofs.Carrying.{Relation, IsCarried}
-use Rattle.evidence.proofs.Turns.{site_by, KeptOne, KeptAfter, KeepsRelation, keeps_carried, turns_kept, own_stays, opening_kept, opened_own}
+use Rattle.evidence.proofs.Turns.{Found, found_in, site_by, KeptOne, KeptAfter, KeepsRelation, keeps_carried, turns_kept, own_stays, opening_kept, opened_own}
 use Rattle.evidence.proofs.Rows.{Delegates, Giver, wanted_giver, iface_basis}
 
 -- what holds of each managed interface holds of that of each interface
@@ -73,7 +74,7 @@ pub record AreBased (Carries : Relation) : Type 1 where
   pub carried : (Counted : Type 0) → IsCarried Counted Carries
   pub based : (site : Site) (clean : Type 0) (iface : Iface) (past : List Entry) → iface.managed ≡ site.managed → FitsManaged site.managed → IsDuid site.duid
       → HearsOctets past → Carries site clean iface past → (lease : LeaseContent) → held_of iface.dhcp4 ≡ Some lease
-      → LeasedBasis site (Family.V4 lease.net) past
+      → LeaseRests site (Family.V4 lease.net) (now_in past) past
 
 -- Each item of an interface's held DHCPv6 lease has its basis.
 abbrev pub ItemsHave : List Managed → List IfSpec → OpeningMet → List Met → Iface → Type 0
@@ -86,11 +87,18 @@ abbrev pub ItemsAreBased : Type 0
 ItemsAreBased = (managed : List Managed) (specs : List IfSpec) (opening : OpeningMet) (mets : List Met) → IsLife managed specs opening mets → AreManaged managed → AreOctets mets
     → AllByRecursion (ItemsHave managed specs opening mets) (life_after opening.life mets).client.ifaces
 
+-- an address of an item that a Reply gave, or of one of the kept lease
+abbrev AddressRests : Site → Net → List Entry → Type 0
+AddressRests site net past = LeasedBasis6 site net past ⊎ KeptAddress6 site net (now_in past) past
+
 -- an item that is an address
 address_basis : (site : Site) (ia : IaLeaseContent) (item : Item6) (past : List Entry) → ia.kind ≡ Na → ItemHasBasis site ia item past
-    → AddressBasis site (Family.V6 item.net) (now_in past) past
+    → AddressRests site (Family.V6 item.net) past
 address_basis site ia item past address h =
-    record { ask = h.ask; asked = h.asked; is_address = sym h.kind ∙ address; item = item.net; is_item = refl; basis = h.basis }
+    elim h.basis [
+      | inl given ↦ inl (record { ask = h.ask; asked = h.asked; is_address = sym h.kind ∙ address; item = item.net; is_item = refl; basis = given })
+      | inr kept ↦ inr (record { ask = h.ask; is_address = sym h.kind ∙ address; item = item.net; is_item = refl; basis = kept })
+    ]
 
 pub contained : {X : Type 0} (P : X → Type 0) (xs : List X) (x : X) → AllByRecursion P xs → Contains xs x → P x
 contained P xs x all among = All-contains P xs x (All-from_recursion P xs all) among
@@ -135,6 +143,9 @@ module _ (managed : List Managed) (specs : List IfSpec) (opening : OpeningMet) (
   abbrev duid : List ℕ
   duid = duid_shown managed opening.calls
 
+  abbrev found : Found
+  found = found_in managed opening.calls
+
   abbrev life : Life
   life = life_after opening.life mets
 
@@ -143,15 +154,15 @@ module _ (managed : List Managed) (specs : List IfSpec) (opening : OpeningMet) (
 
   -- no number of an interface is asked for
   abbrev Of : (Carries : Relation) → ((Counted : Type 0) → IsCarried Counted Carries) → Iface → Type 0
-  Of Carries carried iface = KeptOne ⊥ Carries (carried ⊥) start duid life.client.own life.unsent shown iface
+  Of Carries carried iface = KeptOne ⊥ Carries (carried ⊥) start found life.client.own life.unsent shown iface
 
-  after_life : (Carries : Relation) (carried : (Counted : Type 0) → IsCarried Counted Carries) → KeptAfter ⊥ Carries (carried ⊥) start duid managed life shown
+  after_life : (Carries : Relation) (carried : (Counted : Type 0) → IsCarried Counted Carries) → KeptAfter ⊥ Carries (carried ⊥) start found managed life shown
   after_life Carries carried =
-      turns_kept ⊥ Carries (carried ⊥) start duid managed is.numbered (λ none. absurd none) mets opening.life (opening_entry opening ∷ [])
-      (opening_kept ⊥ Carries (carried ⊥) managed is.numbered (λ none. absurd none) specs opening is.opens) is.turns
+      turns_kept ⊥ Carries (carried ⊥) start found managed is.numbered (λ none. absurd none) mets opening.life (opening_entry opening ∷ [])
+      (opening_kept ⊥ Carries (carried ⊥) managed is.numbered is.named (λ none. absurd none) specs opening is.opens) is.turns
 
   abbrev site_in : List Mac → Iface → Site
-  site_in own iface = site_by own (start (number_of iface.managed)) duid iface.managed
+  site_in own iface = site_by own (start (number_of iface.managed)) found iface.managed
 
   -- the hardware addresses are those of all interfaces
   at_life : (Kind : Site → Net → List Entry → Type 0) (net : Net) (iface : Iface) → Kind (site_in life.client.own iface) net shown
@@ -196,11 +207,11 @@ module _ (managed : List Managed) (specs : List IfSpec) (opening : OpeningMet) (
   others_have index net has =
       let g : Giver Other (Addr index net) =
       wanted_giver Other (Addr index net) life.client (all_both _ _ Other (λ iface k c. record { keeps = k; among = c }) life.client.ifaces kept among) has in
-      let found = iface_basis index net (λ n. runs_dhcp4 g.iface.managed.conf ≡ false → ⊥) (λ n. runs_dhcp6 g.iface.managed.conf ≡ false → ⊥) life.client.own
-      (start (number_of g.iface.managed)) duid _ g.iface shown g.is_such.keeps.carries
+      let gives = iface_basis index net (λ n. runs_dhcp4 g.iface.managed.conf ≡ false → ⊥) (λ n. runs_dhcp6 g.iface.managed.conf ≡ false → ⊥) life.client.own
+      (start (number_of g.iface.managed)) found _ g.iface shown g.is_such.keeps.carries
       (λ lease held none. off_holds g.iface.dhcp4 lease (g.is_such.keeps.carries.sane.without none) held)
       (λ lease ia item held among among_items address none. off_holds6 g.iface.dhcp6 lease (g.is_such.keeps.carries.sane.without6 none) held) g.gives in
-      elim found [
+      elim gives [
         | inl here ↦
             inl (record {
               holder = g.iface.managed;
@@ -220,42 +231,52 @@ module _ (managed : List Managed) (specs : List IfSpec) (opening : OpeningMet) (
       fits : FitsManaged iface.managed
       items_so : ItemsHave managed specs opening mets iface
 
-    abbrev Found : Iface → Type 0
-    Found iface = Other iface × ItemsHave managed specs opening mets iface
+    abbrev Beside : Iface → Type 0
+    Beside iface = Other iface × ItemsHave managed specs opening mets iface
 
     both : AllByRecursion Both life.client.ifaces
     both =
-        all_both Found (λ iface. Of Carries leases.carried iface × FitsManaged iface.managed) Both
+        all_both Beside (λ iface. Of Carries leases.carried iface × FitsManaged iface.managed) Both
         (λ iface one two. record { other = one.0; leased = two.0; fits = two.1; items_so = one.1 }) life.client.ifaces
-        (all_both Other (ItemsHave managed specs opening mets) Found (λ iface other six. (other, six)) life.client.ifaces
+        (all_both Other (ItemsHave managed specs opening mets) Beside (λ iface other six. (other, six)) life.client.ifaces
         (all_both _ _ Other (λ iface k c. record { keeps = k; among = c }) life.client.ifaces kept among) (items managed specs opening mets is fit octets))
         (all_both _ _ (λ iface. Of Carries leases.carried iface × FitsManaged iface.managed) (λ iface k f. (k, f)) life.client.ifaces
         (after_life Carries leases.carried).kept (each_managed FitsManaged life.client.ifaces managed (after_life Carries leases.carried).of_managed fit))
 
-    abbrev HasStrongest : IfIndex → Net → Type 0
+    -- leases apart from those that were kept
+    grouped : (site : Site) (net : Net)
+        → StaticBasis site net shown ⊎ (StrongBasis site net shown ⊎ (LeaseRests site net (now_in shown) shown ⊎ AddressRests site net shown)) → StrongestBasis site net shown
+    grouped site net (inl line) = inl line
+    grouped site net (inr (inl choice)) = inr (inl choice)
+    grouped site net (inr (inr (inl (inl granted)))) = inr (inr (inl granted))
+    grouped site net (inr (inr (inl (inr kept)))) = inr (inr (inr (inr (inl kept))))
+    grouped site net (inr (inr (inr (inl given)))) = inr (inr (inr (inl given)))
+    grouped site net (inr (inr (inr (inr kept)))) = inr (inr (inr (inr (inr kept))))
+
+    abbrev pub HasStrongest : IfIndex → Net → Type 0
     HasStrongest index net = HasBasisOf StrongestBasis managed specs opening mets index net ⊎ HasShareBasis managed specs opening mets index net
 
     -- a link-local address was undisturbed from the turn of its first probe on
-    have_strong : AddressesHave HasStrongest opening mets
+    pub have_strong : AddressesHave HasStrongest opening mets
     have_strong index net has =
         let g : Giver Both (Addr index net) = wanted_giver Both (Addr index net) life.client both has in
         let site : Site = site_in life.client.own g.iface in
         let heard : HearsOctets shown = shown_octets mets (opening_entry opening ∷ []) (none_octets, tt) octets in
         let fits_duid : IsDuid duid = duid_fits managed g.iface.managed (duid_read opening.calls) g.is_such.other.among fit in
         let same_own : life.client.own ≡ map (λ spec. spec.mac) specs = own_stays managed mets opening.life is.turns ∙ opened_own managed specs opening is.opens in
-        let found = iface_basis index net (λ n. LeasedBasis site n shown) (λ n. LeasedBasis6 site n shown) life.client.own (start (number_of g.iface.managed)) duid _
+        let gives = iface_basis index net (λ n. LeaseRests site n (now_in shown) shown) (λ n. AddressRests site n shown) life.client.own (start (number_of g.iface.managed)) found _
         g.iface shown g.is_such.other.keeps.carries (leases.based site _ g.iface shown refl g.is_such.fits fits_duid heard g.is_such.leased.carries)
         (λ lease ia item held among among_items address.
-        subst (λ (own : List Mac). LeasedBasis6 (site_in own g.iface) (Family.V6 item.net) shown) (sym same_own)
+        subst (λ (own : List Mac). AddressRests (site_in own g.iface) (Family.V6 item.net) shown) (sym same_own)
         (address_basis (site_of managed specs opening g.iface.managed) ia item shown address
         (g.is_such.items_so lease ia item held among among_items))) g.gives in
-        elim found [
+        elim gives [
           | inl here ↦
               inl (record {
                 holder = g.iface.managed;
                 among = g.is_such.other.among;
                 is_here = here.0;
-                basis = at_life StrongestBasis net g.iface here.1;
+                basis = at_life StrongestBasis net g.iface (grouped site net here.1);
               })
           | inr d ↦
               inr (record {

@@ -16,6 +16,7 @@ use Rattle.evidence_words.specs.IfaceLives.{now_in}
 use Rattle.evidence_words.specs.Probed.{probes_taken}
 use Rattle.local_evidence.specs.LinkLocalBasis.{Anything, LinkLocalBasis}
 use Rattle.lease_evidence.specs.Endings.{LosesCarrier}
+use Rattle.lease_evidence.proofs.KeptNeedsProofs.{kept_ends_by_loss, kept_ends_by_stop}
 use Rattle.lease_evidence.proofs.EndingProofs.{lost_goes, stop_goes, ends_by_loss, ends_by_stop}
 use Rattle.lease_evidence.proofs.ProbeCounts.{fourth_since, three_since}
 use Rattle.evidence.specs.Endings.{TellsNoCarrier, StaticNeedsCarrier, StaticWaitsForCarrier, StaticEndsWithStop, StaticIsConfigured, EndsWithCarrier, EndsWithStop}
@@ -127,7 +128,13 @@ ends_with_carrier site addr later e earlier had is lacks no_more few basis =
         | inl local ↦ local_ends site addr later e earlier (lost_goes site e earlier loses) few local
         | inr leased ↦ elim leased [
           | inl lease ↦ ends_by_loss site (V4 addr) (now_in (later ++ e ∷ earlier)) later e earlier loses no_more lease
-          | inr six ↦ not_six addr six.item six.is_item
+          | inr other6 ↦ elim other6 [
+            | inl six ↦ not_six addr six.item six.is_item
+            | inr kept ↦ elim kept [
+              | inl four ↦ kept_ends_by_loss site (V4 addr) (now_in (later ++ e ∷ earlier)) later e earlier loses four
+              | inr six ↦ not_six addr six.item six.is_item
+            ]
+          ]
         ]
       ]
     ]
@@ -139,7 +146,13 @@ ends_with_stop site addr later e earlier is no_more few basis = elim basis [
     | inl local ↦ local_ends site addr later e earlier (stop_goes site e earlier is) few local
     | inr leased ↦ elim leased [
       | inl lease ↦ ends_by_stop site (V4 addr) (now_in (later ++ e ∷ earlier)) later e earlier is no_more lease
-      | inr six ↦ not_six addr six.item six.is_item
+      | inr other6 ↦ elim other6 [
+        | inl six ↦ not_six addr six.item six.is_item
+        | inr kept ↦ elim kept [
+          | inl four ↦ kept_ends_by_stop site (V4 addr) (now_in (later ++ e ∷ earlier)) later e earlier is four
+          | inr six ↦ not_six addr six.item six.is_item
+        ]
+      ]
     ]
   ]
 ]

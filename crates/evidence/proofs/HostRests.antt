@@ -14,6 +14,7 @@ use Rattle.host_model.proofs.HostTableRows.{has_filter}
 use Rattle.client_model.specs.Clients.{rows_of}
 use Rattle.device_calls.specs.Worlds.{World}
 use Rattle.device_calls.proofs.Running.{run_makes}
+use Rattle.turn_model.specs.FilesInLife.{AreNamedApart}
 use Rattle.turn_model.specs.Turns.{Life, until, turn_asks}
 use Rattle.turn_model.specs.Opening.{opening_asks}
 use Rattle.turn_model.specs.Lives.{IsOpening, life_after}
@@ -66,12 +67,12 @@ module _ (Carries : Relation) (leases : AreBased Carries) (items : ItemsAreBased
   both true b p q = q
   both false b p q = cc
 
-  rest : (specs : List IfSpec) (world : World) (turns : List Given) (after : Running) → AreManaged managed → AreSharedWithOthers managed → AreNumbered managed
+  rest : (specs : List IfSpec) (world : World) (turns : List Given) (after : Running) → AreManaged managed → AreSharedWithOthers managed → AreNumbered managed → AreNamedApart managed
       → AllByRecursion (λ (g : Given). AreBytes g.bytes) turns
       → running_after managed turns (running_opened managed specs world) ≡ after
       → managed_rows managed after.world.host.told.rows ≡ rows_of after.life.client
       → RestOnEvidence managed specs (opening_of managed specs world) (mets_of managed (running_opened managed specs world) turns) after.world.host.told.rows
-  rest specs world turns after fit others numbered octets reached as_wanted index net on_managed has =
+  rest specs world turns after fit others numbered named octets reached as_wanted index net on_managed has =
       let first : Running = running_opened managed specs world in
       let held : has_row (managed_rows managed after.world.host.told.rows) (Addr index net) ≡ true =
       has_filter (is_managed managed) after.world.host.told.rows (Addr index net) ∙ both _ _ on_managed has in
@@ -80,16 +81,16 @@ module _ (Carries : Relation) (leases : AreBased Carries) (items : ItemsAreBased
       let same : after.life ≡ life_after first.life (mets_of managed first turns) =
       sym (ap (λ (running : Running). running.life) reached) ∙ life_met managed turns first in
       have_basis Carries leases items managed specs (opening_of managed specs world) (mets_of managed first turns)
-      (record { numbered = numbered; opens = is_opening managed specs world; turns = are_made managed turns first }) fit others (mets_octets managed turns first octets) index net
+      (record { numbered = numbered; named = named; opens = is_opening managed specs world; turns = are_made managed turns first }) fit others (mets_octets managed turns first octets) index net
       (subst (λ (life : Life). has_row (rows_of life.client) (Addr index net) ≡ true) same wanted)
 
 pub opening_rests : (Carries : Relation) → AreBased Carries → ItemsAreBased → OpeningRests
-opening_rests Carries leases items managed specs world fit shares others numbered in_order none =
-    rest Carries leases items managed specs world [] (running_opened managed specs world) fit others numbered tt refl
+opening_rests Carries leases items managed specs world fit shares others numbered named in_order none =
+    rest Carries leases items managed specs world [] (running_opened managed specs world) fit others numbered named tt refl
     (opening_holds managed specs world shares in_order none).as_wanted
 
 pub turns_rest : (Carries : Relation) → AreBased Carries → ItemsAreBased → TurnsRest
-turns_rest Carries leases items managed specs world earlier given fit shares others numbered octets in_order none =
-    rest Carries leases items managed specs world (earlier ++ given ∷ []) (running_turned managed (life_run managed specs world earlier) given) fit others numbered octets
+turns_rest Carries leases items managed specs world earlier given fit shares others numbered named octets in_order none =
+    rest Carries leases items managed specs world (earlier ++ given ∷ []) (running_turned managed (life_run managed specs world earlier) given) fit others numbered named octets
     (one_more managed earlier (running_opened managed specs world) given)
     (turn_in_life managed specs world shares in_order earlier given none).as_wanted

@@ -18,7 +18,7 @@ use Rattle.lease6_evidence.specs.HeldItems.{ItemHasBasis}
 use Rattle.evidence.specs.Laws.{AreOctets, IsLife}
 use Rattle.evidence.proofs.Based.{HearsOctets, ItemsAreBased, ItemsHave, among, duid_fits, each_managed, none_octets, shown_octets}
 use Rattle.evidence.proofs.Lives.{LivedRelation, lived_carried, items_based}
-use Rattle.evidence.proofs.Turns.{AreCounted, KeptAfter, KeptOne, opened_own, opening_kept, own_stays, site_by, turns_kept}
+use Rattle.evidence.proofs.Turns.{AreCounted, Found, found_in, KeptAfter, KeptOne, opened_own, opening_kept, own_stays, site_by, turns_kept}
 
 module _ (managed : List Managed) (specs : List IfSpec) (opening : OpeningMet) (mets : List Met) (is : IsLife managed specs opening mets)
     (fit : AreManaged managed) (octets : AreOctets mets) where
@@ -27,6 +27,9 @@ module _ (managed : List Managed) (specs : List IfSpec) (opening : OpeningMet) (
 
   abbrev duid : List ℕ
   duid = duid_shown managed opening.calls
+
+  abbrev found : Found
+  found = found_in managed opening.calls
 
   abbrev life : Life
   life = life_after opening.life mets
@@ -41,12 +44,12 @@ module _ (managed : List Managed) (specs : List IfSpec) (opening : OpeningMet) (
   counted = all_map FitsManaged (λ m. 1 ≤ number_of m) (λ m fits. fits.index.0) managed fit
 
   abbrev Lives : Iface → Type 0
-  Lives iface = KeptOne Counted (LivedRelation Counted) (lived_carried Counted) start duid life.client.own life.unsent shown iface
+  Lives iface = KeptOne Counted (LivedRelation Counted) (lived_carried Counted) start found life.client.own life.unsent shown iface
 
-  lived : KeptAfter Counted (LivedRelation Counted) (lived_carried Counted) start duid managed life shown
+  lived : KeptAfter Counted (LivedRelation Counted) (lived_carried Counted) start found managed life shown
   lived =
-      turns_kept Counted (LivedRelation Counted) (lived_carried Counted) start duid managed is.numbered (λ c. c) mets opening.life (opening_entry opening ∷ [])
-      (opening_kept Counted (LivedRelation Counted) (lived_carried Counted) managed is.numbered (λ c. c) specs opening is.opens) is.turns
+      turns_kept Counted (LivedRelation Counted) (lived_carried Counted) start found managed is.numbered (λ c. c) mets opening.life (opening_entry opening ∷ [])
+      (opening_kept Counted (LivedRelation Counted) (lived_carried Counted) managed is.numbered is.named (λ c. c) specs opening is.opens) is.turns
 
   heard : HearsOctets shown
   heard = shown_octets mets (opening_entry opening ∷ []) (none_octets, tt) octets
@@ -56,8 +59,8 @@ module _ (managed : List Managed) (specs : List IfSpec) (opening : OpeningMet) (
 
   one_has : (iface : Iface) → Lives iface → FitsManaged iface.managed × Contains managed iface.managed → ItemsHave managed specs opening mets iface
   one_has iface lives here lease ia item held contains contains_item =
-      subst (λ (own : List Mac). ItemHasBasis (site_by own (start (number_of iface.managed)) duid iface.managed) ia item shown) same_own
-      (items_based Counted (site_by life.client.own (start (number_of iface.managed)) duid iface.managed) _ iface shown lives.carries counted here.0
+      subst (λ (own : List Mac). ItemHasBasis (site_by own (start (number_of iface.managed)) found iface.managed) ia item shown) same_own
+      (items_based Counted (site_by life.client.own (start (number_of iface.managed)) found iface.managed) _ iface shown lives.carries counted here.0
       (duid_fits managed iface.managed (duid_read opening.calls) here.1 fit) heard lease ia item held contains contains_item)
 
   all_have : AllByRecursion (ItemsHave managed specs opening mets) life.client.ifaces

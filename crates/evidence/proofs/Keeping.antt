@@ -18,7 +18,7 @@ use Rattle.v6_client.specs.declared.states.State6.TheVariants as client6
 use Rattle.v6_client.specs.Moves.{OutContent}
 use Rattle.v6_client.specs.Runs.{Turned6, carrier_turned, contested_turned, hears_turned, rebind_turned, tick_turned}
 use Rattle.v6_client.specs.Saying.{SpokenContent}
-use Rattle.lease_text.specs.Bounds.{FitsLease}
+use Rattle.lease_text.specs.Bounds.{HasText}
 use Rattle.lease_text.specs.Leases.{LeaseContent, terms_of}
 use Rattle.v4_client.specs.declared.states.Carrier.TheVariants.{Up}
 use Rattle.lease_text.specs.declared.lease.Terms4.{Terms4}
@@ -30,8 +30,9 @@ use Rattle.v4_client.specs.declared.states.Step4.{Step4}
 use Rattle.v4_client.specs.declared.states.Tell.TheVariants.{Server}
 use Rattle.v4_client.specs.declared.states.Turn4.{Turn4}
 use Rattle.v4_client.specs.Calls.{arp_step, carrier_step, heard_step, rebind_step}
-use Rattle.v4_client.specs.Clients.{kept_terms, turn_of}
-use Rattle.v4_client.specs.Inputs.{begins}
+use Rattle.v4_client.specs.declared.states.State4.{State4}
+use Rattle.v4_client.specs.Clients.{is_bound, kept_terms, turn_of}
+use Rattle.v4_client.specs.Inputs.{stood, begins, begin_row}
 use Rattle.v4_client.specs.Moments.{expiry}
 use Rattle.v4_client.specs.Steps.{to_init, new_exchange, rebooting}
 use Rattle.v4_client.specs.History.{tick_step}
@@ -46,7 +47,7 @@ use Rattle.client_model.specs.Messages.{Said, Dhcp6}
 use Rattle.client_model.specs.ClientSettings.{ask_of, runs_dhcp4}
 use Rattle.client_model.specs.ClientSettings6.{runs_dhcp6}
 use Rattle.client_model.specs.Dhcp6Steps.{dhcp6_step, said6_in, sent_by}
-use Rattle.client_model.specs.Dhcp4Steps.{arms, arrival_at, dhcp4_packet, dhcp4_step, dhcp4_takes, followed, holds_lease, said_in}
+use Rattle.client_model.specs.Dhcp4Steps.{arms, arrival_at, begin_local, dhcp4_packet, dhcp4_step, dhcp4_takes, followed, holds_lease, said_in}
 use Rattle.client_model.specs.declared.machines.TimedMachine.TheVariants.{Dhcp4, LinkLocal}
 use Rattle.client_model.specs.IfaceSteps.{IfaceStep, index_of, silent, then_step}
 use Rattle.client_model.specs.KeptLeases.{Beginning}
@@ -62,7 +63,7 @@ use Rattle.local_evidence.proofs.Ticks.{Unsaid, Bears, BearsAmid, at_state, tick
 use Rattle.local_evidence.proofs.Announced.{AnnouncesNone}
 use Rattle.evidence.proofs.Off6 as off6
 use Rattle.evidence.proofs.Off6.{IsOff}
-use Rattle.evidence.proofs.Sane.{is_on, AreOff, Sane, Goes, armed_has, followed_has, step_sane, step_unsaid, tick_goes, packet_goes, begin_goes, rebind_goes, taking, taking_sane, message_goes, local_sane, dhcp6_sane, if_dhcp6_sane, arms_sane, stops_sane, drops_sane, restarted_sane}
+use Rattle.evidence.proofs.Sane.{is_on, AreOff, Sane, Goes, armed_has, followed_has, step_sane, step_unsaid, tick_goes, packet_goes, begin_goes, rebind_goes, taking, taking_sane, message_goes, local_sane, dhcp6_sane, if_dhcp6_sane, arms_sane, begin_local_sane, stops_sane, drops_sane, restarted_sane}
 
 pub record Keeps (site : Site) (clean : Type 0) (f : Iface) (past : List Entry) : Type 0 where
   pub sane : Sane site.managed f
@@ -135,6 +136,13 @@ out_when f down = ap (λ u. u && not f.stopped) down
 
 apart : (a b : ℕ) → (a == b) ≡ false → a ≢ b
 apart a b h = grind (arith, nat_tests)
+
+-- a client that begins is bound to none
+begins_unbound : (turn : Turn4) (may_stand : Bool) (kept : Option Terms4) → is_bound (begins turn may_stand kept).state ≡ false
+begins_unbound turn may_stand None = refl
+begins_unbound turn may_stand (Some terms) =
+    gated (λ (step : Step4). is_bound step.state ≡ false) (is_due (expiry terms) turn.at || nat_eq turn.site.reboot 0) (to_init turn)
+    (rebooting turn (new_exchange turn terms.net.ip) Four (turn.at + SECOND * turn.site.reboot) (stood turn may_stand terms)) refl refl
 
 module _ (site : Site) (clean : Type 0) (at salt : ℕ) (early : at < 10 ^ 15) (bytes : List ℕ) (offers : List Offer) (past : List Entry) where
   abbrev Spelled : List Said → Type 0
@@ -260,6 +268,15 @@ module _ (site : Site) (clean : Type 0) (at salt : ℕ) (early : at < 10 ^ 15) (
         bears = armed_has (λ s. Bears (Undisturbed site) site clean s turns) tt (λ due waits fallback. tt) f.managed.conf at f.local.iface f.local.state k.bears;
       }
 
+  -- or where a client begins, which is bound to none
+  begin_local_keeps : (turns : List Entry) (f : Iface) → is_on f ≡ true → is_bound f.dhcp4.state ≡ false → Keeps site clean f turns → Keeps site clean (begin_local at f).iface turns
+  begin_local_keeps turns f on unbound k = record {
+    sane = begin_local_sane site.managed at f on unbound k.sane;
+    stopped = k.stopped;
+    carrier = k.carrier;
+    bears = armed_has (λ s. Bears (Undisturbed site) site clean s turns) tt (λ due waits fallback. tt) f.managed.conf at f.local.iface f.local.state k.bears;
+  }
+
   -- arming says nothing
   armed_said : (said more rest : List Said) (g : Iface) (held : Bool)
       → Spelled (said ++ ((more ++ (if held then silent g else silent (record g { local = armed g.managed.conf at g.local })).said) ++ rest))
@@ -351,8 +368,8 @@ module _ (site : Site) (clean : Type 0) (at salt : ℕ) (early : at < 10 ^ 15) (
       → Before (Carrier index true) said f → AfterInput (Carrier index true) said (carrier_comes at salt f)
   comes_keeps index said f here going down b h =
       then6_keeps site clean turns second (carrier_turned carrier6.Up at salt second.dhcp6)
-      (arms_keeps turns first.iface (on_when first.iface (perhaps_up (runs_dhcp4 f.managed.conf) lit step) (perhaps_stopped (runs_dhcp4 f.managed.conf) lit step ∙ going))
-      (begun (runs_dhcp4 f.managed.conf) refl))
+      (begin_local_keeps turns first.iface (on_when first.iface (perhaps_up (runs_dhcp4 f.managed.conf) lit step) (perhaps_stopped (runs_dhcp4 f.managed.conf) lit step ∙ going))
+      (unbound (runs_dhcp4 f.managed.conf)) (begun (runs_dhcp4 f.managed.conf) refl))
     where
       turns : List Entry
       turns = entry at (Carrier index true) bytes offers ∷ past
@@ -367,10 +384,16 @@ module _ (site : Site) (clean : Type 0) (at salt : ℕ) (early : at < 10 ^ 15) (
       first = perhaps (runs_dhcp4 f.managed.conf) lit step
 
       second : Iface
-      second = (arms at first.iface).iface
+      second = (begin_local at first.iface).iface
 
       off : AreOff f
       off = b.sane.off (out_when f down)
+
+      unbound : (runs : Bool) → is_bound (perhaps runs lit step).iface.dhcp4.state ≡ false
+      unbound true =
+          subst (λ (s : State4). is_bound (begin_row (turn_of at salt lit.dhcp4) f.dhcp4.may_stand (kept_terms f.dhcp4) s).state ≡ false) (sym off.dhcp4)
+          (begins_unbound (turn_of at salt lit.dhcp4) f.dhcp4.may_stand (kept_terms f.dhcp4))
+      unbound false = ap is_bound off.dhcp4
 
       lit_sane : Sane site.managed lit
       lit_sane = record {
@@ -563,11 +586,11 @@ module _ (site : Site) (clean : Type 0) (salt : ℕ) (e : Entry) (early : e.mome
 -- ---- the opening
 
 -- the lease that was kept has an address that a host may have
-kept_begins : (kept : Option LeaseContent) → IfSome kept FitsLease → FitsBegin (option_map terms_of kept)
+kept_begins : (kept : Option LeaseContent) → IfSome kept HasText → FitsBegin (option_map terms_of kept)
 kept_begins None within = tt
-kept_begins (Some lease) within = within.terms
+kept_begins (Some lease) within = within.fits.terms
 
-rests_sane : (b : Beginning) → IfSome b.kept4 FitsLease → (up : Bool) → Sane b.managed (record (resting b) { up = up })
+rests_sane : (b : Beginning) → IfSome b.kept4 HasText → (up : Bool) → Sane b.managed (record (resting b) { up = up })
 rests_sane b within up = record {
   same = refl;
   settings = refl;
@@ -579,18 +602,18 @@ rests_sane b within up = record {
 }
 
 -- a client that begins has no news, whatever was kept
-begins_quiet : (turn : Turn4) (kept : Option Terms4) → (begins turn kept).news ≡ news.Nothing
-begins_quiet turn None = refl
-begins_quiet turn (Some terms) =
+begins_quiet : (turn : Turn4) (may_stand : Bool) (kept : Option Terms4) → (begins turn may_stand kept).news ≡ news.Nothing
+begins_quiet turn may_stand None = refl
+begins_quiet turn may_stand (Some terms) =
     gated (λ (step : Step4). step.news ≡ news.Nothing) (is_due (expiry terms) turn.at || nat_eq turn.site.reboot 0) (to_init turn)
-    (rebooting turn (new_exchange turn terms.net.ip) Four (turn.at + SECOND * turn.site.reboot)) refl refl
+    (rebooting turn (new_exchange turn terms.net.ip) Four (turn.at + SECOND * turn.site.reboot) (stood turn may_stand terms)) refl refl
 
 -- after what an opening shows, which is a turn without input
-pub opens_keeps : (own : List Mac) (clean : Type 0) (at salt : ℕ) → at < 10 ^ 15 → (offers : List Offer) (b : Beginning) → IfSome b.kept4 FitsLease → (up : Bool)
+pub opens_keeps : (own : List Mac) (clean : Type 0) (at salt : ℕ) → at < 10 ^ 15 → (offers : List Offer) (b : Beginning) → IfSome b.kept4 HasText → (up : Bool)
     → Keeps (at_site own up b) clean (carrier_at_opening up at salt (resting b)).iface (entry at Quiet [] offers ∷ [])
 opens_keeps own clean at salt early offers b within true =
     then6_keeps site clean turns second (carrier_turned carrier6.Up at salt second.dhcp6)
-    (arms_keeps site clean at salt early [] offers [] turns first.iface (on_first (runs_dhcp4 m.conf)) (begun (runs_dhcp4 m.conf) refl))
+    (begin_local_keeps site clean at salt early [] offers [] turns first.iface (on_first (runs_dhcp4 m.conf)) (unbound (runs_dhcp4 m.conf)) (begun (runs_dhcp4 m.conf) refl))
   where
     m : Managed
     m = b.managed
@@ -614,7 +637,11 @@ opens_keeps own clean at salt early offers b within true =
     first = first_when (runs_dhcp4 m.conf)
 
     second : Iface
-    second = (arms at first.iface).iface
+    second = (begin_local at first.iface).iface
+
+    unbound : (runs : Bool) → is_bound (first_when runs).iface.dhcp4.state ≡ false
+    unbound true = begins_unbound (turn_of at salt lit.dhcp4) true (kept_terms lit.dhcp4)
+    unbound false = refl
 
     on_first : (runs : Bool) → is_on (first_when runs).iface ≡ true
     on_first true = refl
@@ -626,7 +653,7 @@ opens_keeps own clean at salt early offers b within true =
       stopped = refl;
       carrier = λ _. refl;
       bears = off_bears site clean (followed m.conf at (holds_lease lit) step.news lit.local).state turns
-          (ap (λ (n : News4). (followed m.conf at (holds_lease lit) n lit.local).state) (begins_quiet (turn_of at salt lit.dhcp4) (kept_terms lit.dhcp4)));
+          (ap (λ (n : News4). (followed m.conf at (holds_lease lit) n lit.local).state) (begins_quiet (turn_of at salt lit.dhcp4) true (kept_terms lit.dhcp4)));
     }
     begun false runs = record { sane = rests_sane b within true; stopped = refl; carrier = λ _. refl; bears = tt }
 opens_keeps own clean at salt early offers b within false =

@@ -12,4 +12,5 @@ pub mod Leasing
 pub mod Lives
 pub mod Items
 pub mod EndingProofs
+pub mod KeptOwnProofs
 pub mod Starts

@@ -8,7 +8,7 @@ use Rattle.std.specs.List.{AllByRecursion, Contains}
 use Rattle.net_types.specs.declared.address.Mac.{Mac}
 use Rattle.net_types.specs.declared.interface.IfSpec.{IfSpec}
 use Rattle.net_types.specs.Marks.{AreBytes}
-use Rattle.lease_text.specs.Bounds.{FitsLease}
+use Rattle.lease_text.specs.Bounds.{HasText}
 use Rattle.lease6_text.specs.Bounds.{HasText6, IsDuid}
 use Rattle.lease6_text.specs.declared.lease.Item6.{Item6}
 use Rattle.lease6_text.specs.Leases.{IaLeaseContent, Lease6Content}
@@ -30,6 +30,8 @@ use Rattle.evidence_words.specs.IfaceLives.{Opening, Met, site_of, shown, iface_
 use Rattle.evidence_words.specs.Inputs.{Site, offers_at}
 use Rattle.evidence_words.proofs.Carrying.{Relation, Shows, IsCarried, at_site, entry, opened_when, turned_by}
 use Rattle.evidence_words.proofs.Offers.{Offered, refused_among}
+use Rattle.lease_evidence.specs.HeldLeases.{KeepsTyped}
+use Rattle.lease_evidence.proofs.LeasedTurns.{lease_fits, lease_typed}
 use Rattle.lease6_evidence.specs.HeldItems.{ItemHasBasis}
 use Rattle.lease6_evidence.proofs.FourFrames.{held_items_have_basis}
 
@@ -55,6 +57,7 @@ pub record LivedSo (site : Site) (clean : Type 0) (f : Iface) (past : List Entry
   pub opening : Opening
   pub mets : List Met
   pub fits : FitsBeginning b
+  pub typed : KeepsTyped b
   pub site_is : site_of site.own b opening ≡ site
   pub face_is : iface_after site.own b opening mets ≡ f
   pub shown_is : shown opening mets ≡ past
@@ -85,7 +88,7 @@ up_so number false = none (bit_at 0 (number - 1)) (bit_at-zero (number - 1))
 
 module _ (Counted : Type 0) where
   opens_lived : (own : List Mac) (clean : Type 0) (at salt : ℕ) → at < 10 ^ 15 → (offers : List Offer) (b : Beginning)
-      → IfSome b.kept4 FitsLease → IfSome b.kept6 HasText6 → (up : Bool)
+      → IfSome b.kept4 HasText → IfSome b.kept6 HasText6 → (up : Bool)
       → Shows Counted (at_site own up b) clean (entry at Quiet [] offers) (opened_when up at salt b).said
       → LivedRelation Counted (at_site own up b) clean (opened_when up at salt b).iface (entry at Quiet [] offers ∷ [])
   opens_lived own clean at salt early offers b within within6 up shows counted fits is octets =
@@ -96,7 +99,8 @@ module _ (Counted : Type 0) where
         b = b;
         opening = opening;
         mets = [];
-        fits = record { managed = fits; duid = is; kept4 = within; kept6 = within6 };
+        fits = record { managed = fits; duid = is; kept4 = lease_fits b.kept4 within; kept6 = within6 };
+        typed = lease_typed b.kept4 within;
         site_is = ap (λ (u : Bool). at_site own u b) so;
         face_is = ap (λ (u : Bool). (opened_when u at salt b).iface) so;
         shown_is = refl;
@@ -128,6 +132,7 @@ module _ (Counted : Type 0) where
         opening = l.opening;
         mets = met ∷ l.mets;
         fits = l.fits;
+        typed = l.typed;
         site_is = l.site_is;
         face_is = ap (λ (g : Iface). (turned_by site salt unsent e g).iface) l.face_is;
         shown_is = ap (λ (turns : List Entry). e ∷ turns) l.shown_is;
@@ -154,7 +159,7 @@ module _ (site : Site) (clean : Type 0) (f : Iface) (past : List Entry) (l : Liv
   item_basis lease ia item held among among_items =
       subst (λ (s : Site). ItemHasBasis s ia item past) l.site_is
       (subst (λ (turns : List Entry). ItemHasBasis (site_of site.own l.b l.opening) ia item turns) l.shown_is
-      (held_items_have_basis site.own l.b l.opening l.mets lease ia item l.fits l.lived
+      (held_items_have_basis site.own l.b l.opening l.mets lease ia item l.fits l.typed l.lived
       (ap (λ (g : Iface). dhcp6.held_of g.dhcp6) l.face_is ∙ held) among among_items))
 
 pub items_based : (Counted : Type 0) (site : Site) (clean : Type 0) (f : Iface) (past : List Entry) → LivedRelation Counted site clean f past → Counted

@@ -41,7 +41,8 @@ release_row_off turn tell held (Requesting exchange) = refl
 release_row_off turn tell held Bound = released_off turn tell held
 release_row_off turn tell held (Renewing exchange) = released_off turn tell held
 release_row_off turn tell held (Rebinding exchange) = released_off turn tell held
-release_row_off turn tell held (Restarting exchange end since) = refl
+release_row_off turn tell held (Restarting exchange end since true) = released_off turn tell held
+release_row_off turn tell held (Restarting exchange end since false) = refl
 release_row_off turn tell held (Declining exchange) = released_off turn tell held
 
 module _ (at salt : ℕ) (c : ClientContent) where

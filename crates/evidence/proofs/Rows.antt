@@ -50,6 +50,7 @@ use Rattle.local_evidence.specs.LinkLocalBasis.{Undisturbed, StrongBasis}
 use Rattle.evidence.specs.StaticBasis.{StaticBasis}
 use Rattle.local_evidence.proofs.Phases.{HeldSince, Carries}
 use Rattle.local_evidence.proofs.Ticks.{Bears}
+use Rattle.evidence.proofs.Turns as turns
 use Rattle.evidence.proofs.Turns.{site_by}
 use Rattle.evidence.proofs.Keeping.{Keeps}
 
@@ -372,9 +373,9 @@ module _ (index : IfIndex) (net : Net) where
     pub gives : net ≡ Family.V6 (first_address subnet)
 
   -- `Lease` is what is known of an address that a lease gives, and `Lease6` so of DHCPv6
-  module _ (Lease Lease6 : Net → Type 0) (own : List Mac) (start : Bool) (duid : List ℕ) (clean : Type 0) (iface : Iface) (past : List Entry) where
+  module _ (Lease Lease6 : Net → Type 0) (own : List Mac) (start : Bool) (opened : turns.Found) (clean : Type 0) (iface : Iface) (past : List Entry) where
     abbrev site : Site
-    site = site_by own start duid iface.managed
+    site = site_by own start opened iface.managed
 
     abbrev here : IfIndex
     here = iface.managed.spec.index

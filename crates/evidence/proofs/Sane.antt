@@ -1,7 +1,6 @@
 -- What holds of an interface by itself in a life, and that each of its steps keeps it.
-use Rattle.std.proofs.Common.{◌≡◌, ℕ, ◌+◌, ◌*◌, ◌<◌, ◌^◌, Bool, true, false, not, ◌&&◌, List, nat_eq, inl, inr, ◌⊎◌, refl, sym, ◌∙◌, ap, subst}
+use Rattle.std.proofs.Common.{◌≡◌, ℕ, ◌+◌, ◌*◌, ◌<◌, ◌^◌, Bool, true, false, not, ◌&&◌, List, Some, None, nat_eq, inl, inr, ◌⊎◌, refl, sym, ◌∙◌, ap, subst}
 use Rattle.std.specs.Prelude.{if◌then◌else◌}
-use Rattle.std.specs.Option.{is_some}
 use Rattle.std.specs.List.{AllByRecursion}
 use Rattle.net_types.proofs.CaseLaws.{gated}
 use Rattle.net_types.specs.declared.address.Mac.{Mac}
@@ -27,13 +26,12 @@ use Rattle.v4_client.specs.declared.states.Tell.{Tell}
 use Rattle.v4_client.specs.declared.states.Tell.TheVariants.{Server, Nobody}
 use Rattle.v4_client.specs.declared.states.Turn4.{Turn4}
 use Rattle.v4_client.specs.Calls.{answer_to, arp_step, brought, carrier_step, heard_step, rebind_step, release_step}
-use Rattle.v4_client.specs.Clients.{is_held, kept_terms, turn_of}
+use Rattle.v4_client.specs.Clients.{is_bound, is_held, kept_terms, turn_of}
 use Rattle.v4_client.specs.Due.{due_of}
 use Rattle.v4_client.specs.History.{tick_step}
 use Rattle.v4_client.specs.Inputs.{release_row, unsent_row}
 use Rattle.v4_client.specs.Messages.{Arrival}
 use Rattle.v4_client.specs.Sound.{IsSoundStep}
-use Rattle.v4_client.proofs.SoundSteps.{unsent_held}
 use Rattle.v6_client.specs.declared.states.State6.TheVariants as client6
 use Rattle.v6_client.specs.Runs.{Turned6}
 use Rattle.settings.specs.declared.interfaces.IfConf.{IfConf}
@@ -42,7 +40,7 @@ use Rattle.client_model.specs.declared.interfaces.Iface.{Iface}
 use Rattle.client_model.specs.ClientSettings.{runs_dhcp4, site_of}
 use Rattle.client_model.specs.ClientSettings6.{runs_dhcp6}
 use Rattle.client_model.specs.Dhcp6Steps.{dhcp6_step, tell6_of}
-use Rattle.client_model.specs.Dhcp4Steps.{arms, dhcp4_step, followed, holds_lease, said_in}
+use Rattle.client_model.specs.Dhcp4Steps.{arms, begin_local, dhcp4_step, followed, holds_lease, said_in}
 use Rattle.client_model.specs.IfaceSteps.{silent}
 use Rattle.client_model.specs.Interfaces.{machines_drop, machines_stop, restarted}
 use Rattle.client_model.specs.LocalSteps.{armed, armed_for_lease, chooses_local, fallback_of, local_step}
@@ -73,7 +71,7 @@ pub record Sane (managed : Managed) (f : Iface) : Type 0 where
   pub off : is_on f ≡ false → AreOff f
   pub without : runs_dhcp4 f.managed.conf ≡ false → f.dhcp4.state ≡ client.Off
   pub without6 : runs_dhcp6 f.managed.conf ≡ false → f.dhcp6.state ≡ client6.Off
-  pub aside : IsAside (is_held f.dhcp4.state) f.local
+  pub aside : IsAside (is_bound f.dhcp4.state) f.local
 
 -- ---- what arming and the news of DHCPv4 make of link-local
 
@@ -126,7 +124,7 @@ pub record Goes (managed : Managed) (f : Iface) (step : Step4) : Type 0 where
   pub turn : Turn4
   pub mac : turn.site.iface.mac ≡ managed.spec.mac
   pub fair : IsFair turn f.dhcp4.state step
-  pub sound : IsSoundStep f.dhcp4.state step
+  pub sound : IsSoundStep (kept_terms f.dhcp4) f.dhcp4.state step
   pub rests : IsIdle f → f.dhcp4.state ≡ client.Off → StaysOff step
 
 module _ (site : Site) (at : ℕ) (f : Iface) (step : Step4) (goes : Goes site.managed f step) where
@@ -136,7 +134,7 @@ module _ (site : Site) (at : ℕ) (f : Iface) (step : Step4) (goes : Goes site.m
   quiet_local : step.news ≡ news.Nothing → f.local.state ≡ Off → local_then.state ≡ Off
   quiet_local quiet off = ap (λ (n : News4). (followed f.managed.conf at (holds_lease f) n f.local).state) quiet ∙ off
 
-  aside_then : Sane site.managed f → IsAside (is_held step.state) local_then
+  aside_then : Sane site.managed f → IsAside (is_bound step.state) local_then
   aside_then sane held =
       ap (λ (h : Bool). (followed f.managed.conf at h step.news f.local).state) (holds_so f.dhcp4 sane.hosts)
       ∙ goes.fair.aside f.managed.conf at f.local sane.aside held
@@ -163,9 +161,9 @@ module _ (site : Site) (at : ℕ) (f : Iface) (step : Step4) (goes : Goes site.m
 
   -- where an address is chosen after the step, it announces nothing
   pub step_unsaid : Sane site.managed f → Unsaid site local_then.state (said_in step)
-  step_unsaid sane = by (is_held f.dhcp4.state) (is_held step.state) refl refl
+  step_unsaid sane = by (is_bound f.dhcp4.state) (is_bound step.state) refl refl
     where
-      by : (before after : Bool) → is_held f.dhcp4.state ≡ before → is_held step.state ≡ after → Unsaid site local_then.state (said_in step)
+      by : (before after : Bool) → is_bound f.dhcp4.state ≡ before → is_bound step.state ≡ after → Unsaid site local_then.state (said_in step)
       by before true was is =
           subst (λ (s : State). Unsaid site s (said_in step)) (sym (aside_then sane is)) tt
       by true false was is =
@@ -210,7 +208,7 @@ module _ (managed : Managed) (f : Iface) (sane : Sane managed f) (at salt : ℕ)
   begin_goes on runs = record {
     turn = turn;
     mac = same_mac;
-    fair = begin_fair turn (kept_terms f.dhcp4) f.dhcp4.state;
+    fair = begin_fair turn f.dhcp4.may_stand (kept_terms f.dhcp4) f.dhcp4.state;
     sound = carrier_steps at salt early f.dhcp4 sane.hosts Up;
     rests = λ idle off. absurd (not_idle on runs idle);
   }
@@ -264,6 +262,32 @@ local_sane managed f step stays sane = record {
   aside = λ held. stays (sane.aside held);
 }
 
+-- a lease that is bound is held
+bound_holds : (state : State4) → is_bound state ≡ true → is_held state ≡ true
+bound_holds client.Off is = is
+bound_holds (client.Init due) is = is
+bound_holds (client.Selecting xid began secs backoff due) is = is
+bound_holds (client.Requesting exchange secs backoff due) is = is
+bound_holds (client.Rebooting exchange backoff end due stands) is = absurd cc
+bound_holds (client.Checking xid terms origin acd stands) is = absurd cc
+bound_holds (client.Waiting due) is = is
+bound_holds (client.Bound xid terms acd) is = is
+bound_holds (client.Renewing exchange terms acd due) is = is
+bound_holds (client.Rebinding exchange terms acd due) is = is
+
+-- link-local is armed beside a client that isn't bound
+pub begin_local_sane : (managed : Managed) (at : ℕ) (f : Iface) → is_on f ≡ true → is_bound f.dhcp4.state ≡ false → Sane managed f
+    → Sane managed (begin_local at f).iface
+begin_local_sane managed at f on unbound sane = record {
+  same = sane.same;
+  settings = sane.settings;
+  hosts = sane.hosts;
+  off = λ out. absurd (let bad : true ≡ false = sym on ∙ out in cc);
+  without = sane.without;
+  without6 = sane.without6;
+  aside = λ bound. absurd (let bad : true ≡ false = sym bound ∙ unbound in cc);
+}
+
 pub arms_sane : (managed : Managed) (at : ℕ) (f : Iface) → is_on f ≡ true → Sane managed f → Sane managed (arms at f).iface
 arms_sane managed at f on sane = by (holds_lease f) refl
   where
@@ -277,7 +301,7 @@ arms_sane managed at f on sane = by (holds_lease f) refl
       off = λ out. absurd (let bad : true ≡ false = sym on ∙ out in cc);
       without = sane.without;
       without6 = sane.without6;
-      aside = λ held. absurd (let bad : true ≡ false = sym held ∙ sym (holds_so f.dhcp4 sane.hosts) ∙ is in cc);
+      aside = λ bound. absurd (let bad : true ≡ false = sym (bound_holds f.dhcp4.state bound) ∙ sym (holds_so f.dhcp4 sane.hosts) ∙ is in cc);
     }
 
 released_off : (turn : Turn4) (tell : Tell) (state : State4) → (release_row turn tell state).state ≡ client.Off
@@ -285,8 +309,12 @@ released_off here tell client.Off = refl
 released_off here tell (client.Init due) = refl
 released_off here tell (client.Selecting xid began secs backoff due) = refl
 released_off here tell (client.Requesting exchange secs backoff due) = refl
-released_off here tell (client.Rebooting exchange backoff end due) = refl
-released_off here tell (client.Checking xid terms origin acd) = refl
+released_off here tell (client.Rebooting exchange backoff end due None) = refl
+released_off here Server (client.Rebooting exchange backoff end due (Some terms)) = refl
+released_off here Nobody (client.Rebooting exchange backoff end due (Some terms)) = refl
+released_off here tell (client.Checking xid terms origin acd None) = refl
+released_off here Server (client.Checking xid terms origin acd (Some old)) = refl
+released_off here Nobody (client.Checking xid terms origin acd (Some old)) = refl
 released_off here tell (client.Waiting due) = refl
 released_off here Server (client.Bound xid terms acd) = refl
 released_off here Nobody (client.Bound xid terms acd) = refl
@@ -350,6 +378,19 @@ module _ (managed : Managed) (at salt : ℕ) (early : at < 10 ^ 15) (f : Iface) 
     aside = λ held. refl;
   }
 
+-- what is bound stays so where a frame couldn't be sent
+unsent_bound : (at_turn : Turn4) (state : State4) → is_bound (unsent_row at_turn state) ≡ is_bound state
+unsent_bound here client.Off = refl
+unsent_bound here (client.Init due) = refl
+unsent_bound here (client.Selecting xid began secs backoff due) = refl
+unsent_bound here (client.Requesting exchange secs backoff due) = refl
+unsent_bound here (client.Rebooting exchange backoff end due stands) = refl
+unsent_bound here (client.Checking xid terms origin acd stands) = refl
+unsent_bound here (client.Waiting due) = refl
+unsent_bound here (client.Bound xid terms acd) = refl
+unsent_bound here (client.Renewing exchange terms acd due) = refl
+unsent_bound here (client.Rebinding exchange terms acd due) = refl
+
 -- a frame of the interface couldn't be sent in the turn before
 pub restarted_sane : (managed : Managed) (at salt : ℕ) → at < 10 ^ 15 → (f : Iface) → Sane managed f → Sane managed (restarted at salt f)
 restarted_sane managed at salt early f sane = record {
@@ -364,7 +405,7 @@ restarted_sane managed at salt early f sane = record {
   without6 = sane.without6;
   aside = λ held.
       restart_off f.local.iface f.local.state at salt
-      (sane.aside (sym (ap is_some (unsent_held (turn_of at salt f.dhcp4) f.dhcp4.state)) ∙ held));
+      (sane.aside (sym (unsent_bound (turn_of at salt f.dhcp4) f.dhcp4.state) ∙ held));
 }
   where
     restart_off : (iface : IfIndex) (state : State) (at salt : ℕ) → state ≡ Off → (ll_restarts (at_state iface state) at salt).state ≡ Off

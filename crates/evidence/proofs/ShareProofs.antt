@@ -1,5 +1,5 @@
 -- What the basis of a share can't do without.
-use Rattle.std.proofs.Common.{◌≡◌, ◌≢◌, ℕ, ◌+◌, ◌-◌, List, [], ◌∷◌, map, Option, sym, ap, subst, ◌∙◌, arith}
+use Rattle.std.proofs.Common.{◌≡◌, ◌≢◌, ℕ, ◌+◌, ◌-◌, List, [], ◌∷◌, map, Option, inl, inr, sym, ap, subst, ◌∙◌, arith}
 use Rattle.std.specs.Prelude.{IfSome}
 use Rattle.std.specs.List.{AllByRecursion}
 use Rattle.machine.specs.Since.{Always}
@@ -19,6 +19,9 @@ use Rattle.evidence_words.specs.Entries.{Entry}
 use Rattle.evidence_words.specs.Inputs.{Site}
 use Rattle.evidence_words.specs.IfaceLives.{now_in}
 use Rattle.lease6_evidence.specs.Laws6.{Names}
+use Rattle.lease6_evidence.specs.HeldItems.{IsPlain6}
+use Rattle.lease6_evidence.specs.KeptBasis6.{KeptBasis6}
+use Rattle.lease6_evidence.proofs.KeptProofs6.{needs_flag, needs_origin}
 use Rattle.lease6_evidence.proofs.LawProofs.{needs_reply}
 use Rattle.evidence.specs.ShareNeeds.{NeedsAnotherInterface, NeedsDelegation, NeedsPrefix, NeedsReplyWithIt, NeedsSameIa, NeedsShare, SharesHaveTheirBits, before}
 use Rattle.evidence.proofs.Based.{contained}
@@ -41,6 +44,11 @@ needs_delegation site index net past all basis =
 pub needs_prefix : NeedsPrefix
 needs_prefix site index net past none basis = none basis.ask basis.prefix basis.asked basis.is_prefix basis.basis
 
+-- where no lease may be held that was kept
+plain_keeps_none : (site : Site) (ask : IaAsk) (net : Net6) (now : ℕ) (past : List Entry) → IsPlain6 site → KeptBasis6 site ask net now past → ⊥
+plain_keeps_none site ask net now past (inl off) kept = needs_flag site ask net now past off kept
+plain_keeps_none site ask net now past (inr none) kept = needs_origin site ask net now past none kept
+
 -- what is named of no prefix isn't named of this one
 names_none : (site : Site) (ask : IaAsk) (prefix : Net6) (past : List Entry) → ask.kind ≡ Pd
     → Always (λ e earlier. (other : IaAsk) (net : Net6) → other.kind ≡ Pd → Names site other net e earlier → ⊥) past
@@ -49,8 +57,11 @@ names_none site ask prefix [] kind none = tt
 names_none site ask prefix (e ∷ past) kind none = (none.0 ask prefix kind, names_none site ask prefix past kind none.1)
 
 pub needs_reply_with_it : NeedsReplyWithIt
-needs_reply_with_it site index net past none basis =
-    needs_reply site basis.ask basis.prefix (now_in past) past (names_none site basis.ask basis.prefix past basis.is_prefix none) basis.basis
+needs_reply_with_it site index net past plain basis =
+    elim basis.basis [
+      | inl given ↦ needs_reply site basis.ask basis.prefix (now_in past) past (names_none site basis.ask basis.prefix past basis.is_prefix plain.1) given
+      | inr kept ↦ plain_keeps_none site basis.ask basis.prefix (now_in past) past plain.0 kept
+    ]
 
 pub needs_share : NeedsShare
 needs_share site index net past none basis =

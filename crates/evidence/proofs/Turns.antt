@@ -1,9 +1,13 @@
 -- Over every list of turns each interface keeps what it carries.
-use Rattle.std.proofs.Common.{◌≡◌, ℕ, ◌<◌, ◌≤◌, ◌^◌, Bool, true, false, List, [], ◌∷◌, nat_eq, refl, sym, ap, subst, ◌∙◌, arith}
+use Rattle.std.proofs.Common.{◌≡◌, ℕ, ◌<◌, ◌≤◌, ◌^◌, Bool, true, false, List, [], ◌∷◌, Option, nat_eq, refl, sym, ap, subst, ◌∙◌, arith}
 use Rattle.std.specs.Prelude.{map, max}
 use Rattle.std.specs.List.{AllByRecursion, IsDistinct}
 use Rattle.net_types.specs.declared.address.Mac.{Mac}
 use Rattle.net_types.specs.declared.interface.IfSpec.{IfSpec}
+use Rattle.net_types.proofs.AllLaws.{all_map}
+use Rattle.device_calls.specs.Calls.{Call}
+use Rattle.lease_text.specs.Leases.{LeaseContent}
+use Rattle.lease6_text.specs.Leases.{Lease6Content}
 use Rattle.machine.specs.Moment.{moment_of}
 use Rattle.v4_message.specs.Requests.{AskContent}
 use Rattle.v4_client.specs.Settings.{SettingsContent}
@@ -18,9 +22,11 @@ use Rattle.client_model.specs.IfaceTurns.{iface_turned}
 use Rattle.client_model.specs.Clients.{Client, ClientStep, Sending}
 use Rattle.client_model.specs.HostDuid.{host_duid}
 use Rattle.client_model.specs.KeptLeases.{Beginning}
+use Rattle.evidence_words.specs.FiledLeases.{kept4_shown, kept6_shown}
 use Rattle.evidence_words.specs.HostDuids.{duid_shown}
 use Rattle.evidence_words.specs.Inputs.{Site}
 use Rattle.client_model.proofs.SameInterfaces.{managed_in, IsSame, opened_is_same, turned_is_same, all_turned}
+use Rattle.turn_model.specs.FilesInLife.{AreNamedApart}
 use Rattle.turn_model.specs.Loading.{duid_with, beginnings_of}
 use Rattle.turn_model.specs.Turns.{Life, turn_moment, input_of, step_of}
 use Rattle.turn_model.specs.Opening.{opening_step}
@@ -30,6 +36,7 @@ use Rattle.turn_model.proofs.Loading.{KeepsFitting, beginnings_fit}
 use Rattle.evidence_words.specs.Entries.{Offer, Entry, offers_on, entry_of, opening_entry, shown_after}
 use Rattle.evidence.specs.Laws.{AreNumbered, AreMade}
 use Rattle.evidence_words.proofs.Carrying.{Relation, IsCarried, entry}
+use Rattle.evidence_words.proofs.FilesRead.{KeepsShown, beginnings_shown}
 use Rattle.evidence_words.proofs.Made.{all_offers, marked_all, Shown, turn_shows, OpeningShown, opening_shows}
 use Rattle.evidence_words.proofs.Offers.{Offered, ShownBy, all_shown, number_of, refused_among}
 use Rattle.evidence.proofs.Keeping.{Keeps, opens_keeps, turn_keeps}
@@ -39,14 +46,26 @@ abbrev pub AreCounted : List Managed → Type 0
 AreCounted managed = AllByRecursion (λ m. 1 ≤ number_of m) managed
 
 -- what is known of an interface when a life begins
-abbrev pub site_by : List Mac → (up : Bool) → (duid : List ℕ) → Managed → Site
-site_by own up duid managed = record { managed = managed; duid = duid; own = own; up = up }
+abbrev pub site_with : List Mac → (up : Bool) → (duid : List ℕ) → Option LeaseContent → Option Lease6Content → Managed → Site
+site_with own up duid kept4 kept6 managed = record { managed = managed; duid = duid; own = own; up = up; kept4 = kept4; kept6 = kept6 }
 
-module _ (Counted : Type 0) (Carries : Relation) (carried : IsCarried Counted Carries) (start : ℕ → Bool) (duid : List ℕ) where
+-- what an opening found: the DUID of the host, and the leases of each interface
+pub record Found : Type 0 where
+  pub duid : List ℕ
+  pub kept4 : Managed → Option LeaseContent
+  pub kept6 : Managed → Option Lease6Content
+
+abbrev pub found_in : List Managed → List Call → Found
+found_in managed calls = record { duid = duid_shown managed calls; kept4 = kept4_shown calls; kept6 = kept6_shown calls }
+
+abbrev pub site_by : List Mac → (up : Bool) → Found → Managed → Site
+site_by own up found managed = site_with own up found.duid (found.kept4 managed) (found.kept6 managed) managed
+
+module _ (Counted : Type 0) (Carries : Relation) (carried : IsCarried Counted Carries) (start : ℕ → Bool) (found : Found) where
   -- what is carried of an interface, whose client has the settings that the configuration gives
   pub record KeptOne (own : List Mac) (unsent : ℕ) (shown : List Entry) (iface : Iface) : Type 0 where
-    pub settings : iface.dhcp4.settings ≡ settings_of duid iface.managed
-    pub carries : Carries (site_by own (start (number_of iface.managed)) duid iface.managed) (is_in unsent (index_of iface) ≡ false) iface shown
+    pub settings : iface.dhcp4.settings ≡ settings_of found.duid iface.managed
+    pub carries : Carries (site_by own (start (number_of iface.managed)) found iface.managed) (is_in unsent (index_of iface) ≡ false) iface shown
 
   abbrev KeptBy : Client → (unsent : ℕ) → List Entry → Type 0
   KeptBy client unsent shown = AllByRecursion (KeptOne client.own unsent shown) client.ifaces
@@ -85,13 +104,13 @@ module _ (Counted : Type 0) (Carries : Relation) (carried : IsCarried Counted Ca
     one_kept early iface offers kept =
         let step : IfaceStep = step_for iface in
         let same : IsSame iface step.iface = turned_is_same life.client.own (input_of life met.wake met.bytes) iface in
-        let settings : step.iface.dhcp4.settings ≡ settings_of duid step.iface.managed = same.settings ∙ kept.settings ∙ ap (settings_of duid) (sym same.managed) in
+        let settings : step.iface.dhcp4.settings ≡ settings_of found.duid step.iface.managed = same.settings ∙ kept.settings ∙ ap (settings_of found.duid) (sym same.managed) in
         record {
           settings = settings;
-          carries = subst (λ m. OfferedFor step m (ask_of duid m)
-              → Carries (site_by life.client.own (start (number_of m)) duid m) (is_in failed (number_of m) ≡ false) step.iface (turn_entry ∷ shown))
+          carries = subst (λ m. OfferedFor step m (ask_of found.duid m)
+              → Carries (site_by life.client.own (start (number_of m)) found m) (is_in failed (number_of m) ≡ false) step.iface (turn_entry ∷ shown))
               (sym same.managed)
-              (λ shows. carried.turns (site_by life.client.own (start (number_of iface.managed)) duid iface.managed) (is_in failed (index_of iface) ≡ false) met.wake.salt
+              (λ shows. carried.turns (site_by life.client.own (start (number_of iface.managed)) found iface.managed) (is_in failed (index_of iface) ≡ false) met.wake.salt
               turn_entry early shown life.unsent iface refl kept.carries (record { offered = shows.0; refused = shows.1 }))
               (subst (λ (a : AskContent). OfferedFor step step.iface.managed a) (ap (λ (set : SettingsContent). set.ask) settings) offers);
         }
@@ -148,7 +167,7 @@ own_stays managed (met ∷ mets) life made =
 -- ---- the opening
 
 module _ (Counted : Type 0) (Carries : Relation) (carried : IsCarried Counted Carries) (own : List Mac) (up at salt unsent : ℕ) (early : at < 10 ^ 15) (offers : List Offer)
-    (duid : List ℕ) where
+    (found : Found) where
   abbrev started : ℕ → Bool
   started index = is_up up index
 
@@ -163,21 +182,30 @@ module _ (Counted : Type 0) (Carries : Relation) (carried : IsCarried Counted Ca
   abbrev OpenedBy : IfaceStep → Type 0
   OpenedBy step = OpenedFor step step.iface.managed step.iface.dhcp4.settings.ask
 
-  one_opened : (b : Beginning) → KeepsFitting duid b → OpenedBy (opened up at salt b) → KeptOne Counted Carries carried started duid own unsent (opening_shown ∷ []) (opened up at salt b).iface
-  one_opened b within shows =
+  -- an interface begins with what the opening found
+  record BeginsSo (b : Beginning) : Type 0 where
+    four : b.kept4 ≡ found.kept4 b.managed
+    six : b.kept6 ≡ found.kept6 b.managed
+
+  one_opened : (b : Beginning) → KeepsFitting found.duid b → BeginsSo b → OpenedBy (opened up at salt b)
+      → KeptOne Counted Carries carried started found own unsent (opening_shown ∷ []) (opened up at salt b).iface
+  one_opened b within so shows =
       let m : Managed = b.managed in
       let step : IfaceStep = opened up at salt b in
       let same : IsSame (resting b) step.iface = opened_is_same up at salt b in
-      let settings : step.iface.dhcp4.settings ≡ settings_of duid step.iface.managed =
-      same.settings ∙ ap (λ (d : List ℕ). settings_of d m) within.duid_is ∙ ap (settings_of duid) (sym same.managed) in
+      let settings : step.iface.dhcp4.settings ≡ settings_of found.duid step.iface.managed =
+      same.settings ∙ ap (λ (d : List ℕ). settings_of d m) within.duid_is ∙ ap (settings_of found.duid) (sym same.managed) in
       let clean : Type 0 = is_in unsent (number_of m) ≡ false in
       record {
         settings = settings;
-        carries = subst (λ n. OpenedFor step n (ask_of duid n)
-            → Carries (site_by own (started (number_of n)) duid n) (is_in unsent (number_of n) ≡ false) step.iface (opening_shown ∷ []))
+        carries = subst (λ n. OpenedFor step n (ask_of found.duid n)
+            → Carries (site_by own (started (number_of n)) found n) (is_in unsent (number_of n) ≡ false) step.iface (opening_shown ∷ []))
             (sym same.managed)
-            (subst (λ (d : List ℕ). OpenedFor step m (ask_of d m) → Carries (site_by own (started (number_of m)) d m) clean step.iface (opening_shown ∷ [])) within.duid_is
-            (λ given. carried.opens own clean at salt early offers b within.kept4 within.kept6 (started (number_of m)) (record { offered = given.0; refused = given.1 })))
+            (subst (λ (d : List ℕ). OpenedFor step m (ask_of d m)
+            → Carries (site_with own (started (number_of m)) d (found.kept4 m) (found.kept6 m) m) clean step.iface (opening_shown ∷ [])) within.duid_is
+            (λ given. subst (λ (k : Option LeaseContent). Carries (site_with own (started (number_of m)) b.duid k (found.kept6 m) m) clean step.iface (opening_shown ∷ [])) so.four
+            (subst (λ (k : Option Lease6Content). Carries (site_with own (started (number_of m)) b.duid b.kept4 k m) clean step.iface (opening_shown ∷ [])) so.six
+            (carried.opens own clean at salt early offers b within.kept4 within.kept6 (started (number_of m)) (record { offered = given.0; refused = given.1 })))))
             (subst (λ (a : AskContent). OpenedFor step step.iface.managed a) (ap (λ (set : SettingsContent). set.ask) settings) shows);
       }
 
@@ -194,23 +222,24 @@ module _ (Counted : Type 0) (Carries : Relation) (carried : IsCarried Counted Ca
     given_each sends taken set list steps shows.1,
   )
 
-  each_opened : (beginnings : List Beginning) → AllByRecursion (KeepsFitting duid) beginnings → AllByRecursion OpenedBy (map (opened up at salt) beginnings)
-      → AllByRecursion (KeptOne Counted Carries carried started duid own unsent (opening_shown ∷ [])) (map (λ (step : IfaceStep). step.iface) (map (opened up at salt) beginnings))
-  each_opened [] within shows = tt
-  each_opened (b ∷ beginnings) within shows = (one_opened b within.0 shows.0, each_opened beginnings within.1 shows.1)
+  each_opened : (beginnings : List Beginning) → AllByRecursion (KeepsFitting found.duid) beginnings → AllByRecursion BeginsSo beginnings
+      → AllByRecursion OpenedBy (map (opened up at salt) beginnings)
+      → AllByRecursion (KeptOne Counted Carries carried started found own unsent (opening_shown ∷ [])) (map (λ (step : IfaceStep). step.iface) (map (opened up at salt) beginnings))
+  each_opened [] within so shows = tt
+  each_opened (b ∷ beginnings) within so shows = (one_opened b within.0 so.0 shows.0, each_opened beginnings within.1 so.1 shows.1)
 
 first_early : (at now : ℕ) → now ≡ moment_of at → now < 10 ^ 15
 first_early at now e = omega arith
 
-pub opening_kept : (Counted : Type 0) (Carries : Relation) (carried : IsCarried Counted Carries) (managed : List Managed) → AreNumbered managed → (Counted → AreCounted managed) → (specs : List IfSpec) (opening : OpeningMet)
+pub opening_kept : (Counted : Type 0) (Carries : Relation) (carried : IsCarried Counted Carries) (managed : List Managed) → AreNumbered managed → AreNamedApart managed → (Counted → AreCounted managed) → (specs : List IfSpec) (opening : OpeningMet)
     → IsOpening managed specs opening
-    → KeptAfter Counted Carries carried (λ index. is_up opening.begin.up index) (duid_shown managed opening.calls) managed opening.life (opening_entry opening ∷ [])
-opening_kept Counted Carries carried managed numbered counts specs opening is =
+    → KeptAfter Counted Carries carried (λ index. is_up opening.begin.up index) (found_in managed opening.calls) managed opening.life (opening_entry opening ∷ [])
+opening_kept Counted Carries carried managed numbered apart counts specs opening is =
     let read : OpeningShown managed specs opening.begin opening.calls opening.life = opening_shows managed specs opening.begin opening.calls opening.life is in
     let step : ClientStep = opening_step managed read.files specs opening.begin in
     let made : Shown step (moment_of opening.begin.at) opening.calls opening.life = read.shown in
-    let duid : List ℕ = duid_shown managed opening.calls in
-    let duid_is : duid_with managed read.files ≡ duid = ap (host_duid managed) (sym read.duid) in
+    let found : Found = found_in managed opening.calls in
+    let duid_is : duid_with managed read.files ≡ found.duid = ap (host_duid managed) (sym read.duid) in
     let beginnings : List Beginning = beginnings_of managed read.files in
     let at : ℕ = moment_of opening.begin.at in
     let unsent : ℕ = marked_all step.sends made.taken 0 in
@@ -218,14 +247,16 @@ opening_kept Counted Carries carried managed numbered counts specs opening is =
     record {
       of_managed = ap (λ (client : Client). managed_in client.ifaces) made.client ∙ same;
       early = first_early opening.begin.at opening.life.now made.now;
-      kept = kept_same Counted Carries carried (λ index. is_up opening.begin.up index) duid opening.life.client step.client opening.life.unsent unsent
+      kept = kept_same Counted Carries carried (λ index. is_up opening.begin.up index) found opening.life.client step.client opening.life.unsent unsent
           (opening_entry opening) (entry at Quiet [] (all_offers step.sends made.taken)) [] made.client made.unsent
           (λ i. entry (made.now i) Quiet [] (made.offers i))
           (each_opened Counted Carries carried step.client.own opening.begin.up at opening.begin.salt unsent (first_early opening.begin.at at refl)
-          (all_offers step.sends made.taken) duid beginnings
+          (all_offers step.sends made.taken) found beginnings
           (subst (λ (d : List ℕ). AllByRecursion (KeepsFitting d) beginnings) duid_is (beginnings_fit managed read.files))
+          (all_map (KeepsShown opening.calls) _ (λ b k. record { four = k.four; six = k.six }) beginnings
+          (beginnings_shown (duid_with managed read.files) opening.calls read.files.ifaces (read.leases apart)))
           (given_each Counted Carries carried step.client.own opening.begin.up at opening.begin.salt unsent (first_early opening.begin.at at refl)
-          (all_offers step.sends made.taken) duid step.sends made.taken refl refl (map (opened opening.begin.up at opening.begin.salt) beginnings)
+          (all_offers step.sends made.taken) found step.sends made.taken refl refl (map (opened opening.begin.up at opening.begin.salt) beginnings)
           (all_shown Counted (map (opened opening.begin.up at opening.begin.salt) beginnings) made.taken made.answered
           (subst (λ ms. IsDistinct nat_eq (map number_of ms)) (sym same) numbered) (λ c. subst AreCounted (sym same) (counts c)))));
     }

@@ -2,6 +2,7 @@
 use Rattle.std.specs.Prelude.{◌≡◌, ℕ, true, false, List, [], ◌∷◌, map, nat_eq, ◌⊎◌}
 use Rattle.std.specs.List.{AllByRecursion, Contains, IsDistinct}
 use Rattle.net_types.specs.declared.address.Net.{Net}
+use Rattle.net_types.specs.declared.address.Net6.{Net6}
 use Rattle.net_types.specs.declared.interface.IfSpec.{IfSpec}
 use Rattle.net_types.specs.declared.interface.IfIndex.{IfIndex}
 use Rattle.net_types.specs.Marks.{AreBytes}
@@ -16,17 +17,23 @@ use Rattle.client_model.specs.ClientSettings.{runs_dhcp4}
 use Rattle.client_model.specs.ClientSettings6.{runs_dhcp6}
 use Rattle.client_model.specs.Clients.{rows_of}
 use Rattle.device_calls.specs.Programs.{Makes}
+use Rattle.turn_model.specs.FilesInLife.{AreNamedApart}
 use Rattle.turn_model.specs.Turns.{Life, turn_asks}
 use Rattle.turn_model.specs.Lives.{OpeningMet, IsOpening, Met, life_after}
 use Rattle.evidence_words.specs.Entries.{Entry, shown_of}
+use Rattle.evidence_words.specs.FiledLeases.{kept4_shown, kept6_shown}
 use Rattle.evidence_words.specs.HostDuids.{duid_shown}
 use Rattle.evidence_words.specs.Inputs.{Site}
 use Rattle.evidence_words.specs.IfaceLives.{now_in}
 use Rattle.evidence.specs.StaticBasis.{StaticBasis}
-use Rattle.evidence.specs.ShareBasis.{ShareBasis, SharesWithOthers}
+use Rattle.evidence.specs.ShareBasis.{ShareBasisOf, SharesWithOthers}
 use Rattle.local_evidence.specs.LinkLocalBasis.{LinkLocalBasis, StrongBasis}
+use Rattle.lease_evidence.specs.KeptBasis4.{KeptBasis4}
 use Rattle.lease_evidence.specs.LeaseBasis.{LeaseBasis}
+use Rattle.lease6_evidence.specs.HeldItems.{ItemRests}
 use Rattle.lease6_evidence.specs.ItemBasis.{AddressBasis}
+use Rattle.lease6_evidence.specs.KeptBasis6.{KeptAddress6}
+use Rattle.v6_client.specs.declared.settings.IaAsk.{IaAsk}
 
 -- a lease gives the address, now
 abbrev pub LeasedBasis : Site → Net → List Entry → Type 0
@@ -36,15 +43,22 @@ LeasedBasis site net past = LeaseBasis site net (now_in past) past
 abbrev pub LeasedBasis6 : Site → Net → List Entry → Type 0
 LeasedBasis6 site net past = AddressBasis site net (now_in past) past
 
--- Why an address may be held, in what was shown: as a static address, as a link-local one, or for a lease of DHCPv4 or of DHCPv6.
+-- a kept lease gives the address, of DHCPv4 or of DHCPv6, which is asked for again
+abbrev pub KeptBasis : Site → Net → List Entry → Type 0
+KeptBasis site net past = KeptBasis4 site net (now_in past) past ⊎ KeptAddress6 site net (now_in past) past
+
+-- Why an address may be held, in what was shown: as a static address, as a link-local one, for a lease of DHCPv4 or of
+-- DHCPv6 that a server gave, or for one that was kept.
 abbrev pub Basis : Site → Net → List Entry → Type 0
 Basis site net past =
-    StaticBasis site net past ⊎ (LinkLocalBasis site net past ⊎ (LeasedBasis site net past ⊎ LeasedBasis6 site net past))
+    StaticBasis site net past ⊎ (LinkLocalBasis site net past
+    ⊎ (LeasedBasis site net past ⊎ (LeasedBasis6 site net past ⊎ KeptBasis site net past)))
 
 -- The same, with the stronger fact on link-local addresses.
 abbrev pub StrongestBasis : Site → Net → List Entry → Type 0
 StrongestBasis site net past =
-    StaticBasis site net past ⊎ (StrongBasis site net past ⊎ (LeasedBasis site net past ⊎ LeasedBasis6 site net past))
+    StaticBasis site net past ⊎ (StrongBasis site net past
+    ⊎ (LeasedBasis site net past ⊎ (LeasedBasis6 site net past ⊎ KeptBasis site net past)))
 
 -- where neither DHCPv4 nor DHCPv6 runs the interface has no lease
 abbrev pub BasisWithoutDhcp : Site → Net → List Entry → Type 0
@@ -58,6 +72,8 @@ site_of managed specs opening m = record {
   duid = duid_shown managed opening.calls;
   own = map (λ spec. spec.mac) specs;
   up = is_up opening.begin.up m.spec.index.number;
+  kept4 = kept4_shown opening.calls m;
+  kept6 = kept6_shown opening.calls m;
 }
 
 -- The address is on a managed interface and has a basis of this kind there.
@@ -69,10 +85,14 @@ pub record HasBasisOf (Kind : Site → Net → List Entry → Type 0) (managed :
   pub basis : Kind (site_of managed specs opening holder) net (shown_of opening mets)
 
 -- The address is one of a prefix that is delegated to a managed interface, and has its basis there.
-pub record HasShareBasis (managed : List Managed) (specs : List IfSpec) (opening : OpeningMet) (mets : List Met) (index : IfIndex) (net : Net) : Type 0 where
+pub record HasShareBasisOf (Kind : Site → IaAsk → Net6 → (now : ℕ) → List Entry → Type 0) (managed : List Managed)
+    (specs : List IfSpec) (opening : OpeningMet) (mets : List Met) (index : IfIndex) (net : Net) : Type 0 where
   pub upstream : Managed
   pub among : Contains managed upstream
-  pub basis : ShareBasis (site_of managed specs opening upstream) index net (shown_of opening mets)
+  pub basis : ShareBasisOf Kind (site_of managed specs opening upstream) index net (shown_of opening mets)
+
+abbrev pub HasShareBasis : List Managed → List IfSpec → OpeningMet → List Met → IfIndex → Net → Type 0
+HasShareBasis managed specs opening mets index net = HasShareBasisOf ItemRests managed specs opening mets index net
 
 -- It has its basis on the interface itself, or on the one upstream.
 abbrev pub HasBasis : List Managed → List IfSpec → OpeningMet → List Met → IfIndex → Net → Type 0
@@ -119,6 +139,7 @@ AddressesHave Such opening mets = (index : IfIndex) (net : Net)
 -- a life of some turns
 pub record IsLife (managed : List Managed) (specs : List IfSpec) (opening : OpeningMet) (mets : List Met) : Type 0 where
   pub numbered : AreNumbered managed
+  pub named : AreNamedApart managed
   pub opens : IsOpening managed specs opening
   pub turns : AreMade managed opening.life mets
 

@@ -15,7 +15,7 @@ use Rattle.v6_options.specs.declared.ia.IaKind.TheVariants.{Na, Pd}
 use Rattle.evidence_words.specs.Entries.{Entry}
 use Rattle.evidence_words.specs.Inputs.{Site}
 use Rattle.evidence_words.specs.IfaceLives.{now_in}
-use Rattle.lease6_evidence.specs.ItemBasis.{ItemBasis}
+use Rattle.lease6_evidence.specs.HeldItems.{IsPlain6, ItemRests}
 use Rattle.lease6_evidence.specs.Laws6.{Names}
 use Rattle.lease6_evidence.specs.Replies6.{asks_at}
 use Rattle.evidence.specs.ShareBasis.{ShareBasis}
@@ -39,12 +39,12 @@ NeedsDelegation = SharesNothing (λ site index past. AllByRecursion (λ (ia : Ia
 -- No prefix that it asks for has its basis. So a share ends with the prefix.
 abbrev pub NeedsPrefix : Type 0
 NeedsPrefix = SharesNothing (λ site index past. (ask : IaAsk) (prefix : Net6) → Contains (asks_at site) ask → ask.kind ≡ Pd
-    → ItemBasis site ask prefix (now_in past) past → ⊥)
+    → ItemRests site ask prefix (now_in past) past → ⊥)
 
--- no good Reply named a prefix
+-- no good Reply named a prefix, and none of the kept lease may be held
 abbrev pub NeedsReplyWithIt : Type 0
-NeedsReplyWithIt = SharesNothing (λ site index past. Always (λ e earlier. (ask : IaAsk) (prefix : Net6) → ask.kind ≡ Pd
-    → Names site ask prefix e earlier → ⊥) past)
+NeedsReplyWithIt = SharesNothing (λ site index past. IsPlain6 site
+    × Always (λ e earlier. (ask : IaAsk) (prefix : Net6) → ask.kind ≡ Pd → Names site ask prefix e earlier → ⊥) past)
 
 -- ---- the share
 

@@ -5,7 +5,8 @@ ghost use Rattle.client_model.specs.Clients.{rows_of};
 ghost use Rattle.turn_model.specs.Lives.{IsOpening, life_after};
 ghost use Rattle.evidence_words.specs.Entries.{shown_of};
 ghost use Rattle.evidence.specs.Endings.{EndsWithCarrier, EndsWithStop, StaticEndsWithStop, StaticIsConfigured, StaticNeedsCarrier, StaticWaitsForCarrier};
-ghost use Rattle.evidence.specs.HeldAddresses.{ForetoldAreMet, OpeningRests, OpeningStarts, TurnsRest};
+ghost use Rattle.evidence.specs.HeldAddresses.{ForetoldAreMet, OpeningRests, OpeningStarts, PlainOpeningStarts, TurnsRest};
+ghost use Rattle.evidence.specs.KeptOwn.{KeptAreOwn};
 ghost use Rattle.evidence.specs.Laws.{AddressesHaveBasis, AreMade, CountedAreNumbered, OthersHaveBasis, site_of};
 ghost use Rattle.local_evidence.specs.LinkLocalBasis.{LinkLocalBasis};
 ghost use Rattle.evidence.specs.SevenTurns.{chosen_net, interface, opens, seven_shown, seven_turns};
@@ -13,9 +14,10 @@ ghost use Rattle.evidence.specs.ShareNeeds.{NeedsAnotherInterface, NeedsDelegati
 
 /// Law: over every list of turns and outcomes, each address that the client wants has its basis in what the life showed
 /// of its interface: a static address, a choice that passed its probes (RFC 3927, sections 2.2.1 and 2.5), or a lease that a
-/// server granted, of DHCPv4 (RFC 2131, section 4.4) or of DHCPv6 (RFC 8415, section 18.2.10); or in what it showed of another
-/// interface, to which a server delegated the prefix of which the address is a share. Where neither protocol runs on its interface
-/// it is one of the first two, unless an interface that runs DHCPv6 has a share for it.
+/// server granted, of DHCPv4 (RFC 2131, section 4.4) or of DHCPv6 (RFC 8415, section 18.2.10), or, under `persistent`, one
+/// that was kept with its origin and is asked for again; or in what it showed of another interface, to which a server
+/// delegated, or which so keeps, the prefix of which the address is a share. Where neither protocol runs on its interface it
+/// is one of the first two, unless an interface that runs DHCPv6 has a share for it.
 pub fn addresses_have_a_basis()
     ensures each { AddressesHaveBasis }
     ensures without_dhcp { OthersHaveBasis }
@@ -30,10 +32,17 @@ pub fn held_addresses_have_a_basis()
     ensures foretold { ForetoldAreMet }
 {}
 
-/// Law: at the opening of a life, whatever leases were kept, the addresses that the client wants are static ones alone, each of an
-/// interface that has carrier.
+/// Law: at the opening of a life, whatever leases were kept, the addresses that the client wants are static ones alone, each
+/// of an interface that has carrier, where no interface has `persistent`; and else besides those of leases that were kept
+/// for an interface with `persistent`, and are asked for again.
 pub fn openings_want_static_addresses_alone()
-    ensures { OpeningStarts }
+    ensures plain { PlainOpeningStarts }
+    ensures each { OpeningStarts }
+{}
+
+/// Law: a lease that was kept counts for an interface with its name and the hardware address to which it was granted alone.
+pub fn kept_leases_are_own()
+    ensures { KeptAreOwn }
 {}
 
 /// Law: no address has a basis as a static one without carrier, nor after a stop, nor where it isn't configured.

@@ -2,7 +2,7 @@
 use Rattle.std.proofs.Common.{◌≡◌, ℕ, ◌<◌, ◌^◌, Bool, true, false, List, [], ◌∷◌}
 use Rattle.std.specs.Prelude.{IfSome}
 use Rattle.net_types.specs.declared.address.Mac.{Mac}
-use Rattle.lease_text.specs.Bounds.{FitsLease}
+use Rattle.lease_text.specs.Bounds.{HasText}
 use Rattle.lease6_text.specs.Bounds.{HasText6}
 use Rattle.world.specs.declared.wakes.Event.{Event}
 use Rattle.world.specs.declared.wakes.Event.TheVariants.{Quiet}
@@ -20,7 +20,7 @@ use Rattle.evidence_words.specs.Inputs.{Site, index_at}
 use Rattle.evidence_words.proofs.Offers.{Offered}
 
 abbrev pub at_site : List Mac → Bool → Beginning → Site
-at_site own up b = record { managed = b.managed; duid = b.duid; own = own; up = up }
+at_site own up b = record { managed = b.managed; duid = b.duid; own = own; up = up; kept4 = b.kept4; kept6 = b.kept6 }
 
 abbrev pub entry : (at : ℕ) → Event → List ℕ → List Offer → Entry
 entry at event bytes offers = record { moment = at; event = event; bytes = bytes; offers = offers }
@@ -46,7 +46,7 @@ pub record Shows (Counted : Type 0) (site : Site) (clean : Type 0) (e : Entry) (
 -- an opening begins it, whatever leases were kept, and each turn keeps it
 pub record IsCarried (Counted : Type 0) (Carries : Relation) : Type 1 where
   pub opens : (own : List Mac) (clean : Type 0) (at salt : ℕ) → at < 10 ^ 15 → (offers : List Offer) (b : Beginning)
-      → IfSome b.kept4 FitsLease → IfSome b.kept6 HasText6 → (up : Bool)
+      → IfSome b.kept4 HasText → IfSome b.kept6 HasText6 → (up : Bool)
       → Shows Counted (at_site own up b) clean (entry at Quiet [] offers) (opened_when up at salt b).said
       → Carries (at_site own up b) clean (opened_when up at salt b).iface (entry at Quiet [] offers ∷ [])
   pub turns : (site : Site) (clean : Type 0) (salt : ℕ) (e : Entry) → e.moment < 10 ^ 15 → (past : List Entry) (unsent : ℕ) (f : Iface)

@@ -1,5 +1,5 @@
 mod EachCall
-mod DuidsRead
+pub mod FilesRead
 pub mod Carrying
 pub mod Made
 pub mod Offers

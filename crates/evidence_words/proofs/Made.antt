@@ -1,5 +1,5 @@
 -- What a turn that was made shows: the frames of the client's step with their outcomes, and what the life keeps of them.
-use Rattle.std.proofs.Common.{◌≡◌, ℕ, suc, Bool, List, [], ◌∷◌, ◌++◌, length, Option, None, refl, ap, ◌∙◌, append-nil}
+use Rattle.std.proofs.Common.{◌≡◌, ℕ, suc, Bool, List, [], ◌∷◌, ◌++◌, length, Option, None, refl, sym, ap, subst, ◌∙◌, append-nil}
 use Rattle.std.proofs.lemmas.Grind.{flat_map-append}
 use Rattle.std.specs.Prelude.{flat_map}
 use Rattle.std.specs.List.{AllByRecursion}
@@ -18,6 +18,7 @@ use Rattle.device_calls.specs.Calls.{Call, Host, Store, Hook, Dropped}
 use Rattle.device_calls.specs.Programs.{Asks, Done, after, Answers, calls_with, result_with, Makes}
 use Rattle.device_calls.proofs.Programs.{MakesBoth, makes_both}
 use Rattle.hook_child.specs.Supervision.{Supervision}
+use Rattle.turn_model.specs.FilesInLife.{AreNamedApart}
 use Rattle.turn_model.specs.Hooking.{hooking, polling}
 use Rattle.turn_model.specs.KeptFiles.{KeptFile, keeping}
 use Rattle.turn_model.specs.Loading.{loading, reading_if, duid_file, FilesLoaded, loading_files}
@@ -25,7 +26,7 @@ use Rattle.turn_model.specs.Turns.{Life, Outlook, marked, offering, hosting, act
 use Rattle.turn_model.specs.Opening.{clearing, outlook_from, opening_step, opening_asks}
 use Rattle.evidence_words.specs.Entries.{Offer, offer_in}
 use Rattle.evidence_words.specs.HostDuids.{duid_read}
-use Rattle.evidence_words.proofs.DuidsRead.{behind, clearing_other, files_read, acting_other}
+use Rattle.evidence_words.proofs.FilesRead.{IsOther, IsShown, acting_other, clearing_other, duid_is, leases_shown}
 use Rattle.evidence_words.proofs.EachCall.{IsNoRead, Each, reading_resolver, done_each, clearing_each, hosting_each, hooking_each, keeping_each, polling_each, reading_each, loading_each, resolver_each}
 
 -- ---- the frames with their outcomes
@@ -218,8 +219,9 @@ pub record OpeningShown (managed : List Managed) (specs : List IfSpec) (begin : 
   pub files : FilesLoaded
   pub reads : List Call
   pub makes : Makes (loading_files managed) reads files
-  -- the DUID's file was read so
+  -- the DUID's file was read so, and, where no two interfaces have one name, those of their leases
   pub duid : duid_read calls ≡ files.duid
+  pub leases : AreNamedApart managed → AllByRecursion (IsShown calls) files.ifaces
   pub shown : Shown (opening_step managed files specs begin) (moment_of begin.at) calls life
 
 pub opening_shows : (managed : List Managed) (specs : List IfSpec) (begin : Begin) (calls : List Call) (life : Life)
@@ -232,14 +234,17 @@ opening_shows managed specs begin calls life makes =
     let two : MakesBoth (loading_files managed) acts one.later life = makes_both (loading_files managed) acts one.later life one.makes_later in
     let shown =
     acting_shows managed (outlook_from managed two.between) (opening_step managed two.between specs begin) (moment_of begin.at) None two.later life two.makes_later in
+    let all : calls ≡ one.first ++ (two.first ++ two.later) = one.calls_are ∙ ap (λ (rest : List Call). one.first ++ rest) two.calls_are in
+    let before : (file : List ℕ) → AllByRecursion (IsOther file) one.first = λ file. clearing_other file one.first tt one.makes_first in
+    let behind : (file : List ℕ) → AllByRecursion (IsOther file) two.later =
+    λ file. acting_other file managed (outlook_from managed two.between) (opening_step managed two.between specs begin) (moment_of begin.at) None two.later life two.makes_later in
     record {
       files = two.between;
       reads = two.first;
       makes = two.makes_first;
-      duid = ap duid_read one.calls_are ∙ behind one.first one.later (clearing_other one.first tt one.makes_first)
-          ∙ ap duid_read two.calls_are ∙ files_read managed two.first two.later two.between two.makes_first
-          (acting_other managed (outlook_from managed two.between) (opening_step managed two.between specs begin) (moment_of begin.at) None
-          two.later life two.makes_later);
+      duid = ap duid_read all ∙ duid_is managed one.first two.first two.later two.between two.makes_first before behind;
+      leases = λ apart. subst (λ (cs : List Call). AllByRecursion (IsShown cs) two.between.ifaces) (sym all)
+          (leases_shown managed one.first two.first two.later two.between two.makes_first before behind apart);
       shown = record {
         taken = shown.taken;
         answered = shown.answered;

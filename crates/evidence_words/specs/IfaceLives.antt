@@ -33,6 +33,8 @@ site_of own beginning opening = record {
   duid = beginning.duid;
   own = own;
   up = is_up opening.up beginning.managed.spec.index.number;
+  kept4 = beginning.kept4;
+  kept6 = beginning.kept6;
 }
 
 abbrev pub opening_entry : Opening → Entry

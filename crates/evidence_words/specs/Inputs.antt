@@ -5,19 +5,23 @@ use Rattle.net_types.specs.declared.address.Ip4.{Ip4}
 use Rattle.net_types.specs.declared.address.Mac.{Mac}
 use Rattle.frame_link.specs.declared.arp.ArpView.{ArpView}
 use Rattle.arp_acd.specs.Conflict.{is_used, is_contested}
+use Rattle.lease_text.specs.Leases.{LeaseContent}
+use Rattle.lease6_text.specs.Leases.{Lease6Content}
 use Rattle.world.specs.declared.wakes.Event.{Event}
 use Rattle.world.specs.declared.wakes.Event.TheVariants.{Frame, Carrier, Release, Stop}
 use Rattle.settings.specs.declared.interfaces.Managed.{Managed}
 use Rattle.client_model.specs.IfaceTurns.{arp_heard}
 use Rattle.evidence_words.specs.Entries.{Offer, Entry, offers_on}
 
--- what is known of an interface when a life begins: its settings, the DUID of the host, the hardware addresses of all interfaces,
--- managed or not (RFC 5227, section 2.1.1), and whether it has carrier
+-- what is known of an interface when a life begins: its settings, the DUID of the host, the hardware addresses of all
+-- interfaces, managed or not (RFC 5227, section 2.1.1), whether it has carrier, and its own leases that were kept
 pub record Site : Type 0 where
   pub managed : Managed
   pub duid : List ℕ
   pub own : List Mac
   pub up : Bool
+  pub kept4 : Option LeaseContent
+  pub kept6 : Option Lease6Content
 
 abbrev pub index_at : Site → ℕ
 index_at site = site.managed.spec.index.number

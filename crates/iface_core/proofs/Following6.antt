@@ -9,7 +9,7 @@ use Rattle.v4_client.specs.declared.states.Tell.{Tell}
 use Rattle.v6_client.specs.declared.states.Carrier6.{Carrier6}
 use Rattle.v6_client.specs.declared.states.Carrier6.TheVariants.{Down}
 use Rattle.v6_client.specs.declared.states.Tell6.{Tell6}
-use Rattle.v6_client.specs.Calls.{Hears, IsContested, carrier_step, rebind_step, release_step}
+use Rattle.v6_client.specs.Calls.{Hears, IsCarried, IsContested, rebind_step, release_step}
 use Rattle.v6_client.specs.declared.states.News6.{News6}
 use Rattle.v6_client.specs.declared.states.News6.TheVariants as news6
 use Rattle.v6_client.specs.Clients.{ClientContent, holds}
@@ -81,7 +81,7 @@ module _ (old : Iface) (client : ClientContent) (at salt : ℕ) (before after : 
       (tick_runs old.dhcp6 client at salt out ticks ∙ ap (λ (a : ℕ). tick_turned a salt old.dhcp6) told)
       (settings_stay old.dhcp6 at salt).tick (ticks_held old.dhcp6 at salt)
 
-  pub goes_carrier6 : (carrier : Carrier6) (out : OutContent) → IsStep6 (carrier_step carrier (moment_of at) salt old.dhcp6) None old.dhcp6 client out
+  pub goes_carrier6 : (carrier : Carrier6) (out : OutContent) → IsCarried carrier (moment_of at) salt old.dhcp6 client out
       → Follows6 out (with_client old client) before after
       → Goes (dhcp6_step old (carrier_turned carrier at salt old.dhcp6)) (with_client old client) before after
   goes_carrier6 carrier out is =

@@ -34,7 +34,7 @@ use Rattle.client_model.specs.ClientSettings.{runs_dhcp4}
 use Rattle.client_model.specs.ClientSettings6.{runs_dhcp6}
 use Rattle.client_model.specs.IfaceSteps.{IfaceStep, index_of, silent, then_step}
 use Rattle.client_model.specs.LocalSteps.{armed, armed_for_lease, chooses_local, fallback_of, local_hears, tick_local}
-use Rattle.client_model.specs.Dhcp4Steps.{arms, arrival_at, begin_dhcp4, dhcp4_packet, dhcp4_step, followed, holds_lease, rebind_dhcp4, tick_dhcp4}
+use Rattle.client_model.specs.Dhcp4Steps.{arms, arrival_at, begin_dhcp4, begin_local, dhcp4_packet, dhcp4_step, followed, holds_lease, rebind_dhcp4, tick_dhcp4}
 use Rattle.client_model.specs.Dhcp6Steps.{begin_dhcp6, contested, dhcp6_step, rebind_dhcp6, tick_dhcp6}
 use Rattle.client_model.specs.Interfaces.{resting, begins, machines_rebind, carrier_at_opening, carrier_comes, carrier_goes, opened, restarted, unsent_in, ticked, carried, released, rebound, halted}
 use Rattle.client_model.specs.IfaceTurns.{Turn, hears, hears_either, hears_message, hears_message6, hears_packet, arp_heard, taken, input_step, iface_turned}
@@ -89,10 +89,12 @@ followed_in conf at held news.Stop local h = h
 tick_local_stays : (at salt : ℕ) (iface : Iface) → StepStays iface (tick_local at salt iface)
 tick_local_stays at salt iface = record { managed = refl; local = λ h. (step_in [] iface.local.iface iface.local.state (Tick at salt) h).chosen }
 
+begin_local_stays : (at : ℕ) (iface : Iface) → StepStays iface (begin_local at iface)
+begin_local_stays at iface = record { managed = refl; local = armed_in iface.managed.conf at iface.local }
+
 arms_stays : (at : ℕ) (iface : Iface) → StepStays iface (arms at iface)
 arms_stays at iface =
-    gated (StepStays iface) (holds_lease iface) (silent iface) (silent (record iface { local = armed iface.managed.conf at iface.local })) (itself iface)
-    (record { managed = refl; local = armed_in iface.managed.conf at iface.local })
+    gated (StepStays iface) (holds_lease iface) (silent iface) (begin_local at iface) (itself iface) (begin_local_stays at iface)
 
 -- ---- DHCPv4
 
@@ -139,9 +141,9 @@ ticked_stays at salt iface =
 
 pub begins_stays : (at salt : ℕ) (iface : Iface) → StepStays iface (begins at salt iface)
 begins_stays at salt iface =
-    let both : IfaceStep = then_step (begin_dhcp4 at salt iface) (arms at) in
+    let both : IfaceStep = then_step (begin_dhcp4 at salt iface) (begin_local at) in
     both_stays iface both (begin_dhcp6 at salt)
-    (both_stays iface (begin_dhcp4 at salt iface) (arms at) (begin_stays at salt iface) (arms_stays at (begin_dhcp4 at salt iface).iface))
+    (both_stays iface (begin_dhcp4 at salt iface) (begin_local at) (begin_stays at salt iface) (begin_local_stays at (begin_dhcp4 at salt iface).iface))
     (begin6_stays at salt both.iface)
 
 comes_stays : (at salt : ℕ) (iface : Iface) → StepStays iface (carrier_comes at salt iface)

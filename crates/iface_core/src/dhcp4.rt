@@ -101,6 +101,7 @@ fn settings_of(alloc: Global, managed: &Managed, duid: &Duid) -> Result<Set4, Al
         required: conf.dhcp4.required.to_vec(alloc)?,
         refused: conf.dhcp4.refused.to_vec(alloc)?,
         blacklist: conf.dhcp4.blacklist.to_vec(alloc)?,
+        persistent: conf.persistent,
     })
 }
 

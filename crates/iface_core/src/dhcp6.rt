@@ -59,6 +59,7 @@ fn settings6_of(alloc: Global, managed: &Managed, duid: Duid) -> Result<Set6, Al
         ias: asks_of(alloc, &conf.dhcp6.ias)?,
         nodelay: conf.nodelay,
         rapid: conf.dhcp6.rapid,
+        persistent: conf.persistent,
     })
 }
 

@@ -21,7 +21,7 @@ ghost use Rattle.iface_core.specs.Outcomes.{Goes, asked_in};
 use crate::beginnings::Beginning;
 use crate::dhcp4::{begin_dhcp4, client_of, drop_dhcp4, rebind_dhcp4, stop_dhcp4};
 use crate::dhcp6::{begin_dhcp6, client6_of, drop_dhcp6, rebind_dhcp6, stop_dhcp6};
-use crate::local::{arm_unless_held, drop_local};
+use crate::local::{arm_unless_held, begin_local, drop_local};
 use crate::outs::Outs;
 use client_model::{Iface, TimedMachine};
 use ipv4ll::{ll_held, ll_off};
@@ -105,7 +105,7 @@ fn begin(iface: &mut Iface, at: u64, salt: u64, outs: &mut Outs) -> Result<(), N
     ensures { OnOk result (Goes (run.begins at salt iface.old) iface.new (asked_in outs.old) (asked_in outs.new)) }
 {
     begin_dhcp4(iface, at, salt, outs)?;
-    arm_unless_held(iface, at);
+    begin_local(iface, at);
     begin_dhcp6(iface, at, salt, outs)
 }
 

@@ -5,7 +5,7 @@ ghost use Rattle.machine.specs.Moment.{is_due};
 ghost use Rattle.settings.specs.Fitting.{FitsManaged};
 ghost use Rattle.ipv4ll.specs.Table.{due_of, off};
 ghost use Rattle.client_model.specs.LocalSteps as run;
-ghost use Rattle.client_model.specs.Dhcp4Steps.{arms};
+ghost use Rattle.client_model.specs.Dhcp4Steps.{arms, begin_local};
 ghost use Rattle.client_model.specs.IfaceSteps.{silent};
 ghost use Rattle.iface_core.specs.Outcomes.{Goes, asked_in};
 
@@ -60,6 +60,14 @@ pub fn arm(conf: &IfConf, local: &mut LinkLocal, at: u64)
     } else if chooses_local(conf) {
         ll_arm(local, at, Waits::ForNothing, Fallback::Choose);
     }
+}
+
+/// Arms link-local as the machines begin, also where the DHCPv4 client stands on its kept lease.
+pub fn begin_local(iface: &mut Iface, at: u64)
+    requires { IsMoment at }
+    ensures { begin_local at iface.old ≡ silent iface.new }
+{
+    arm(&iface.managed.conf, &mut iface.local, at);
 }
 
 /// Arms link-local where no lease is held.

@@ -14,7 +14,7 @@ use Rattle.v6_options.specs.declared.ia.IaKind.TheVariants.{Na, Pd}
 use Rattle.v6_message.specs.Replies.{Content6}
 use Rattle.lease6_text.specs.declared.lease.Item6.{Item6}
 use Rattle.lease6_text.specs.Bounds.{FitsIas, ia_key}
-use Rattle.lease6_text.specs.Leases.{IaLeaseContent}
+use Rattle.lease6_text.specs.Leases.{IaLeaseContent, Lease6Content}
 use Rattle.lease6_text.specs.LineParts.{is_ia, is_same_kind}
 use Rattle.lease6_text.proofs.Apart.{Apart, apart_from}
 use Rattle.v6_client.specs.declared.settings.IaAsk.{IaAsk}
@@ -44,8 +44,25 @@ pub record GivesUntil (site : Site) (ask : IaAsk) (net : Net6) (until : Option �
   pub some : 0 < mentions.said.valid
   pub until_is : until ≡ moment_after e.moment mentions.said.valid
 
-pub record HeldItem (site : Site) (kind : IaKind) (iaid now : ℕ) (past : List Entry) (item : Item6) : Type 0 where
-  pub since : Since (Leaves site (key_ask kind iaid) item.net) (GivesUntil site (key_ask kind iaid) item.net item.valid) past
+-- the lease that was kept for the interface has the item in an IA of this kind and IAID
+pub record IsKeptItem (site : Site) (kind : IaKind) (iaid : ℕ) (item : Item6) : Type 0 where
+  pub lease : Lease6Content
+  pub kept : site.kept6 ≡ Some lease
+  pub ia : IaLeaseContent
+  pub among : Contains lease.ias ia
+  pub kind_is : ia.kind ≡ kind
+  pub iaid_is : ia.iaid ≡ iaid
+  pub of_ia : Contains ia.items item
+
+-- Where the client stands on that lease, it has the item. Else a Reply gave it.
+abbrev pub RestsBy : Site → (stood : Bool) → IaKind → (iaid : ℕ) → List Entry → Item6 → Type 0
+RestsBy site true kind iaid past item = IsKeptItem site kind iaid item
+RestsBy site false kind iaid past item =
+    Since (Leaves site (key_ask kind iaid) item.net) (GivesUntil site (key_ask kind iaid) item.net item.valid) past
+
+pub record HeldItem (site : Site) (stood : Bool) (kind : IaKind) (iaid now : ℕ) (past : List Entry) (item : Item6) : Type
+    0 where
+  pub rests : RestsBy site stood kind iaid past item
   pub live : is_live now item ≡ true
 
 -- an IA that is asked for
@@ -55,12 +72,12 @@ pub record AskedBy (asks : List IaAsk) (kind : IaKind) (iaid : ℕ) : Type 0 whe
   pub kind_is : kind ≡ ask.kind
   pub iaid_is : iaid ≡ ask.iaid
 
-pub record HeldIa (site : Site) (now : ℕ) (past : List Entry) (ia : IaLeaseContent) : Type 0 where
+pub record HeldIa (site : Site) (stood : Bool) (now : ℕ) (past : List Entry) (ia : IaLeaseContent) : Type 0 where
   pub asked : AskedBy (asks_at site) ia.kind ia.iaid
-  pub items : AllByRecursion (HeldItem site ia.kind ia.iaid now past) ia.items
+  pub items : AllByRecursion (HeldItem site stood ia.kind ia.iaid now past) ia.items
 
-abbrev pub HeldIas : Site → (now : ℕ) → List Entry → List IaLeaseContent → Type 0
-HeldIas site now past ias = AllByRecursion (HeldIa site now past) ias
+abbrev pub HeldIas : Site → (stood : Bool) → (now : ℕ) → List Entry → List IaLeaseContent → Type 0
+HeldIas site stood now past ias = AllByRecursion (HeldIa site stood now past) ias
 
 -- ---- the moment until which it is valid
 
@@ -120,23 +137,23 @@ module _ (site : Site) (ask : IaAsk) (net : Net6) where
       since_both (Leaves site key net) (GivesUntil site key net until) (Leaves site ask net) (Gives site ask net now) leaves
       (gives until now live) past h
 
--- an item that is held has its basis
+-- an item that a Reply gave has its basis
 pub item_basis : (site : Site) (kind : IaKind) (iaid now : ℕ) (past : List Entry) (item : Item6)
-    (by : AskedBy (asks_at site) kind iaid) → HeldItem site kind iaid now past item
+    (by : AskedBy (asks_at site) kind iaid) → HeldItem site false kind iaid now past item
     → ItemBasis site by.ask item.net now past
 item_basis site kind iaid now past item by held =
     basis_of site by.ask item.net item.valid now past held.live
     (subst (λ (k : IaKind). Since (Leaves site (key_ask k by.ask.iaid) item.net)
     (GivesUntil site (key_ask k by.ask.iaid) item.net item.valid) past) by.kind_is
     (subst (λ (n : ℕ). Since (Leaves site (key_ask kind n) item.net) (GivesUntil site (key_ask kind n) item.net item.valid)
-    past) by.iaid_is held.since))
+    past) by.iaid_is held.rests))
 
 -- ---- which items stay
 
 abbrev pub StaysAll : Cause6 → IaLeaseContent → Type 0
 StaysAll cause ia = AllByRecursion (λ item. stays_in cause ia.kind item ≡ true) ia.items
 
-filter_stays : (cause : Cause6) (kind : IaKind) (items : List Item6) → AllByRecursion (λ item. stays_in cause kind item ≡ true)
+pub filter_stays : (cause : Cause6) (kind : IaKind) (items : List Item6) → AllByRecursion (λ item. stays_in cause kind item ≡ true)
     (staying cause kind items)
 filter_stays cause kind [] = tt
 filter_stays cause kind (item ∷ items) =
@@ -175,16 +192,16 @@ without_stays cause ias =
     (all_of (λ ia. StaysAll cause (record { kind = ia.kind; iaid = ia.iaid; items = staying cause ia.kind ia.items })) ias
     (λ ia. filter_stays cause ia.kind ia.items))
 
-pub without_held : (site : Site) (now : ℕ) (past : List Entry) (cause : Cause6) (ias : List IaLeaseContent)
-    → HeldIas site now past ias
-    → HeldIas site now past (without cause ias)
-without_held site now past cause ias held =
-    without_all cause (HeldIa site now past) (with_some (HeldIa site now past)) ias
-    (all_map (HeldIa site now past)
-    (λ ia. HeldIa site now past (record { kind = ia.kind; iaid = ia.iaid; items = staying cause ia.kind ia.items }))
+pub without_held : (site : Site) (stood : Bool) (now : ℕ) (past : List Entry) (cause : Cause6) (ias : List IaLeaseContent)
+    → HeldIas site stood now past ias
+    → HeldIas site stood now past (without cause ias)
+without_held site stood now past cause ias held =
+    without_all cause (HeldIa site stood now past) (with_some (HeldIa site stood now past)) ias
+    (all_map (HeldIa site stood now past)
+    (λ ia. HeldIa site stood now past (record { kind = ia.kind; iaid = ia.iaid; items = staying cause ia.kind ia.items }))
     (λ ia h. record {
       asked = h.asked;
-      items = filter_all (HeldItem site ia.kind ia.iaid now past) (stays_in cause ia.kind)
+      items = filter_all (HeldItem site stood ia.kind ia.iaid now past) (stays_in cause ia.kind)
           ia.items h.items;
     }) ias held)
 
@@ -263,10 +280,10 @@ ia_stays cause asks ias none ia by found =
     (subst (λ (items : List Item6). list_any (λ item. is_in scope.All item && not (stays_in cause ia.kind item)) items ≡ false)
     found at_key)
 
-pub none_goes : (cause : Cause6) (site : Site) (now : ℕ) (past : List Entry) (ias : List IaLeaseContent) → FitsIas ias
-    → HeldIas site now past ias
+pub none_goes : (cause : Cause6) (site : Site) (stood : Bool) (now : ℕ) (past : List Entry) (ias : List IaLeaseContent)
+    → FitsIas ias → HeldIas site stood now past ias
     → list_any (goes_of cause scope.All ias) (asks_at site) ≡ false → AllByRecursion (StaysAll cause) ias
-none_goes cause site now past ias fits held none =
-    all_both (HeldIa site now past) (IsFound ias) (StaysAll cause) (λ ia h found. ia_stays cause (asks_at site) ias none ia
+none_goes cause site stood now past ias fits held none =
+    all_both (HeldIa site stood now past) (IsFound ias) (StaysAll cause) (λ ia h found. ia_stays cause (asks_at site) ias none ia
     h.asked found) ias held
     (all_found ias (apart_from KeysUnlike ias fits.unlike))

@@ -1,5 +1,5 @@
 -- Each call of a client keeps what it carries of the exchanges shown.
-use Rattle.std.proofs.Common.{◌≡◌, ℕ, Bool, true, false, ◌&&◌, List, ◌∷◌, Option, Some, None, refl, sym, ap, subst, is_some}
+use Rattle.std.proofs.Common.{◌≡◌, ℕ, Bool, true, false, not, ◌&&◌, List, ◌∷◌, Option, Some, None, refl, sym, ap, subst, is_some}
 use Rattle.std.specs.Prelude.{option_map}
 use Rattle.machine.specs.Moment.{is_due}
 use Rattle.net_types.proofs.CaseLaws.{gated}
@@ -9,6 +9,8 @@ use Rattle.v6_message.specs.declared.kind.ServerKind6.TheVariants.{Advertise, Re
 use Rattle.v6_message.specs.Replies.{Content6}
 use Rattle.v6_retrans.specs.declared.parameters.TheConstants.{DECLINE}
 use Rattle.lease6_text.specs.Leases.{IaLeaseContent, Lease6Content}
+use Rattle.v6_client.specs.declared.exchange.Exchange6.{Exchange6}
+use Rattle.v6_client.specs.declared.settings.IaAsk.{IaAsk}
 use Rattle.v6_client.specs.declared.states.Carrier6.{Carrier6}
 use Rattle.v6_client.specs.declared.states.Carrier6.TheVariants.{Up, Down}
 use Rattle.v6_client.specs.declared.states.Cause6.{Cause6}
@@ -22,12 +24,12 @@ use Rattle.v6_client.specs.declared.states.Tell6.{Tell6}
 use Rattle.v6_client.specs.declared.turn.Turn6.{Turn6}
 use Rattle.v6_client.specs.Answers.{advertise_answer, counts, learnt}
 use Rattle.v6_client.specs.Hearing.{is_kept_offer}
-use Rattle.v6_client.specs.Calls.{dates_in, due_of, parting_begun}
-use Rattle.v6_client.specs.Clients.{ClientContent, PleaContent, holds}
+use Rattle.v6_client.specs.Calls.{dates_in, due_of, parting_begun, stands_at}
+use Rattle.v6_client.specs.Clients.{ClientContent, PleaContent, holds, is_at_end, is_restarting}
 use Rattle.v6_client.specs.Exchanges.{begun, rand_in}
-use Rattle.v6_client.specs.Inputs.{duplicate_row}
+use Rattle.v6_client.specs.Inputs.{begin_row, duplicate_row}
 use Rattle.v6_client.specs.Items.{ias_of}
-use Rattle.v6_client.specs.Moves.{given_up, kept_live, lapsed, parting_at, plea_after, plea_lapsed, thinned_lease}
+use Rattle.v6_client.specs.Moves.{given_up, kept_left, lapsed, parting_at, plea_after, plea_lapsed, thinned_lease}
 use Rattle.v6_client.specs.Runs.{Turned6, answered, carrier_turned, contested_turned, hears_turned, rebind_turned, release_turned, rested, stepped, tick_turned}
 use Rattle.v6_client.specs.Saying.{lease_server, plea_server}
 use Rattle.v6_client.specs.Settings.{SettingsContent}
@@ -38,7 +40,7 @@ use Rattle.evidence_words.specs.Entries.{Entry}
 use Rattle.evidence_words.specs.Inputs.{Site}
 use Rattle.lease6_evidence.specs.Exchanges6.{Numbered6, Seen6, seen6_in, shows6}
 use Rattle.lease6_evidence.specs.Replies6.{message6_at}
-use Rattle.lease6_evidence.proofs.ExchangeStates.{Counted6, Follows6, LastXid6, On6, Watched6, client_with}
+use Rattle.lease6_evidence.proofs.ExchangeStates.{Counted6, Follows6, LastXid6, On6, Watched6, client_with, pruned_kept}
 use Rattle.lease6_evidence.proofs.Hearing6.{finish6, hears_final, silent_no}
 use Rattle.lease6_evidence.proofs.Steps6.{message_in}
 use Rattle.lease6_evidence.proofs.Watching6.{begin_after, declines_keeping, off_after, rebind_after, release_after, seen6, tick_after}
@@ -50,11 +52,15 @@ thin_server : (cause : Cause6) (kept : Option Lease6Content) → lease_server (o
 thin_server cause None = refl
 thin_server cause (Some lease) = refl
 
-live_server : (at : ℕ) (parting : Parting6) (kept : Option Lease6Content)
-    → lease_server (kept_live at parting kept) ≡ lease_server kept
-live_server at parting kept =
-    gated (λ (k : Option Lease6Content). lease_server k ≡ lease_server kept) parting.stays _ _ (thin_server (Lapse at) kept)
-    refl
+left_server : (cause : Cause6) (parting : Parting6) (kept : Option Lease6Content)
+    → lease_server (kept_left cause parting kept) ≡ lease_server kept
+left_server cause parting kept =
+    gated (λ (k : Option Lease6Content). lease_server k ≡ lease_server kept) parting.stays _ _ (thin_server cause kept) refl
+
+pruned_server : (at : ℕ) (asks : List IaAsk) (kept : Option Lease6Content)
+    → lease_server (pruned_kept at asks kept) ≡ lease_server kept
+pruned_server at asks None = refl
+pruned_server at asks (Some lease) = refl
 
 lapse_server : (at : ℕ) (ias : List IaLeaseContent) (plea : Option PleaContent)
     → plea_server (option_map (plea_lapsed at ias) plea) ≡ plea_server plea
@@ -65,9 +71,9 @@ lapse_server at ias (Some plea) = refl
 
 module _ (site : Site) (past : List Entry) (count : ℕ) (current : Option Numbered6)
     (counted : Counted6 site (seen6 count current) past)
-    (last : Option ℕ) (sol_max : ℕ) (last_is : LastXid6 last current) (at salt : ℕ) where
+    (unspent : Bool) (last : Option ℕ) (sol_max : ℕ) (last_is : LastXid6 last current) (at salt : ℕ) where
   abbrev c : State6 → Option Lease6Content → Option PleaContent → ClientContent
-  c state kept plea = client_with site last sol_max state kept plea
+  c state kept plea = client_with site unspent last sol_max state kept plea
 
   abbrev turn : Turn6
   turn = record { site = site6_of site.managed; last = last; sol_max = sol_max; at = at; salt = salt }
@@ -90,7 +96,7 @@ module _ (site : Site) (past : List Entry) (count : ℕ) (current : Option Numbe
   plea_on Bound kept plea on = on
   plea_on (Renewing exchange) kept plea on = on
   plea_on (Rebinding exchange) kept plea on = on
-  plea_on (Restarting exchange end since) kept plea on = on
+  plea_on (Restarting exchange end since stands) kept plea on = on
   plea_on (Declining exchange) kept plea on = on
 
   rests_call : (state : State6) (kept : Option Lease6Content) (plea : Option PleaContent) → OnIn state kept plea
@@ -105,11 +111,11 @@ module _ (site : Site) (past : List Entry) (count : ℕ) (current : Option Numbe
 
   on_lapsed : (parting : Parting6) (state : State6) (kept : Option Lease6Content) (plea : Option PleaContent)
       → OnIn state kept plea
-      → OnIn state (kept_live at parting kept) (option_map (plea_lapsed at (ias_of kept)) plea)
+      → OnIn state (kept_left (Lapse at) parting kept) (option_map (plea_lapsed at (ias_of kept)) plea)
   on_lapsed parting state kept plea on =
       subst (λ (server : Option (List ℕ)). On6 site state server (plea_server (option_map (plea_lapsed at (ias_of kept)) plea))
       current past)
-      (sym (live_server at parting kept))
+      (sym (left_server (Lapse at) parting kept))
       (subst (λ (server : Option (List ℕ)). On6 site state (lease_server kept) server current past)
       (sym (lapse_server at (ias_of kept) plea)) on)
 
@@ -120,7 +126,7 @@ module _ (site : Site) (past : List Entry) (count : ℕ) (current : Option Numbe
       let parting : Parting6 = parting_at (Lapse at) (c state kept plea) in
       let dates : Dates6 = dates_in (c state kept plea) in
       gated (λ (before : ClientContent). AfterCall (stepped (tick_row turn dates parting state) None before))
-      (holds state && parting.goes) _ _
+      (holds state && parting.goes && not (is_at_end at state)) _ _
       (ticks dates parting state _ _ (on_lapsed parting state kept plea on)) (ticks dates parting state kept plea on)
 
   pub tick_call : (state : State6) (kept : Option Lease6Content) (plea : Option PleaContent) → OnIn state kept plea
@@ -134,8 +140,15 @@ module _ (site : Site) (past : List Entry) (count : ℕ) (current : Option Numbe
       → AfterCall (carrier_turned carrier at salt (c state kept plea))
   unfolding carrier_turned
   carrier_call Up state kept plea on =
-      begin_after site past count current counted kept plea turn last_is (parting_begun at (c state kept plea)) state
-      (plea_on state kept plea on)
+      let before : ClientContent = c state kept plea in
+      let stands : Bool = stands_at at before in
+      let parting : Parting6 = parting_begun at before in
+      let less : Option Lease6Content = pruned_kept at before.settings.asks kept in
+      gated (λ (d : ClientContent). AfterCall (stepped (begin_row turn stands parting state) None d)) stands _ _
+      (begin_after site past count current counted less plea turn last_is stands parting state
+      (plea_on state less plea (subst (λ (server : Option (List ℕ)). On6 site state server (plea_server plea) current past)
+      (sym (pruned_server at before.settings.asks kept)) on)))
+      (begin_after site past count current counted kept plea turn last_is stands parting state (plea_on state kept plea on))
   carrier_call Down state kept plea on = off_after site past count current counted kept plea turn last_is
 
   pub release_call : (tell : Tell6) (state : State6) (kept : Option Lease6Content) (plea : Option PleaContent)
@@ -171,6 +184,13 @@ module _ (site : Site) (past : List Entry) (count : ℕ) (current : Option Numbe
       declines_keeping site past count current counted kept plea turn last_is (begun turn DECLINE (rand_in turn))
       (keep_by (parts true stays)) news.Changed
 
+  -- in a restart whose items are held it isn't declined
+  missed_call : (address : Ip6) (stays : Bool) (exchange : Exchange6) (end since : ℕ) (kept : Option Lease6Content)
+      (plea : Option PleaContent) → OnIn (Restarting exchange end since true) kept plea
+      → Contests address true stays (Restarting exchange end since true) kept plea
+  missed_call address true exchange end since kept plea on = record { counted = counted; last_is = last_is; on = on }
+  missed_call address false exchange end since kept plea on = record { counted = counted; last_is = last_is; on = tt }
+
   contests : (address : Ip6) (goes stays : Bool) (state : State6) (kept : Option Lease6Content) (plea : Option PleaContent)
       → OnIn state kept plea
       → Contests address goes stays state kept plea
@@ -184,8 +204,11 @@ module _ (site : Site) (past : List Entry) (count : ℕ) (current : Option Numbe
   contests address false stays (Renewing exchange) kept plea on = unmoved (Renewing exchange) kept plea on
   contests address true stays (Rebinding exchange) kept plea on = declined address stays _ _
   contests address false stays (Rebinding exchange) kept plea on = unmoved (Rebinding exchange) kept plea on
-  contests address goes stays (Restarting exchange end since) kept plea on = unmoved (Restarting exchange end since) kept plea
-      on
+  contests address true stays (Restarting exchange end since true) kept plea on = missed_call address stays exchange end since kept plea on
+  contests address false stays (Restarting exchange end since true) kept plea on =
+      unmoved (Restarting exchange end since true) kept plea on
+  contests address goes stays (Restarting exchange end since false) kept plea on =
+      unmoved (Restarting exchange end since false) kept plea on
   contests address true stays (Declining exchange) kept plea on = declined address stays _ _
   contests address false stays (Declining exchange) kept plea on = unmoved (Declining exchange) kept plea on
 
@@ -206,11 +229,11 @@ Keeps6 site past call = (c : ClientContent) (seen : Seen6) → Watched6 site c s
 
 -- a client is as its parts are
 same_client : (site : Site) (c : ClientContent) → c.settings ≡ settings6_of site.duid site.managed
-    → c ≡ client_with site c.last c.sol_max c.state c.kept c.plea
+    → c ≡ client_with site c.fresh c.last c.sol_max c.state c.kept c.plea
 same_client site c same = ap (λ (s : SettingsContent). record c { settings = s }) same
 
 pub by_parts : (site : Site) (P : ClientContent → Type 0) (c : ClientContent) → c.settings ≡ settings6_of site.duid site.managed
-    → P (client_with site c.last c.sol_max c.state c.kept c.plea) → P c
+    → P (client_with site c.fresh c.last c.sol_max c.state c.kept c.plea) → P c
 by_parts site P c same h = subst P (sym (same_client site c same)) h
 
 module _ (site : Site) (past : List Entry) (at salt : ℕ) where
@@ -218,14 +241,20 @@ module _ (site : Site) (past : List Entry) (at salt : ℕ) where
   unfolding tick_turned
   tick_settings c =
       gated (λ (turned : Turned6). turned.client.settings ≡ c.settings) (is_due (due_of c) at) _ _
-      (gated (λ (before : ClientContent). before.settings ≡ c.settings) (holds c.state && (parting_at (Lapse at) c).goes) _ _
-      refl refl) refl
+      (gated (λ (before : ClientContent). before.settings ≡ c.settings)
+      (holds c.state && (parting_at (Lapse at) c).goes && not (is_at_end at c.state)) _ _ refl refl) refl
 
   contested_settings : (address : Ip6) (c : ClientContent) → (contested_turned address at salt c).client.settings ≡ c.settings
   unfolding contested_turned
   contested_settings address c =
       gated (λ (before : ClientContent). before.settings ≡ c.settings)
-      (holds c.state && (parting_at (Duplicate address) c).goes) _ _ refl refl
+      (holds c.state && (parting_at (Duplicate address) c).goes) _ _
+      (gated (λ (before : ClientContent). before.settings ≡ c.settings) (is_restarting c.state) _ _ refl refl) refl
+
+  carrier_settings : (carrier : Carrier6) (c : ClientContent) → (carrier_turned carrier at salt c).client.settings ≡ c.settings
+  unfolding carrier_turned
+  carrier_settings Up c = gated (λ (before : ClientContent). before.settings ≡ c.settings) (stands_at at c) _ _ refl refl
+  carrier_settings Down c = refl
 
   abbrev After : (ClientContent → Turned6) → Seen6 → ClientContent → Type 0
   After call seen c = Watched6 site (call c).client (shows6 (message_in site.managed.spec.mac site.duid (call c).out) seen) past
@@ -233,25 +262,24 @@ module _ (site : Site) (past : List Entry) (at salt : ℕ) where
   pub tick_keeps : Keeps6 site past (tick_turned at salt)
   tick_keeps c seen w =
       by_parts site (After (tick_turned at salt) seen) c w.settings (record {
-        settings = tick_settings (client_with site c.last c.sol_max c.state c.kept c.plea);
-        follows = tick_call site past seen.count seen.current w.follows.counted c.last c.sol_max w.follows.last_is at salt
+        settings = tick_settings (client_with site c.fresh c.last c.sol_max c.state c.kept c.plea);
+        follows = tick_call site past seen.count seen.current w.follows.counted c.fresh c.last c.sol_max w.follows.last_is at salt
             c.state c.kept c.plea w.follows.on;
       })
 
   pub carrier_keeps : (carrier : Carrier6) → Keeps6 site past (carrier_turned carrier at salt)
-  unfolding carrier_turned
   carrier_keeps carrier c seen w =
       by_parts site (After (carrier_turned carrier at salt) seen) c w.settings (record {
-        settings = refl;
-        follows = carrier_call site past seen.count seen.current w.follows.counted c.last c.sol_max w.follows.last_is at salt
+        settings = carrier_settings carrier (client_with site c.fresh c.last c.sol_max c.state c.kept c.plea);
+        follows = carrier_call site past seen.count seen.current w.follows.counted c.fresh c.last c.sol_max w.follows.last_is at salt
             carrier c.state c.kept c.plea w.follows.on;
       })
 
   pub contested_keeps : (address : Ip6) → Keeps6 site past (contested_turned address at salt)
   contested_keeps address c seen w =
       by_parts site (After (contested_turned address at salt) seen) c w.settings (record {
-        settings = contested_settings address (client_with site c.last c.sol_max c.state c.kept c.plea);
-        follows = contested_call site past seen.count seen.current w.follows.counted c.last c.sol_max w.follows.last_is at salt
+        settings = contested_settings address (client_with site c.fresh c.last c.sol_max c.state c.kept c.plea);
+        follows = contested_call site past seen.count seen.current w.follows.counted c.fresh c.last c.sol_max w.follows.last_is at salt
             address c.state c.kept c.plea w.follows.on;
       })
 
@@ -260,7 +288,7 @@ module _ (site : Site) (past : List Entry) (at salt : ℕ) where
   release_keeps tell c seen w =
       by_parts site (After (release_turned tell at salt) seen) c w.settings (record {
         settings = refl;
-        follows = release_call site past seen.count seen.current w.follows.counted c.last c.sol_max w.follows.last_is at salt
+        follows = release_call site past seen.count seen.current w.follows.counted c.fresh c.last c.sol_max w.follows.last_is at salt
             tell c.state c.kept c.plea;
       })
 
@@ -269,7 +297,7 @@ module _ (site : Site) (past : List Entry) (at salt : ℕ) where
   rebind_keeps c seen w =
       by_parts site (After (rebind_turned at salt) seen) c w.settings (record {
         settings = refl;
-        follows = rebind_call site past seen.count seen.current w.follows.counted c.last c.sol_max w.follows.last_is at salt
+        follows = rebind_call site past seen.count seen.current w.follows.counted c.fresh c.last c.sol_max w.follows.last_is at salt
             c.state c.kept c.plea w.follows.on;
       })
 
@@ -309,7 +337,7 @@ module _ (site : Site) (e : Entry) (past : List Entry) where
       (hears_turned at salt message before).out) seen
       → Watched6 site (hears_turned at salt message before).client (seen6_in site (e ∷ past)) (e ∷ past)) c w.settings
       (λ same. record {
-        settings = hears_settings at salt message (client_with site c.last c.sol_max c.state c.kept c.plea);
-        follows = hears_final site e past message came c.last c.sol_max c.kept c.plea at salt seen.count seen.current
+        settings = hears_settings at salt message (client_with site c.fresh c.last c.sol_max c.state c.kept c.plea);
+        follows = hears_final site e past message came c.fresh c.last c.sol_max c.kept c.plea at salt seen.count seen.current
             w.follows.counted w.follows.last_is c.state w.follows.on same;
       }) is

@@ -9,7 +9,7 @@ use Rattle.v6_client.specs.declared.states.State6.{State6}
 use Rattle.v6_client.specs.declared.states.State6.TheVariants.{Off}
 use Rattle.v6_client.specs.Answers.{takes_replies}
 use Rattle.v6_client.specs.Clients.{ClientContent, holds}
-use Rattle.v6_client.specs.Runs.{Turned6, contested_turned, hears_turned, tick_turned}
+use Rattle.v6_client.specs.Runs.{Turned6, carrier_turned, contested_turned, hears_turned, tick_turned}
 use Rattle.v6_client.specs.Saying.{lease_server, plea_server}
 use Rattle.v6_client.specs.Sound.{IsSound}
 use Rattle.v6_client.proofs.StayingRuns.{settings_stay, sound_stays}
@@ -19,7 +19,7 @@ use Rattle.evidence_words.specs.Entries.{Entry}
 use Rattle.evidence_words.specs.Inputs.{Site}
 use Rattle.lease6_evidence.specs.Exchanges6.{Seen6, seen6_in, shows6}
 use Rattle.lease6_evidence.specs.Replies6.{asks_at, message6_at}
-use Rattle.lease6_evidence.proofs.ExchangeStates.{Watched6}
+use Rattle.lease6_evidence.proofs.ExchangeStates.{Watched6, stood}
 use Rattle.lease6_evidence.proofs.Calls6.{by_parts, carrier_keeps, contested_keeps, heard_watched, rebind_keeps, release_keeps, silent_watched, tick_keeps}
 use Rattle.lease6_evidence.proofs.FieldRuns6.{BytesFor, Fields6, Result6, run_fields, tick_fields}
 use Rattle.lease6_evidence.proofs.Fields6.{FitsAsk6}
@@ -53,7 +53,7 @@ module _ (site : Site) (fits : FitsSite site) where
       → Result6 site (tick_turned at salt c)
   tick_result at salt c same f =
       by_parts site (λ (d : ClientContent). Fields6 d → Result6 site (tick_turned at salt d)) c same
-      (λ f. tick_fields site fits.mac fits.duid fits.asks c.last c.sol_max at salt c.state c.kept c.plea f) f
+      (λ f. tick_fields site fits.mac fits.duid fits.asks c.fresh c.last c.sol_max at salt c.state c.kept c.plea f) f
 
   pub tick_carries : (now at salt : ℕ) (seen : Seen6) (past : List Entry) (c : ClientContent) → Carries6 site now seen past c
       → Carries6 site at (shows6 (message_in site.managed.spec.mac site.duid (tick_turned at salt c).out) seen) past
@@ -73,7 +73,7 @@ module _ (site : Site) (fits : FitsSite site) where
       → c.settings ≡ settings6_of site.duid site.managed → IsSound c → Fields6 c → Result6 site (run6 call at salt c)
   call_result call at salt c octets same sound f =
       by_parts site (λ (d : ClientContent). IsSound d → Fields6 d → Result6 site (run6 call at salt d)) c same
-      (λ s f. run_fields site fits.mac fits.duid fits.asks c.last c.sol_max at salt call octets c.state c.kept c.plea s.kept f)
+      (λ s f. run_fields site fits.mac fits.duid fits.asks c.fresh c.last c.sol_max at salt call octets c.state c.kept c.plea s.kept f)
       sound f
 
   module _ (e : Entry) (early : e.moment < 10 ^ 15) (past : List Entry) (salt : ℕ) (seen : Seen6) (c : ClientContent)
@@ -105,7 +105,7 @@ module _ (site : Site) (fits : FitsSite site) where
     result call octets = call_result call e.moment salt c octets k.watched.settings k.sound k.fields
 
     rests_holds : Goes6 site e past → message6_at site e ≡ None → Holds6 site e.moment (e ∷ past) c
-    rests_holds goes none holding = ias_stay site e past goes (no_first none) _ (k.holds holding)
+    rests_holds goes none holding = ias_stay site e past (stood c.state) goes (no_first none) _ (k.holds holding)
 
     -- a client that is off hears nothing
     off_after : c.state ≡ Off → seen6_in site (e ∷ past) ≡ seen → Carries6 site e.moment (seen6_in site (e ∷ past)) (e ∷ past) c
@@ -143,7 +143,7 @@ module _ (site : Site) (fits : FitsSite site) where
         → seen6_in site (e ∷ past) ≡ shows6 (message_in site.managed.spec.mac site.duid
         (hears_turned e.moment salt message d).out) seen
         → Holds6 site e.moment (e ∷ past) (hears_turned e.moment salt message d).client) c k.watched.settings
-        (λ w s held is. hears_holds site e past message came goes c.last c.sol_max c.state c.kept c.plea seen s.kept salt
+        (λ w s held is. hears_holds site e past message came goes c.fresh c.last c.sol_max c.state c.kept c.plea seen s.kept salt
         w.follows.on held is)
         k.watched k.sound k.holds same
 
@@ -153,38 +153,48 @@ module _ (site : Site) (fits : FitsSite site) where
         by_parts site
         (λ (d : ClientContent). IsSound d → Holds6 site e.moment past d
         → Holds6 site e.moment (e ∷ past) (contested_turned address e.moment salt d).client) c k.watched.settings
-        (λ s held. contested_holds site e past address salt c.last c.sol_max c.state c.kept c.plea goes (no_first none) s.kept
+        (λ s held. contested_holds site e past address salt c.fresh c.last c.sol_max c.state c.kept c.plea goes (no_first none) s.kept
         held) k.sound k.holds
 
+    -- a client that may yet stand keeps what was kept
+    begun_after : Goes6 site e past → message6_at site e ≡ None → (c.fresh ≡ true → c.kept ≡ site.kept6)
+        → Holds6 site e.moment (e ∷ past) (carrier_turned Up e.moment salt c).client
+    begun_after goes none was =
+        by_parts site
+        (λ (d : ClientContent). (d.fresh ≡ true → d.kept ≡ site.kept6) → Holds6 site e.moment past d
+        → Holds6 site e.moment (e ∷ past) (carrier_turned Up e.moment salt d).client) c k.watched.settings
+        (λ was held. begin_holds site e past salt c.fresh c.last c.sol_max c.state c.kept c.plea goes (no_first none) was held)
+        was k.holds
+
     pub call_carries : (call : Call6) → FitsCall6 site e past call → BytesFor call → (call ≡ Ignores → c.state ≡ Off)
-        → After (run6 call e.moment salt c)
-    call_carries Ignores fit octets off same = off_after (off refl) same
-    call_carries Rests fit octets off same = silent_after (run6 Rests e.moment salt c) fit.1 k.watched k.sound
+        → (c.fresh ≡ true → c.kept ≡ site.kept6) → After (run6 call e.moment salt c)
+    call_carries Ignores fit octets off was same = off_after (off refl) same
+    call_carries Rests fit octets off was same = silent_after (run6 Rests e.moment salt c) fit.1 k.watched k.sound
         (result Rests octets) (rests_holds fit.0 fit.1) same
-    call_carries (Hears message) fit octets off same = record {
+    call_carries (Hears message) fit octets off was same = record {
       watched = heard_watched site e past e.moment salt c seen message fit.1 same k.watched;
       sound = (sound_stays c e.moment salt k.sound).message message (grants_fit c message e.moment early k.sound octets);
       fields = (result (Hears message) octets).client;
       holds = heard_holds message fit.1 fit.0 same;
     }
-    call_carries Begins fit octets off same =
+    call_carries Begins fit octets off was same =
         silent_after (run6 Begins e.moment salt c) fit.1 (carrier_keeps site past e.moment salt Up c seen k.watched)
         ((sound_stays c e.moment salt k.sound).carrier Up) (result Begins octets)
-        (begin_holds site e past salt c fit.0 (no_first fit.1) k.holds) same
-    call_carries Drops fit octets off same =
+        (begun_after fit.0 fit.1 was) same
+    call_carries Drops fit octets off was same =
         silent_after (run6 Drops e.moment salt c) fit (carrier_keeps site past e.moment salt Down c seen k.watched)
         ((sound_stays c e.moment salt k.sound).carrier Down) (result Drops octets)
         (drop_holds site e past salt c) same
-    call_carries (Contests address) fit octets off same =
+    call_carries (Contests address) fit octets off was same =
         silent_after (run6 (Contests address) e.moment salt c) fit.1 (contested_keeps site past e.moment salt address c seen
         k.watched)
         ((sound_stays c e.moment salt k.sound).duplicate address) (result (Contests address) octets)
         (contested_after address fit.0 fit.1) same
-    call_carries (Releases tell) fit octets off same =
+    call_carries (Releases tell) fit octets off was same =
         silent_after (run6 (Releases tell) e.moment salt c) fit (release_keeps site past e.moment salt tell c seen k.watched)
         ((sound_stays c e.moment salt k.sound).release tell) (result (Releases tell) octets)
         (release_holds site e past tell salt c) same
-    call_carries Rebinds fit octets off same =
+    call_carries Rebinds fit octets off was same =
         silent_after (run6 Rebinds e.moment salt c) fit.1 (rebind_keeps site past e.moment salt c seen k.watched)
         (sound_stays c e.moment salt k.sound).rebind (result Rebinds octets)
         (rebind_holds site e past salt c fit.0 (no_first fit.1) k.holds) same

@@ -77,7 +77,7 @@ carrier_case : (test up before : Bool) → before ≡ true → (if test then up 
 carrier_case true up before b a on = opposite up (on refl b) a
 carrier_case false up before b a on = opposite before b a
 
-lost_goes : (index : ℕ) (event : Event) (before : Bool) → before ≡ true → carrier_after index event before ≡ false
+pub lost_goes : (index : ℕ) (event : Event) (before : Bool) → before ≡ true → carrier_after index event before ≡ false
     → GoesOn before index event → ⊥
 lost_goes index (Frame other len) before b a on = opposite before b a
 lost_goes index (Carrier other up) before b a on =

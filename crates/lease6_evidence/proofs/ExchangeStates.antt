@@ -1,5 +1,6 @@
 -- What is known of the exchanges shown, beside the state of an interface's client.
 use Rattle.std.proofs.Common.{◌≡◌, ℕ, ◌<◌, Bool, true, false, List, Option, Some, None, IfSome}
+use Rattle.std.specs.Prelude.{option_map}
 use Rattle.machine.specs.Since.{Always}
 use Rattle.v6_message.specs.declared.kind.ServerKind6.TheVariants.{Reply}
 use Rattle.v6_message.specs.Replies.{Content6}
@@ -9,6 +10,9 @@ use Rattle.v6_client.specs.Answers as answers
 use Rattle.v6_client.specs.Answers.{counts, is_taken}
 use Rattle.lease6_text.specs.Leases.{Lease6Content}
 use Rattle.v6_client.specs.Clients.{ClientContent, PleaContent}
+use Rattle.v6_client.specs.Items.{pruned_ias}
+use Rattle.v6_client.specs.Moves.{lease_with}
+use Rattle.v6_client.specs.declared.settings.IaAsk.{IaAsk}
 use Rattle.v6_client.specs.Saying.{lease_server, plea_server}
 use Rattle.client_model.specs.ClientSettings6.{settings6_of}
 use Rattle.evidence_words.specs.Entries.{Entry}
@@ -62,7 +66,7 @@ On6 site (Requesting exchange) leased pleaded current past = Asking6 site exchan
 On6 site Bound leased pleaded current past = Answered6 site current past
 On6 site (Renewing exchange) leased pleaded current past = Asking6 site exchange.xid leased current past
 On6 site (Rebinding exchange) leased pleaded current past = Asking6 site exchange.xid None current past
-On6 site (Restarting exchange end since) leased pleaded current past = Asking6 site exchange.xid None current past
+On6 site (Restarting exchange end since stands) leased pleaded current past = Asking6 site exchange.xid None current past
 On6 site (Declining exchange) leased pleaded current past = current ≡ None
 
 -- The exchanges seen so far, beside a state, the transaction id of the last exchange and the two servers. `past` is the turns
@@ -73,16 +77,33 @@ pub record Follows6 (site : Site) (last : Option ℕ) (state : State6) (leased p
   pub last_is : LastXid6 last seen.current
   pub on : On6 site state leased pleaded seen.current past
 
+-- the kept lease without what isn't asked for again
+abbrev pub pruned_kept : (at : ℕ) → List IaAsk → Option Lease6Content → Option Lease6Content
+pruned_kept at asks kept = option_map (λ lease. lease_with (pruned_ias at lease.ias asks) lease) kept
+
+-- whether a client stands on the kept lease
+abbrev pub stood : State6 → Bool
+stood Off = false
+stood (Waiting due) = false
+stood (Soliciting exchange offer) = false
+stood (Requesting exchange) = false
+stood Bound = false
+stood (Renewing exchange) = false
+stood (Rebinding exchange) = false
+stood (Restarting exchange end since stands) = stands
+stood (Declining exchange) = false
+
 -- a client with an interface's settings
-abbrev pub client_with : Site → (last : Option ℕ) → (sol_max : ℕ) → State6 → Option Lease6Content → Option PleaContent
+abbrev pub client_with : Site → (unspent : Bool) → (last : Option ℕ) → (sol_max : ℕ) → State6 → Option Lease6Content → Option PleaContent
     → ClientContent
-client_with site last sol_max state kept plea = record {
+client_with site unspent last sol_max state kept plea = record {
   settings = settings6_of site.duid site.managed;
   last = last;
   sol_max = sol_max;
   state = state;
   kept = kept;
   plea = plea;
+  fresh = unspent;
 }
 
 pub record Watched6 (site : Site) (c : ClientContent) (seen : Seen6) (past : List Entry) : Type 0 where

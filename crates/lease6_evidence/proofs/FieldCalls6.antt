@@ -1,5 +1,5 @@
 -- Each call of a client keeps its numbers in range, and so is the message that it says.
-use Rattle.std.proofs.Common.{◌≡◌, ℕ, ◌+◌, ◌/◌, ◌%◌, ◌^◌, ◌<◌, ◌≤◌, Bool, true, List, length, Option, Some, None, IfSome, refl, arith, leb, lit<, bytes_eq}
+use Rattle.std.proofs.Common.{◌≡◌, ℕ, ◌+◌, ◌/◌, ◌%◌, ◌^◌, ◌<◌, ◌≤◌, Bool, true, false, List, length, Option, Some, None, IfSome, refl, arith, leb, lit<, bytes_eq}
 use Rattle.std.proofs.lemmas.Bool.{and_from}
 use Rattle.std.proofs.lemmas.Slice.Eq.{bytes_eq-Decides}
 use Rattle.std.specs.List.{AllByRecursion}
@@ -33,8 +33,8 @@ use Rattle.v6_client.specs.Hearing.{heard_row, is_better, is_taken_at_once, repl
 use Rattle.v6_client.specs.Inputs.{begin_row, begins, contested, duplicate_row, off_row, rebind_row, release_row, released, stops}
 use Rattle.v6_client.specs.Moves.{kept_after, plea_after}
 use Rattle.v6_client.specs.Saying.{spoken_by}
-use Rattle.v6_client.specs.Steps.{expires, is_last, loses, requests, rests, speaks, tells_parting, to_waiting}
-use Rattle.v6_client.specs.Ticks.{tick_row}
+use Rattle.v6_client.specs.Steps.{emptied, expires, is_last, requests, rests, speaks, tells_parting, to_waiting}
+use Rattle.v6_client.specs.Ticks.{restarting_tick, tick_row}
 use Rattle.v6_client.specs.Times.{elapsed}
 use Rattle.evidence_words.specs.Inputs.{Site}
 use Rattle.lease6_evidence.specs.Replies6.{asks_at}
@@ -52,7 +52,7 @@ FitsState6 (Requesting exchange) = exchange.xid < 2 ^ 24
 FitsState6 Bound = Unit {0}
 FitsState6 (Renewing exchange) = exchange.xid < 2 ^ 24
 FitsState6 (Rebinding exchange) = exchange.xid < 2 ^ 24
-FitsState6 (Restarting exchange end since) = exchange.xid < 2 ^ 24
+FitsState6 (Restarting exchange end since stands) = exchange.xid < 2 ^ 24
 FitsState6 (Declining exchange) = exchange.xid < 2 ^ 24
 
 pub record FitsSay (say : Say6) : Type 0 where
@@ -85,15 +85,22 @@ module _ (turn : Turn6) where
   either : (b : Bool) (one other : Step6) → FitsStep6 one → FitsStep6 other → FitsStep6 (if b then one else other)
   either b one other h k = gated FitsStep6 b one other h k
 
-  plain_fits : (keep : Keep6) (told : News6) (state : State6) (last : Option ℕ) → FitsState6 state
-      → FitsStep6 (record { state = state; last = last; keep = keep; say = None; news = told })
-  plain_fits keep told state last fits = record { state = fits; say = tt }
-
   parting_fits : (parting : Parting6) (step : Step6) → FitsStep6 step → FitsStep6 (tells_parting parting step)
   parting_fits parting step h = gated FitsStep6 parting.goes _ _ (record { state = h.state; say = h.say }) h
 
   waiting_fits : FitsStep6 (to_waiting turn)
   waiting_fits = record { state = tt; say = tt }
+
+  emptied_fits : (stands : Bool) → FitsStep6 (emptied turn stands)
+  emptied_fits stands = either stands _ _ (record { state = tt; say = tt }) (record { state = tt; say = tt })
+
+  restarting_fits : (parting : Parting6) (exchange : Exchange6) (end since : ℕ) (stands : Bool) → exchange.xid < 2 ^ 24
+      → FitsStep6 (restarting_tick turn parting exchange end since stands)
+  restarting_fits parting exchange end since stands h =
+      either (is_last parting) _ _ (emptied_fits stands) (either (leb end turn.at) _ _ (record { state = tt; say = tt })
+      (either (is_again_due turn exchange) _ _
+      (record { state = h; say = record { xid = h; elapsed = elapsed_fits exchange.began turn.at } })
+      (record { state = h; say = tt })))
 
   pub tick_fits : (dates : Dates6) (parting : Parting6) (state : State6) → FitsState6 state
       → FitsStep6 (tick_row turn dates parting state)
@@ -126,11 +133,9 @@ module _ (turn : Turn6) where
       (either (is_again_due turn exchange) _ _
       (record { state = h; say = record { xid = h; elapsed = elapsed_fits exchange.began turn.at } })
       (record { state = h; say = tt })))
-  tick_fits dates parting (Restarting exchange end since) h =
-      either (is_last parting) _ _ (record { state = tt; say = tt }) (either (leb end turn.at) _ _ waiting_fits
-      (either (is_again_due turn exchange) _ _
-      (record { state = h; say = record { xid = h; elapsed = elapsed_fits exchange.began turn.at } })
-      (record { state = h; say = tt })))
+  tick_fits dates parting (Restarting exchange end since true) h =
+      parting_fits parting _ (restarting_fits parting exchange end since true h)
+  tick_fits dates parting (Restarting exchange end since false) h = restarting_fits parting exchange end since false h
   tick_fits dates parting (Declining exchange) h =
       parting_fits parting _ (either (is_again_due turn exchange) _ _
       (either (is_used_up DECLINE exchange) _ _ (either parting.stays _ _ (record { state = tt; say = tt })
@@ -165,32 +170,34 @@ module _ (turn : Turn6) where
       (record { state = tt; say = tt }) h
   heard_fits a (Rebinding exchange) h = replied_fits news.Rebind (expires turn) (Rebinding exchange) a
       (record { state = tt; say = tt }) h
-  heard_fits a (Restarting exchange end since) h = replied_fits news.Reboot (loses turn) (Restarting exchange end since) a
-      (record { state = tt; say = tt }) h
+  heard_fits a (Restarting exchange end since stands) h = replied_fits news.Reboot (emptied turn stands)
+      (Restarting exchange end since stands) a (emptied_fits stands) h
   heard_fits answer.Keeps (Declining exchange) h = record { state = tt; say = tt }
   heard_fits answer.Empties (Declining exchange) h = record { state = tt; say = tt }
   heard_fits answer.Grants (Declining exchange) h = record { state = h; say = tt }
   heard_fits answer.Nothing (Declining exchange) h = record { state = h; say = tt }
   heard_fits (answer.Offer preference) (Declining exchange) h = record { state = h; say = tt }
 
-  begins_fits : (parting : Parting6) → FitsStep6 (begins turn parting)
-  begins_fits parting =
-      either parting.stays _ _
-      (record { state = new_small; say = record { xid = new_small; elapsed = elapsed_fits turn.at turn.at } }) waiting_fits
+  begins_fits : (stands : Bool) (parting : Parting6) → FitsStep6 (begins turn stands parting)
+  begins_fits stands parting =
+      gated (λ (step : Step6). FitsStep6 (record step { spends = true })) parting.stays _ _
+      (record { state = new_small; say = record { xid = new_small; elapsed = elapsed_fits turn.at turn.at } })
+      (record { state = tt; say = tt })
 
-  pub begin_fits : (parting : Parting6) (state : State6) → FitsState6 state → FitsStep6 (begin_row turn parting state)
-  begin_fits parting Off h = begins_fits parting
-  begin_fits parting (Waiting due) h = rests_fits (Waiting due) h
-  begin_fits parting (Soliciting exchange offer) h = rests_fits (Soliciting exchange offer) h
-  begin_fits parting (Requesting exchange) h = rests_fits (Requesting exchange) h
-  begin_fits parting Bound h = rests_fits Bound h
-  begin_fits parting (Renewing exchange) h = rests_fits (Renewing exchange) h
-  begin_fits parting (Rebinding exchange) h = rests_fits (Rebinding exchange) h
-  begin_fits parting (Restarting exchange end since) h = rests_fits (Restarting exchange end since) h
-  begin_fits parting (Declining exchange) h = rests_fits (Declining exchange) h
+  pub begin_fits : (stands : Bool) (parting : Parting6) (state : State6) → FitsState6 state
+      → FitsStep6 (begin_row turn stands parting state)
+  begin_fits stands parting Off h = begins_fits stands parting
+  begin_fits stands parting (Waiting due) h = rests_fits (Waiting due) h
+  begin_fits stands parting (Soliciting exchange offer) h = rests_fits (Soliciting exchange offer) h
+  begin_fits stands parting (Requesting exchange) h = rests_fits (Requesting exchange) h
+  begin_fits stands parting Bound h = rests_fits Bound h
+  begin_fits stands parting (Renewing exchange) h = rests_fits (Renewing exchange) h
+  begin_fits stands parting (Rebinding exchange) h = rests_fits (Rebinding exchange) h
+  begin_fits stands parting (Restarting exchange end since stood) h = rests_fits (Restarting exchange end since stood) h
+  begin_fits stands parting (Declining exchange) h = rests_fits (Declining exchange) h
 
   pub rebind_fits : (parting : Parting6) (state : State6) → FitsState6 state → FitsStep6 (rebind_row turn parting state)
-  rebind_fits parting Off h = begins_fits parting
+  rebind_fits parting Off h = begins_fits false parting
   rebind_fits parting (Waiting due) h = rests_fits (Waiting due) h
   rebind_fits parting (Soliciting exchange offer) h = rests_fits (Soliciting exchange offer) h
   rebind_fits parting (Requesting exchange) h = rests_fits (Requesting exchange) h
@@ -199,11 +206,11 @@ module _ (turn : Turn6) where
   rebind_fits parting (Renewing exchange) h =
       record { state = new_small; say = record { xid = new_small; elapsed = elapsed_fits turn.at turn.at } }
   rebind_fits parting (Rebinding exchange) h = rests_fits (Rebinding exchange) h
-  rebind_fits parting (Restarting exchange end since) h = rests_fits (Restarting exchange end since) h
+  rebind_fits parting (Restarting exchange end since stands) h = rests_fits (Restarting exchange end since stands) h
   rebind_fits parting (Declining exchange) h = rests_fits (Declining exchange) h
 
   pub off_fits : FitsStep6 (off_row turn)
-  off_fits = rests_fits Off tt
+  off_fits = record { state = tt; say = tt }
 
   contested_fits : (parting : Parting6) (state : State6) → FitsState6 state → FitsStep6 (contested turn parting state)
   contested_fits parting state h =
@@ -219,7 +226,10 @@ module _ (turn : Turn6) where
   duplicate_fits parting Bound h = contested_fits parting Bound h
   duplicate_fits parting (Renewing exchange) h = contested_fits parting (Renewing exchange) h
   duplicate_fits parting (Rebinding exchange) h = contested_fits parting (Rebinding exchange) h
-  duplicate_fits parting (Restarting exchange end since) h = rests_fits (Restarting exchange end since) h
+  duplicate_fits parting (Restarting exchange end since true) h =
+      parting_fits parting _ (either (is_last parting) _ _ (record { state = tt; say = tt })
+      (rests_fits (Restarting exchange end since true) h))
+  duplicate_fits parting (Restarting exchange end since false) h = rests_fits (Restarting exchange end since false) h
   duplicate_fits parting (Declining exchange) h = contested_fits parting (Declining exchange) h
 
   stops_fits : (tell : Tell6) → FitsStep6 (stops turn tell)
@@ -237,7 +247,8 @@ module _ (turn : Turn6) where
   release_fits tell held Bound = released_fits tell held
   release_fits tell held (Renewing exchange) = released_fits tell held
   release_fits tell held (Rebinding exchange) = released_fits tell held
-  release_fits tell held (Restarting exchange end since) = off_fits
+  release_fits tell held (Restarting exchange end since true) = released_fits tell held
+  release_fits tell held (Restarting exchange end since false) = off_fits
   release_fits tell held (Declining exchange) = released_fits tell held
 
 -- ---- the message of a step

@@ -1,5 +1,5 @@
 -- Over each call the numbers of a client stay in range, and what it says is.
-use Rattle.std.proofs.Common.{◌≡◌, ℕ, ◌≤◌, ◌⊎◌, inl, inr, Bool, true, false, ◌&&◌, List, [], ◌∷◌, length, Option, Some, None, IfSome, is_some, eqb}
+use Rattle.std.proofs.Common.{◌≡◌, ℕ, ◌≤◌, ◌⊎◌, inl, inr, Bool, true, false, not, ◌&&◌, List, [], ◌∷◌, length, Option, Some, None, IfSome, is_some, eqb}
 use Rattle.std.specs.List.{AllByRecursion}
 use Rattle.std.specs.Option.{option_and_then}
 use Rattle.std.specs.Prelude.{filter, option_map}
@@ -32,12 +32,12 @@ use Rattle.v6_client.specs.declared.states.Step6.{Step6}
 use Rattle.v6_client.specs.declared.states.Tell6.{Tell6}
 use Rattle.v6_client.specs.declared.turn.Turn6.{Turn6}
 use Rattle.v6_client.specs.Answers.{advertise_answer, counts, granted, is_taken, meeting_of, plea_offered, server_of, sol_max_with}
-use Rattle.v6_client.specs.Calls.{answer_in, dates_in, due_of, fresh_in, parting_begun}
-use Rattle.v6_client.specs.Clients.{ClientContent, PleaContent, holds, is_declining, scope_of}
+use Rattle.v6_client.specs.Calls.{answer_in, dates_in, due_of, fresh_in, parting_begun, stands_at}
+use Rattle.v6_client.specs.Clients.{ClientContent, PleaContent, holds, is_at_end, is_declining, is_restarting, met_scope}
 use Rattle.v6_client.specs.Hearing.{heard_row, is_kept_offer}
-use Rattle.v6_client.specs.Inputs.{duplicate_row}
-use Rattle.v6_client.specs.Items.{asked_at, ia_with, ias_of, is_nonempty, stays_in, staying, without}
-use Rattle.v6_client.specs.Moves.{parting_at, plea_by, plea_lapsed, thinned_lease}
+use Rattle.v6_client.specs.Inputs.{begin_row, duplicate_row}
+use Rattle.v6_client.specs.Items.{asked_at, ia_with, ias_of, is_nonempty, pruned_ia, pruned_ias, stays_in, staying, without}
+use Rattle.v6_client.specs.Moves.{kept_left, parting_at, plea_by, plea_lapsed, thinned_lease}
 use Rattle.v6_client.specs.Reading.{ia_for, is_unbound, saids_of}
 use Rattle.v6_client.specs.Runs.{Turned6, answered, carrier_turned, contested_turned, hears_turned, rebind_turned, release_turned, rested, stepped, tick_turned}
 use Rattle.v6_client.specs.Taking.{carried, ia_granted, ias_granted, is_carried, item_from, taken_by}
@@ -47,7 +47,7 @@ use Rattle.client_model.specs.ClientSettings6.{site6_of}
 use Rattle.evidence_words.specs.Inputs.{Site}
 use Rattle.lease6_evidence.specs.Replies6.{asks_at}
 use Rattle.lease6_evidence.proofs.Basis6.{filter_all, with_some, without_all}
-use Rattle.lease6_evidence.proofs.ExchangeStates.{client_with}
+use Rattle.lease6_evidence.proofs.ExchangeStates.{client_with, pruned_kept}
 use Rattle.lease6_evidence.proofs.FieldCalls6.{FitsState6, FitsStep6, begin_fits, duplicate_fits, heard_fits, kept_stays_fit, off_fits, plea_stays, rebind_fits, release_fits, say_fits, tick_fits}
 use Rattle.lease6_evidence.proofs.Fields6.{FitsAsk6, FitsKept, FitsNets, FitsPlea, all_lapsed, all_offered, asked_plea, duid_short, nets_at, nets_heard}
 use Rattle.lease6_evidence.proofs.Granted6.{filter_apart}
@@ -79,6 +79,31 @@ thin_fits : (cause : Cause6) (kept : Option Lease6Content) → IfSome kept FitsK
 thin_fits cause None fits = tt
 thin_fits cause (Some lease) fits = record { server = fits.server; nets = without_nets cause lease.ias fits.nets }
 
+left_fits : (cause : Cause6) (parting : Parting6) (kept : Option Lease6Content) → IfSome kept FitsKept
+    → IfSome (kept_left cause parting kept) FitsKept
+left_fits cause parting kept fits =
+    gated (λ (k : Option Lease6Content). IfSome k FitsKept) parting.stays _ _ (thin_fits cause kept fits) fits
+
+-- ---- the items that are asked for again
+
+one_pruned : (ask : IaAsk) (items : List Item6) → AllByRecursion (λ item. FitsNet ask.kind item.net) items
+    → AllByRecursion FitsNets (ia_with ask.kind ask.iaid items)
+one_pruned ask [] all = tt
+one_pruned ask (item ∷ items) all = (all, tt)
+
+pruned_nets : (at : ℕ) (ias : List IaLeaseContent) (asks : List IaAsk) → AllByRecursion FitsNets ias
+    → AllByRecursion FitsNets (pruned_ias at ias asks)
+pruned_nets at ias [] nets = tt
+pruned_nets at ias (ask ∷ asks) nets =
+    all_join FitsNets (pruned_ia at ias ask) (pruned_ias at ias asks)
+    (one_pruned ask _ (filter_all (λ item. FitsNet ask.kind item.net) (stays_in (Lapse at) ask.kind) (asked_at ask ias)
+    (nets_at ask.kind ask.iaid ias nets))) (pruned_nets at ias asks nets)
+
+pruned_fits : (at : ℕ) (asks : List IaAsk) (kept : Option Lease6Content) → IfSome kept FitsKept
+    → IfSome (pruned_kept at asks kept) FitsKept
+pruned_fits at asks None fits = tt
+pruned_fits at asks (Some lease) fits = record { server = fits.server; nets = pruned_nets at lease.ias asks fits.nets }
+
 plea_lapses : (at : ℕ) (ias : List IaLeaseContent) (plea : Option PleaContent) → IfSome plea FitsPlea
     → IfSome (option_map (plea_lapsed at ias) plea) FitsPlea
 plea_lapses at ias None fits = tt
@@ -90,9 +115,9 @@ pub record Result6 (site : Site) (turned : Turned6) : Type 0 where
   pub says : IfSome (message_in site.managed.spec.mac site.duid turned.out) (FitsOwn site)
 
 module _ (site : Site) (mac : FitsMac site.managed.spec.mac) (duid : length site.duid ≤ 130)
-    (asks : AllByRecursion FitsAsk6 (asks_at site)) (last : Option ℕ) (sol_max at salt : ℕ) where
+    (asks : AllByRecursion FitsAsk6 (asks_at site)) (unspent : Bool) (last : Option ℕ) (sol_max at salt : ℕ) where
   abbrev here : State6 → Option Lease6Content → Option PleaContent → ClientContent
-  here state kept plea = client_with site last sol_max state kept plea
+  here state kept plea = client_with site unspent last sol_max state kept plea
 
   abbrev turn : Turn6
   turn = record { site = site6_of site.managed; last = last; sol_max = sol_max; at = at; salt = salt }
@@ -124,9 +149,9 @@ module _ (site : Site) (mac : FitsMac site.managed.spec.mac) (duid : length site
       let step : Step6 = tick_row turn (dates_in c) parting state in
       let fits : FitsStep6 step = tick_fits turn (dates_in c) parting state f.state in
       gated (Result6 site) (is_due (due_of c) at) _ _
-      (gated (λ (before : ClientContent). Result6 site (stepped step None before)) (holds state && parting.goes) _ _
-      (step_fields step None state _ _ fits tt
-      (gated (λ (k : Option Lease6Content). IfSome k FitsKept) parting.stays _ _ (thin_fits (Lapse at) kept f.kept) f.kept)
+      (gated (λ (before : ClientContent). Result6 site (stepped step None before))
+      (holds state && parting.goes && not (is_at_end at state)) _ _
+      (step_fields step None state _ _ fits tt (left_fits (Lapse at) parting kept f.kept)
       (plea_lapses at (ias_of kept) plea f.plea))
       (step_fields step None state kept plea fits tt f.kept f.plea))
       (rested_fields state kept plea f)
@@ -136,8 +161,13 @@ module _ (site : Site) (mac : FitsMac site.managed.spec.mac) (duid : length site
       → Result6 site (carrier_turned carrier at salt (here state kept plea))
   unfolding carrier_turned
   carrier_fields Up state kept plea f =
-      step_fields _ None state kept plea (begin_fits turn (parting_begun at (here state kept plea)) state f.state) tt f.kept
-      f.plea
+      let c : ClientContent = here state kept plea in
+      let stands : Bool = stands_at at c in
+      let step : Step6 = begin_row turn stands (parting_begun at c) state in
+      let fits : FitsStep6 step = begin_fits turn stands (parting_begun at c) state f.state in
+      gated (λ (before : ClientContent). Result6 site (stepped step None before)) stands _ _
+      (step_fields step None state (pruned_kept at c.settings.asks kept) plea fits tt (pruned_fits at c.settings.asks kept f.kept) f.plea)
+      (step_fields step None state kept plea fits tt f.kept f.plea)
   carrier_fields Down state kept plea f = step_fields _ None state kept plea (off_fits turn) tt f.kept f.plea
 
   release_fields : (tell : Tell6) (state : State6) (kept : Option Lease6Content) (plea : Option PleaContent)
@@ -167,8 +197,10 @@ module _ (site : Site) (mac : FitsMac site.managed.spec.mac) (duid : length site
       let step : Step6 = duplicate_row turn parting state in
       let fits : FitsStep6 step = duplicate_fits turn parting state f.state in
       gated (λ (before : ClientContent). Result6 site (stepped step None before)) (holds state && parting.goes) _ _
+      (gated (λ (before : ClientContent). Result6 site (stepped step None before)) (is_restarting state) _ _
+      (step_fields step None state _ plea fits tt (left_fits (Duplicate address) parting kept f.kept) f.plea)
       (step_fields step None state _ _ fits tt (thin_fits (Duplicate address) kept f.kept)
-      (gated (λ (p : Option PleaContent). IfSome p FitsPlea) (is_declining state) _ _ f.plea (pleaded kept f.kept)))
+      (gated (λ (p : Option PleaContent). IfSome p FitsPlea) (is_declining state) _ _ f.plea (pleaded kept f.kept))))
       (step_fields step None state kept plea fits tt f.kept f.plea)
 
   -- ---- messages
@@ -286,7 +318,7 @@ module _ (site : Site) (mac : FitsMac site.managed.spec.mac) (duid : length site
     fresh_fits state kept plea within fits =
         gated (λ (lease : Option Lease6Content). IfSome lease FitsKept) (is_taken (here state kept plea) message) _ _
         (from_server state kept plea (server_of message) server_fits
-        (granted_nets (scope_of state) kept (kept_parts kept within) (kept_nets kept fits) (asks_at site))) tt
+        (granted_nets (met_scope state) kept (kept_parts kept within) (kept_nets kept fits) (asks_at site))) tt
 
     reply_fields : (state : State6) (kept : Option Lease6Content) (plea : Option PleaContent) → IfSome kept FitsLease6
         → Fields6 (here state kept plea)
@@ -310,32 +342,32 @@ BytesFor (Hears message) = AreBytes message.options
 BytesFor _ = Unit {0}
 
 module _ (site : Site) (mac : FitsMac site.managed.spec.mac) (duid : length site.duid ≤ 130)
-    (asks : AllByRecursion FitsAsk6 (asks_at site)) (last : Option ℕ) (sol_max at salt : ℕ) where
+    (asks : AllByRecursion FitsAsk6 (asks_at site)) (unspent : Bool) (last : Option ℕ) (sol_max at salt : ℕ) where
   hears_fields : (message : Content6) → AreBytes message.options → (state : State6) (kept : Option Lease6Content)
       (plea : Option PleaContent) → IfSome kept FitsLease6
-      → Fields6 (client_with site last sol_max state kept plea)
-      → Result6 site (hears_turned at salt message (client_with site last sol_max state kept plea))
+      → Fields6 (client_with site unspent last sol_max state kept plea)
+      → Result6 site (hears_turned at salt message (client_with site unspent last sol_max state kept plea))
   unfolding hears_turned
   hears_fields message octets state kept plea within f =
-      gated (Result6 site) (counts (client_with site last sol_max state kept plea) message) _ _
-      (kind_fields site mac duid asks last (sol_max_with message.sol_max sol_max) at salt message octets message.kind state
+      gated (Result6 site) (counts (client_with site unspent last sol_max state kept plea) message) _ _
+      (kind_fields site mac duid asks unspent last (sol_max_with message.sol_max sol_max) at salt message octets message.kind state
       kept plea within
       (record { state = f.state; plea = f.plea; kept = f.kept }))
-      (rested_fields site mac duid asks last sol_max at salt state kept plea f)
+      (rested_fields site mac duid asks unspent last sol_max at salt state kept plea f)
 
   pub run_fields : (call : Call6) → BytesFor call → (state : State6) (kept : Option Lease6Content) (plea : Option PleaContent)
       → IfSome kept FitsLease6
-      → Fields6 (client_with site last sol_max state kept plea)
-      → Result6 site (run6 call at salt (client_with site last sol_max state kept plea))
-  run_fields Ignores octets state kept plea within f = rested_fields site mac duid asks last sol_max at salt state kept plea f
-  run_fields Rests octets state kept plea within f = rested_fields site mac duid asks last sol_max at salt state kept plea f
+      → Fields6 (client_with site unspent last sol_max state kept plea)
+      → Result6 site (run6 call at salt (client_with site unspent last sol_max state kept plea))
+  run_fields Ignores octets state kept plea within f = rested_fields site mac duid asks unspent last sol_max at salt state kept plea f
+  run_fields Rests octets state kept plea within f = rested_fields site mac duid asks unspent last sol_max at salt state kept plea f
   run_fields (Hears message) octets state kept plea within f = hears_fields message octets state kept plea within f
-  run_fields Begins octets state kept plea within f = carrier_fields site mac duid asks last sol_max at salt Up state kept plea
+  run_fields Begins octets state kept plea within f = carrier_fields site mac duid asks unspent last sol_max at salt Up state kept plea
       f
-  run_fields Drops octets state kept plea within f = carrier_fields site mac duid asks last sol_max at salt Down state kept
+  run_fields Drops octets state kept plea within f = carrier_fields site mac duid asks unspent last sol_max at salt Down state kept
       plea f
-  run_fields (Contests address) octets state kept plea within f = contested_fields site mac duid asks last sol_max at salt
+  run_fields (Contests address) octets state kept plea within f = contested_fields site mac duid asks unspent last sol_max at salt
       address state kept plea f
-  run_fields (Releases tell) octets state kept plea within f = release_fields site mac duid asks last sol_max at salt tell
+  run_fields (Releases tell) octets state kept plea within f = release_fields site mac duid asks unspent last sol_max at salt tell
       state kept plea f
-  run_fields Rebinds octets state kept plea within f = rebind_fields site mac duid asks last sol_max at salt state kept plea f
+  run_fields Rebinds octets state kept plea within f = rebind_fields site mac duid asks unspent last sol_max at salt state kept plea f

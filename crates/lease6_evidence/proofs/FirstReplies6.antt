@@ -19,11 +19,11 @@ use Rattle.lease6_evidence.specs.Replies6.{FirstReply, NoReply, asks_at, message
 use Rattle.lease6_evidence.proofs.ExchangeStates.{Asking6, IsFirst, On6, Solicits6, Takes6, client_with}
 use Rattle.lease6_evidence.proofs.Hearing6.{Awaits, plain_awaits, solicit_awaits, taken_good, takes_good}
 
-module _ (site : Site) (e : Entry) (past : List Entry) (last : Option ℕ) (sol_max : ℕ) (kept : Option Lease6Content)
+module _ (site : Site) (e : Entry) (past : List Entry) (unspent : Bool) (last : Option ℕ) (sol_max : ℕ) (kept : Option Lease6Content)
     (plea : Option PleaContent)
     (seen : Seen6) (same : seen6_in site (e ∷ past) ≡ seen) where
   abbrev here : State6 → ClientContent
-  here state = client_with site last sol_max state kept plea
+  here state = client_with site unspent last sol_max state kept plea
 
   abbrev OnSeen : State6 → Option Numbered6 → Type 0
   OnSeen state current = On6 site state (lease_server kept) (plea_server plea) current past
@@ -38,7 +38,7 @@ module _ (site : Site) (e : Entry) (past : List Entry) (last : Option ℕ) (sol_
       → Asking6 site xid (chosen state (lease_server kept) (plea_server plea)) (Some opened) past
       → FirstReply site opened message e past → Takes6 (here state) message
   asked_first state xid opened message is always h first =
-      takes_good site message last sol_max kept plea state opened
+      takes_good site message unspent last sol_max kept plea state opened
       (plain_awaits site past last (lease_server kept) (plea_server plea) state xid opened is always h) first.good.good
       ((messages_serve (asks_at site) message).1 first.good.serves)
 
@@ -53,7 +53,8 @@ module _ (site : Site) (e : Entry) (past : List Entry) (last : Option ℕ) (sol_
       asked_first (Renewing exchange) exchange.xid opened message refl (λ rapid. refl) on first
   held_first (Rebinding exchange) opened message held on first =
       asked_first (Rebinding exchange) exchange.xid opened message refl (λ rapid. refl) on first
-  held_first (Restarting exchange end since) opened message held on first = absurd cc
+  held_first (Restarting exchange end since stands) opened message held on first =
+      asked_first (Restarting exchange end since stands) exchange.xid opened message refl (λ rapid. refl) on first
   held_first (Declining exchange) opened message held on first = absurd cc
 
   pub first_taken : (state : State6) (opened : Numbered6) (message : Content6) → holds state ≡ true → OnSeen state seen.current
@@ -71,7 +72,7 @@ module _ (site : Site) (e : Entry) (past : List Entry) (last : Option ℕ) (sol_
     first_of state x is awaits unanswered taken = record {
       opened = x;
       first = record {
-        good = taken_good site e past message came last sol_max kept plea state seen x same is awaits taken;
+        good = taken_good site e past message came unspent last sol_max kept plea state seen x same is awaits taken;
         first = unanswered;
       };
     }
@@ -120,6 +121,6 @@ module _ (site : Site) (e : Entry) (past : List Entry) (last : Option ℕ) (sol_
         refl on taken
     taken_first (Rebinding exchange) on taken = asked_taken (Rebinding exchange) exchange.xid refl (λ rapid. refl) seen.current
         refl on taken
-    taken_first (Restarting exchange end since) on taken =
-        asked_taken (Restarting exchange end since) exchange.xid refl (λ rapid. refl) seen.current refl on taken
+    taken_first (Restarting exchange end since stands) on taken =
+        asked_taken (Restarting exchange end since stands) exchange.xid refl (λ rapid. refl) seen.current refl on taken
     taken_first (Declining exchange) on taken = never_taken _ refl (taking (Declining exchange) taken)

@@ -1,5 +1,5 @@
 -- What the server's frames of the example say, and that the example is a life with a lease.
-use Rattle.std.proofs.Common.{◌≡◌, ◌≢◌, ℕ, zero, suc, ◌<◌, ◌≤◌, true, false, List, [], ◌∷◌, ◌++◌, length, map, Option, Some, None, refl, sym, ap, subst, ◌∙◌, lit<, lit≤, nat_lt, arith}
+use Rattle.std.proofs.Common.{◌≡◌, ◌≢◌, ℕ, zero, suc, ◌<◌, ◌≤◌, true, false, List, [], ◌∷◌, ◌++◌, length, map, inl, Option, Some, None, refl, sym, ap, subst, ◌∙◌, lit<, lit≤, nat_lt, arith}
 use Rattle.std.proofs.lemmas.Bool.{and_parts}
 use Rattle.std.proofs.lemmas.Bool.Decides.{nat_tests}
 use Rattle.std.specs.List.{Contains, list_all}
@@ -43,9 +43,10 @@ use Rattle.evidence_words.specs.IfaceLives.{IsLived, Met, iface_after, shown, si
 use Rattle.evidence_words.specs.Inputs.{Site}
 use Rattle.lease_evidence.specs.PlainIface.{client_mac}
 use Rattle.lease6_evidence.specs.FourMessages.{address, addresses, advertise, beginning, client_option, duid, from_client, from_server, granted, ias_given, interface, lease, met, offers, opening, prefix, prefixes, reply, request, server_option, solicit, three_turns}
-use Rattle.lease6_evidence.specs.HeldItems.{ItemHasBasis}
-use Rattle.lease6_evidence.specs.ItemBasis.{AddressBasis}
+use Rattle.lease6_evidence.specs.HeldItems.{HasItemBasis}
+use Rattle.lease6_evidence.specs.ItemBasis.{AddressBasis, ItemBasis}
 use Rattle.lease6_evidence.proofs.FourFrames.{held_items_have_basis}
+use Rattle.lease6_evidence.proofs.KeptProofs6.{plain_are_given}
 
 -- ---- bytes
 
@@ -290,14 +291,16 @@ beginning_fits = record {
 }
 
 module _ (ia : IaLeaseContent) (item : Item6) where
-  pub held_based : Contains lease.ias ia → Contains ia.items item → ItemHasBasis site ia item (shown opening three_turns)
-  held_based among within = held_items_have_basis own beginning opening three_turns lease ia item beginning_fits turns_lived turns_hold among within
+  pub held_based : Contains lease.ias ia → Contains ia.items item → HasItemBasis ItemBasis site ia item (shown opening three_turns)
+  held_based among within =
+      plain_are_given site ia item (shown opening three_turns) (inl refl)
+      (held_items_have_basis own beginning opening three_turns lease ia item beginning_fits tt turns_lived turns_hold among within)
 
 pub address_based : AddressBasis site (V6 granted) 2000 (shown opening three_turns)
 address_based =
-    let has : ItemHasBasis site addresses address (shown opening three_turns) =
+    let has : HasItemBasis ItemBasis site addresses address (shown opening three_turns) =
     held_based addresses address (0, lit< tt, refl) (0, lit< tt, refl) in
     record { ask = has.ask; asked = has.asked; is_address = sym has.kind; item = granted; is_item = refl; basis = has.basis }
 
-pub prefix_based : ItemHasBasis site prefixes prefix (shown opening three_turns)
+pub prefix_based : HasItemBasis ItemBasis site prefixes prefix (shown opening three_turns)
 prefix_based = held_based prefixes prefix (1, lit< tt, refl) (0, lit< tt, refl)

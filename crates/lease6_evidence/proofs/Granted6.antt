@@ -64,22 +64,22 @@ filter_apart test (x ∷ xs) apart =
 -- ---- the items that an IA had
 
 pub had_held : (site : Site) (now : ℕ) (past : List Entry) (kind : IaKind) (iaid : ℕ) (ias : List IaLeaseContent)
-    → HeldIas site now past ias
-    → AllByRecursion (HeldItem site kind iaid now past) (items_at kind iaid ias)
+    → HeldIas site false now past ias
+    → AllByRecursion (HeldItem site false kind iaid now past) (items_at kind iaid ias)
 had_held site now past kind iaid [] held = tt
 had_held site now past kind iaid (ia ∷ ias) held =
     split (is_ia (kind, iaid) ia)
     (λ e.
     let parts = and_parts (is_same_kind ia.kind kind) (eqb ia.iaid iaid) e in
-    rw e (subst (λ (k : IaKind). AllByRecursion (HeldItem site k iaid now past) ia.items) (kind_is ia.kind kind parts.0)
-    (subst (λ (n : ℕ). AllByRecursion (HeldItem site ia.kind n now past) ia.items) (eqb-true ia.iaid iaid parts.1)
+    rw e (subst (λ (k : IaKind). AllByRecursion (HeldItem site false k iaid now past) ia.items) (kind_is ia.kind kind parts.0)
+    (subst (λ (n : ℕ). AllByRecursion (HeldItem site false ia.kind n now past) ia.items) (eqb-true ia.iaid iaid parts.1)
     held.0.items)))
     (λ e. rw e (had_held site now past kind iaid ias held.1))
 
 -- where all items are held, each has its basis
 abbrev pub HeldBefore : Site → (now : ℕ) → List Entry → Scope6 → List IaLeaseContent → Type 0
 HeldBefore site now past scope.Nothing ias = Unit {0}
-HeldBefore site now past scope.All ias = HeldIas site now past ias
+HeldBefore site now past scope.All ias = HeldIas site false now past ias
 HeldBefore site now past (scope.Since at) ias = Unit {0}
 
 -- ---- a Reply
@@ -130,7 +130,7 @@ module _ (site : Site) (e : Entry) (past : List Entry) (message : Content6) (fir
 
     abbrev OldIn : Scope6 → Item6 → Type 0
     OldIn scope.Nothing item = ⊥
-    OldIn scope.All item = HeldItem site ask.kind ask.iaid e.moment past item
+    OldIn scope.All item = HeldItem site false ask.kind ask.iaid e.moment past item
     OldIn (scope.Since at) item = is_named saids item ≡ true
 
     abbrev Old : Scope6 → Item6 → Type 0
@@ -139,7 +139,7 @@ module _ (site : Site) (e : Entry) (past : List Entry) (message : Content6) (fir
     -- where all items are held, these are
     abbrev HeldIn : Scope6 → List Item6 → Type 0
     HeldIn scope.Nothing items = Unit {0}
-    HeldIn scope.All items = AllByRecursion (HeldItem site ask.kind ask.iaid e.moment past) items
+    HeldIn scope.All items = AllByRecursion (HeldItem site false ask.kind ask.iaid e.moment past) items
     HeldIn (scope.Since at) items = Unit {0}
 
     abbrev IsOld : Scope6 → Item6 → Type 0
@@ -196,19 +196,19 @@ module _ (site : Site) (e : Entry) (past : List Entry) (message : Content6) (fir
         (λ e. named_not item named (rw e at h) unnamed.1)
 
     abbrev After : Item6 → Type 0
-    After item = HeldItem site ask.kind ask.iaid e.moment (e ∷ past) item
+    After item = HeldItem site false ask.kind ask.iaid e.moment (e ∷ past) item
 
     old_after : (s : Scope6) (item : Item6) → OldIn s item → unbound ≡ false → Unnamed e.moment Brought saids item → After item
     old_after scope.Nothing item old bound unnamed = absurd old
     old_after scope.All item old bound unnamed = record {
-      since = inr (leaves_it item unnamed bound, old.since);
+      rests = inr (leaves_it item unnamed bound, old.rests);
       live =
           old.live;
     }
     old_after (scope.Since at) item named bound unnamed = absurd (named_not item saids named unnamed)
 
     item_after : (s : Scope6) (item : Item6) → (Brought item ⊎ (Old s item × Unnamed e.moment Brought saids item)) → After item
-    item_after s item (inl brought) = record { since = inl brought.0; live = brought.1 }
+    item_after s item (inl brought) = record { rests = inl brought.0; live = brought.1 }
     item_after s item (inr old) = old_after s item old.0.0 old.0.1 old.1
 
     pub items_after : (m : Meeting) → m.at ≡ e.moment → m.ias ≡ ias_in message.options
@@ -226,7 +226,7 @@ module _ (site : Site) (e : Entry) (past : List Entry) (message : Content6) (fir
   -- ---- the lease
 
   abbrev HeldNow : IaLeaseContent → Type 0
-  HeldNow ia = HeldIa site e.moment (e ∷ past) ia
+  HeldNow ia = HeldIa site false e.moment (e ∷ past) ia
 
   held_in : (ask : IaAsk) (among : Contains (asks_at site) ask) (s : Scope6) (ias : List IaLeaseContent)
       → HeldBefore site e.moment past s ias → HeldIn ask among s (asked_at ask ias)
@@ -235,7 +235,7 @@ module _ (site : Site) (e : Entry) (past : List Entry) (message : Content6) (fir
   held_in ask among (scope.Since at) ias held = tt
 
   with_items : (ask : IaAsk) → Contains (asks_at site) ask → (items : List Item6)
-      → AllByRecursion (HeldItem site ask.kind ask.iaid e.moment (e ∷ past)) items
+      → AllByRecursion (HeldItem site false ask.kind ask.iaid e.moment (e ∷ past)) items
       → AllByRecursion HeldNow (ia_with ask.kind ask.iaid items)
   with_items ask among [] held = tt
   with_items ask among (item ∷ items) held =

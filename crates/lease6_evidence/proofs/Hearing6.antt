@@ -120,8 +120,8 @@ module _ (site : Site) (e : Entry) (past : List Entry) (last : Option ℕ) (leas
       unheard on
   on_still (Rebinding exchange) current unheard on = asking_still (Rebinding exchange) exchange.xid current refl
       (λ rapid. refl) unheard on
-  on_still (Restarting exchange end since) current unheard on =
-      asking_still (Restarting exchange end since) exchange.xid current refl (λ rapid. refl) unheard on
+  on_still (Restarting exchange end since stands) current unheard on =
+      asking_still (Restarting exchange end since stands) exchange.xid current refl (λ rapid. refl) unheard on
   on_still (Declining exchange) current unheard on = on
 
   number_of : (seen : Seen6) (x : Numbered6) → IfSome seen.current (λ y. y.number ≡ seen.count) → seen.current ≡ Some x
@@ -162,10 +162,10 @@ silent_no site e past number none opened message good same = absurd (unlike mess
 
 -- ---- a message
 
-module _ (site : Site) (message : Content6) (last : Option ℕ) (sol_max : ℕ) (kept : Option Lease6Content)
+module _ (site : Site) (message : Content6) (unspent : Bool) (last : Option ℕ) (sol_max : ℕ) (kept : Option Lease6Content)
     (plea : Option PleaContent) where
   abbrev c : State6 → ClientContent
-  c state = client_with site last sol_max state kept plea
+  c state = client_with site unspent last sol_max state kept plea
 
   abbrev AwaitsIn : State6 → Numbered6 → Type 0
   AwaitsIn state x = Awaits site last state (lease_server kept) (plea_server plea) x
@@ -233,11 +233,11 @@ module _ (site : Site) (e : Entry) (past : List Entry) (message : Content6) (cam
       one_is : (x y : Numbered6) → Some x ≡ Some y → x ≡ y
       one_is x y h = cc
 
-  module _ (last : Option ℕ) (sol_max : ℕ) (kept : Option Lease6Content) (plea : Option PleaContent) where
+  module _ (unspent : Bool) (last : Option ℕ) (sol_max : ℕ) (kept : Option Lease6Content) (plea : Option PleaContent) where
     -- where the client takes nothing no good Reply came
     untaken_no : (state : State6) (seen : Seen6) (x : Numbered6) → seen6_in site (e ∷ past) ≡ seen → seen.current ≡ Some x
         → Awaits site last state (lease_server kept) (plea_server plea) x
-        → (Takes6 (c site message last sol_max kept plea state) message → ⊥)
+        → (Takes6 (c site message unspent last sol_max kept plea state) message → ⊥)
         → NoReply site x.number e past
     untaken_no state seen x is open_one a never opened other good same =
         let is_other : other ≡ message = sym (same_message other good.came) in
@@ -245,20 +245,20 @@ module _ (site : Site) (e : Entry) (past : List Entry) (message : Content6) (cam
         subst (λ (m : Content6). answers site opened.exchange m ≡ true) is_other good.good in
         let served : serves (asks_at site) message ≡ true =
         subst (λ (m : Content6). serves (asks_at site) m ≡ true) is_other ((messages_serve (asks_at site) other).1 good.serves) in
-        never (takes_good site message last sol_max kept plea state x a
+        never (takes_good site message unspent last sol_max kept plea state x a
         (subst (λ (y : Numbered6). answers site y.exchange message ≡ true)
         (sym (same_exchange x seen opened is open_one good.is_open)) taken) served)
 
     -- a Reply that the client takes is a good one
     pub taken_good : (state : State6) (seen : Seen6) (x : Numbered6) → seen6_in site (e ∷ past) ≡ seen → seen.current ≡ Some x
         → Awaits site last state (lease_server kept) (plea_server plea) x
-        → Takes6 (c site message last sol_max kept plea state) message
+        → Takes6 (c site message unspent last sol_max kept plea state) message
         → GoodReply site x message e past
     taken_good state seen x is open_one a t = record {
       is_open = ap (λ (s : Seen6). s.current) is ∙ open_one;
       came = came;
-      good = good_taken site message last sol_max kept plea state x a t;
-      serves = (messages_serve (asks_at site) message).0 (served_taken site message last sol_max kept plea state t);
+      good = good_taken site message unspent last sol_max kept plea state x a t;
+      serves = (messages_serve (asks_at site) message).0 (served_taken site message unspent last sol_max kept plea state t);
     }
 
     -- ---- calls
@@ -276,7 +276,7 @@ module _ (site : Site) (e : Entry) (past : List Entry) (message : Content6) (cam
           (plea_server turned.client.plea) (seen6_in site (e ∷ past)) (e ∷ past)
 
       abbrev here : State6 → ClientContent
-      here state = c site message last sol_max kept plea state
+      here state = c site message unspent last sol_max kept plea state
 
       abbrev turn : Turn6
       turn = record { site = site6_of site.managed; last = last; sol_max = sol_max; at = at; salt = salt }
@@ -399,18 +399,19 @@ module _ (site : Site) (e : Entry) (past : List Entry) (message : Content6) (cam
           stays_without (Rebinding exchange) on (λ x a. record { xid = a.xid; servers = a.servers; takes = a.takes })
           (untaken (Rebinding exchange) is) same
 
-      restarting_reply : (exchange : Exchange6) (end since : ℕ) → counts (here (Restarting exchange end since)) message ≡ true
+      restarting_reply : (exchange : Exchange6) (end since : ℕ) (stands : Bool) → counts (here (Restarting exchange end since stands)) message ≡ true
           → message.kind ≡ Reply
-          → OnNow (Restarting exchange end since) → (taken : Bool) → is_taken (here (Restarting exchange end since)) message
+          → OnNow (Restarting exchange end since stands) → (taken : Bool) → is_taken (here (Restarting exchange end since stands)) message
           ≡ taken
-          → (fresh : Option Lease6Content) → Replied (Restarting exchange end since) false taken fresh
-      restarting_reply exchange end since is_counted reply on true is None same = waits_so _ _ _ same
-      restarting_reply exchange end since is_counted reply on true is (Some lease) same =
-          binds_so (Restarting exchange end since) _ _ on (takes_it (Restarting exchange end since) is_counted reply is)
-          (λ x open_one h. asking_awaits (Restarting exchange end since) exchange.xid refl (λ rapid. refl) h x open_one) same
-      restarting_reply exchange end since is_counted reply on false is fresh same =
-          stays_without (Restarting exchange end since) on (λ x a. record { xid = a.xid; servers = a.servers; takes = a.takes })
-          (untaken (Restarting exchange end since) is) same
+          → (fresh : Option Lease6Content) → Replied (Restarting exchange end since stands) false taken fresh
+      restarting_reply exchange end since true is_counted reply on true is None same = waits_so _ _ _ same
+      restarting_reply exchange end since false is_counted reply on true is None same = waits_so _ _ _ same
+      restarting_reply exchange end since stands is_counted reply on true is (Some lease) same =
+          binds_so (Restarting exchange end since stands) _ _ on (takes_it (Restarting exchange end since stands) is_counted reply is)
+          (λ x open_one h. asking_awaits (Restarting exchange end since stands) exchange.xid refl (λ rapid. refl) h x open_one) same
+      restarting_reply exchange end since stands is_counted reply on false is fresh same =
+          stays_without (Restarting exchange end since stands) on (λ x a. record { xid = a.xid; servers = a.servers; takes = a.takes })
+          (untaken (Restarting exchange end since stands) is) same
 
       soliciting_reply : (exchange : Exchange6) (offer : Option ℕ) → counts (here (Soliciting exchange offer)) message ≡ true
           → message.kind ≡ Reply
@@ -442,7 +443,7 @@ module _ (site : Site) (e : Entry) (past : List Entry) (message : Content6) (cam
       reply_final Bound is_counted reply on same = rests_so Bound _ _ on (λ x a. untaking (a.takes true)) same
       reply_final (Renewing exchange) is_counted reply on same = renewing_reply exchange is_counted reply on _ refl _ same
       reply_final (Rebinding exchange) is_counted reply on same = rebinding_reply exchange is_counted reply on _ refl _ same
-      reply_final (Restarting exchange end since) is_counted reply on same = restarting_reply exchange end since is_counted
+      reply_final (Restarting exchange end since stands) is_counted reply on same = restarting_reply exchange end since stands is_counted
           reply on _ refl _ same
       reply_final (Declining exchange) is_counted reply on same =
           declining_reply exchange on (is_taken (here (Declining exchange)) message)
@@ -462,7 +463,7 @@ module _ (site : Site) (e : Entry) (past : List Entry) (message : Content6) (cam
       -- a step after which a Reply may come yet
       goes_so : (step : Step6) (pleading : Option PleaContent) → message.kind ≡ Advertise → (state : State6)
           → After6 site past count current counted kept pleading None step
-          → Final (stepped step None (client_with site last sol_max state kept pleading))
+          → Final (stepped step None (client_with site unspent last sol_max state kept pleading))
       goes_so step pleading is state after same =
           finish6 site e past step.last (lease_server (kept_after step.keep None kept))
           (plea_server (plea_after step.state pleading)) step.state _ same after
@@ -505,7 +506,7 @@ module _ (site : Site) (e : Entry) (past : List Entry) (message : Content6) (cam
       advertise_final Bound is on = rests_advertised Bound is on
       advertise_final (Renewing exchange) is on = rests_advertised (Renewing exchange) is on
       advertise_final (Rebinding exchange) is on = rests_advertised (Rebinding exchange) is on
-      advertise_final (Restarting exchange end since) is on = rests_advertised (Restarting exchange end since) is on
+      advertise_final (Restarting exchange end since stands) is on = rests_advertised (Restarting exchange end since stands) is on
       advertise_final (Declining exchange) is on = rests_advertised (Declining exchange) is on
 
       -- ---- any message
@@ -519,32 +520,32 @@ module _ (site : Site) (e : Entry) (past : List Entry) (message : Content6) (cam
     -- of some kind
     pub answered_final : (at salt : ℕ) (count : ℕ) (current : Option Numbered6) (counted : Counted6 site (seen6 count current)
         past) (last_is : LastXid6 last current)
-        (kind : ServerKind6) (state : State6) → message.kind ≡ kind → counts (c site message last sol_max kept plea state)
+        (kind : ServerKind6) (state : State6) → message.kind ≡ kind → counts (c site message unspent last sol_max kept plea state)
         message ≡ true
         → On6 site state (lease_server kept) (plea_server plea) current past
         → Final at salt count current counted last_is
-        (answered at salt message kind (c site message last sol_max kept plea state))
+        (answered at salt message kind (c site message unspent last sol_max kept plea state))
     answered_final at salt count current counted last_is Advertise state is is_counted on = advertise_final at salt count
         current counted last_is state is on
     answered_final at salt count current counted last_is Reply state is is_counted on = reply_final at salt count current
         counted last_is state is_counted is on
 
-  pub hears_final : (last : Option ℕ) (sol_max : ℕ) (kept : Option Lease6Content) (plea : Option PleaContent)
+  pub hears_final : (unspent : Bool) (last : Option ℕ) (sol_max : ℕ) (kept : Option Lease6Content) (plea : Option PleaContent)
       (at salt : ℕ) (count : ℕ) (current : Option Numbered6) (counted : Counted6 site (seen6 count current) past)
       (last_is : LastXid6 last current) (state : State6)
       → On6 site state (lease_server kept) (plea_server plea) current past
-      → Final last sol_max kept plea at salt count current counted last_is
-      (hears_turned at salt message (client_with site last sol_max state kept plea))
+      → Final unspent last sol_max kept plea at salt count current counted last_is
+      (hears_turned at salt message (client_with site unspent last sol_max state kept plea))
   unfolding hears_turned
-  hears_final last sol_max kept plea at salt count current counted last_is state on =
-      by_count (counts (client_with site last sol_max state kept plea) message) refl
+  hears_final unspent last sol_max kept plea at salt count current counted last_is state on =
+      by_count (counts (client_with site unspent last sol_max state kept plea) message) refl
     where
-      by_count : (counting : Bool) → counts (client_with site last sol_max state kept plea) message ≡ counting
-          → Final last sol_max kept plea at salt count current counted last_is
+      by_count : (counting : Bool) → counts (client_with site unspent last sol_max state kept plea) message ≡ counting
+          → Final unspent last sol_max kept plea at salt count current counted last_is
           (if counting then answered at salt message message.kind
-          (learnt message.sol_max (client_with site last sol_max state kept plea))
-          else rested (client_with site last sol_max state kept plea))
+          (learnt message.sol_max (client_with site unspent last sol_max state kept plea))
+          else rested (client_with site unspent last sol_max state kept plea))
       by_count true is =
-          answered_final last (sol_max_with message.sol_max sol_max) kept plea at salt count current counted last_is
+          answered_final unspent last (sol_max_with message.sol_max sol_max) kept plea at salt count current counted last_is
           message.kind state refl is on
-      by_count false is = ignored_final last sol_max kept plea at salt count current counted last_is state is on
+      by_count false is = ignored_final unspent last sol_max kept plea at salt count current counted last_is state is on

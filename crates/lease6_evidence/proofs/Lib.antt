@@ -4,6 +4,9 @@ pub mod LawProofs
 pub mod EndProofs
 pub mod WantProofs
 pub mod Steps6
+pub mod Standing6
+pub mod StandingCalls6
+pub mod KeptProofs6
 pub mod Watching6
 pub mod Hearing6
 pub mod Calls6

@@ -10,15 +10,10 @@ use Rattle.v6_message.specs.Replies.{Content6}
 use Rattle.v6_frames.specs.Heard.{HeardMessage6}
 use Rattle.v6_frames.specs.Spelled.{Sent6}
 use Rattle.v6_client.specs.declared.states.State6.{State6}
-use Rattle.v6_client.specs.declared.states.State6.TheVariants.{Off, Waiting, Soliciting, Requesting, Bound, Renewing, Rebinding, Restarting, Declining}
-use Rattle.v6_client.specs.declared.states.Step6.{Step6}
-use Rattle.v6_client.specs.declared.states.Tell6.{Tell6}
-use Rattle.v6_client.specs.declared.states.Tell6.TheVariants.{Server, Nobody}
+use Rattle.v6_client.specs.declared.states.State6.TheVariants.{Off}
 use Rattle.v6_client.specs.declared.states.Cause6.TheVariants.{Lapse}
-use Rattle.v6_client.specs.declared.turn.Turn6.{Turn6}
 use Rattle.v6_client.specs.Calls.{dates_in, due_of}
 use Rattle.v6_client.specs.Clients.{ClientContent, turn_of}
-use Rattle.v6_client.specs.Inputs.{release_row, released, stops}
 use Rattle.v6_client.specs.Moves.{parting_at}
 use Rattle.v6_client.specs.Runs.{Turned6, release_turned, tick_turned}
 use Rattle.v6_client.specs.Settings.{SettingsContent}
@@ -36,12 +31,14 @@ use Rattle.client_model.specs.Interfaces.{ticked, unsent_in}
 use Rattle.evidence_words.specs.Entries.{Entry}
 use Rattle.evidence_words.specs.IfaceLives.{IsSaid}
 use Rattle.evidence_words.specs.Inputs.{Site, carrier_after, has_carrier, index_at, is_stop, is_stopped}
-use Rattle.lease6_evidence.specs.Exchanges6.{seen6_in, shows6}
+use Rattle.lease6_evidence.specs.Exchanges6.{Seen6, seen6_in, shows6}
 use Rattle.lease6_evidence.specs.Replies6.{message6_on}
 use Rattle.lease6_evidence.proofs.Bytes6.{HasBytes, heard_typed}
 use Rattle.lease6_evidence.proofs.ClientTurns6.{Carries6, FitsSite, call_carries, call_result, tick_carries, tick_result}
 use Rattle.lease6_evidence.proofs.FieldRuns6.{BytesFor}
-use Rattle.lease6_evidence.proofs.Spoken6.{FitsFour, seen_after}
+use Rattle.lease6_evidence.proofs.Spoken6.{FitsFour, FitsOwn, seen_after, talk_of}
+use Rattle.lease6_evidence.proofs.Standing6.{Standing6}
+use Rattle.lease6_evidence.proofs.StandingCalls6.{IsHalted, call_standing, release_off, tick_standing}
 use Rattle.lease6_evidence.proofs.Steps6.{Does, message_in, sixes, sixes_join}
 use Rattle.lease6_evidence.proofs.Turns6.{Call6, Begins, Contests, Drops, FitsCall6, Hears, Ignores, InputRuns, IsHalt, Rebinds, Releases, Rests, input_runs, run6, says_of, ticks_run}
 
@@ -87,24 +84,6 @@ tick_off at salt c off =
     (subst (λ (s : State6). (tick_row (turn_of at salt c) (dates_in c) (parting_at (Lapse at) c) s).state ≡ Off) (sym off)
     refl) off
 
-stops_off : (turn : Turn6) (tell : Tell6) → (stops turn tell).state ≡ Off
-stops_off turn Server = refl
-stops_off turn Nobody = refl
-
-released_off : (turn : Turn6) (tell : Tell6) (held : Bool) → (released turn tell held).state ≡ Off
-released_off turn tell held = gated (λ (step : Step6). step.state ≡ Off) held _ _ (stops_off turn tell) refl
-
-release_off : (turn : Turn6) (tell : Tell6) (held : Bool) (state : State6) → (release_row turn tell held state).state ≡ Off
-release_off turn tell held Off = refl
-release_off turn tell held (Waiting due) = refl
-release_off turn tell held (Soliciting exchange offer) = refl
-release_off turn tell held (Requesting exchange) = refl
-release_off turn tell held Bound = released_off turn tell held
-release_off turn tell held (Renewing exchange) = released_off turn tell held
-release_off turn tell held (Rebinding exchange) = released_off turn tell held
-release_off turn tell held (Restarting exchange end since) = refl
-release_off turn tell held (Declining exchange) = released_off turn tell held
-
 run_off : (at salt : ℕ) (call : Call6) (c : ClientContent) → IsHalt call → (call ≡ Ignores → c.state ≡ Off)
     → (run6 call at salt c).client.state ≡ Off
 unfolding release_turned
@@ -125,6 +104,7 @@ pub record Faced6 (site : Site) (now : ℕ) (past : List Entry) (f : Iface) : Ty
   pub carrier : f.stopped ≡ false → f.up ≡ has_carrier site past
   pub off : f.stopped ≡ true → f.dhcp6.state ≡ Off
   pub client : Carries6 site now (seen6_in site past) past f.dhcp6
+  pub standing : Standing6 site now None past f.dhcp6
 
 -- ---- a turn
 
@@ -231,15 +211,44 @@ module _ (site : Site) (fits : FitsSite site) (now : ℕ) (past : List Entry) (e
     client2 : input.iface.dhcp6 ≡ (run6 call e.moment salt c1).client
     client2 = runs.client_is ∙ ap (λ (d : ClientContent). (run6 call e.moment salt d).client) client1
 
+    standing1 : Standing6 site e.moment (said (tick_turned e.moment salt c0)) past c1
+    standing1 = tick_standing site past now e.moment salt c0 faced.standing
+
+    ignores_halted : call ≡ Ignores → IsHalted site e past salt (said (tick_turned e.moment salt c0)) c1
+    ignores_halted is =
+        record { off = ignores_off is; stopped = sym faced.stopped ∙ sym stopped1 ∙ runs.ignores is }
+
+    abbrev seen1 : Seen6
+    seen1 = shows6 (said (tick_turned e.moment salt c0)) (seen6_in site past)
+
+    abbrev said_first : Option Sent6
+    said_first = said (tick_turned e.moment salt c0)
+
+    abbrev said_then : Option Sent6
+    said_then = said (run6 call e.moment salt c1)
+
+    -- what is known of both messages
+    first_fits : IfSome said_first (FitsOwn site)
+    first_fits = (tick_result site fits e.moment salt c0 settings0 faced.client.fields).says
+
+    then_fits : IfSome said_then (FitsOwn site)
+    then_fits = (call_result site fits call e.moment salt c1 call_bytes settings1 after_tick.sound after_tick.fields).says
+
+    turn_seen : IsSaid site e step → AllByRecursion FitsFour step.said → seen6_in site (e ∷ past) ≡ shows6 said_then seen1
+    turn_seen is four = seen_after site fits.mac e past step said_first said_then is says_are four first_fits then_fits
+
     turn_carries : IsSaid site e step → AllByRecursion FitsFour step.said
         → Carries6 site e.moment (seen6_in site (e ∷ past)) (e ∷ past) (run6 call e.moment salt c1).client
     turn_carries is four =
-        call_carries site fits e early past salt (shows6 (said (tick_turned e.moment salt c0)) (seen6_in site past)) c1
-        after_tick call runs.fits call_bytes ignores_off
-        (seen_after site fits.mac e past step (said (tick_turned e.moment salt c0)) (said (run6 call e.moment salt c1)) is
-        says_are four
-        (tick_result site fits e.moment salt c0 settings0 faced.client.fields).says
-        (call_result site fits call e.moment salt c1 call_bytes settings1 after_tick.sound after_tick.fields).says)
+        call_carries site fits e early past salt seen1 c1 after_tick call runs.fits call_bytes ignores_off
+        (λ fresh. (standing1.may fresh).same) (turn_seen is four)
+
+    turn_standing : IsSaid site e step → AllByRecursion FitsFour step.said
+        → Standing6 site e.moment None (e ∷ past) (run6 call e.moment salt c1).client
+    turn_standing is four =
+        call_standing site e past salt said_first call runs.fits seen1 c1 after_tick.watched after_tick.sound ignores_halted
+        standing1 (turn_seen is four)
+        (talk_of site fits.mac e step said_first said_then is says_are four first_fits then_fits)
 
     not_or : (a b : Bool) → (a || b) ≡ false → b ≡ false
     not_or true b h = absurd cc
@@ -255,6 +264,7 @@ module _ (site : Site) (fits : FitsSite site) (now : ℕ) (past : List Entry) (e
       off = λ h. ap (λ (d : ClientContent). d.state) client2 ∙ run_off e.moment salt call c1 (runs.halts h) ignores_off;
       client = subst (λ (d : ClientContent). Carries6 site e.moment (seen6_in site (e ∷ past)) (e ∷ past) d) (sym client2)
           (turn_carries is four);
+      standing = subst (λ (d : ClientContent). Standing6 site e.moment None (e ∷ past) d) (sym client2) (turn_standing is four);
     }
 
   pub turned_faced : (unsent : ℕ)

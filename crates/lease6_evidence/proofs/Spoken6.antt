@@ -1,7 +1,7 @@
 -- The DHCPv6 messages that the frames of an interface spell are those that its client said.
-use Rattle.std.proofs.Common.{◌≡◌, ℕ, ◌≤◌, true, List, [], ◌∷◌, ◌++◌, length, map, Option, Some, None, IfSome, refl, sym, ap, subst, ◌∙◌, arith, lit≤}
+use Rattle.std.proofs.Common.{◌≡◌, ℕ, ◌≤◌, true, ◌||◌, List, [], ◌∷◌, ◌++◌, length, map, Option, Some, None, IfSome, refl, sym, ap, subst, ◌∙◌, arith, lit≤, is_some}
 use Rattle.std.specs.Prelude.{option_to_list}
-use Rattle.std.specs.List.{AllByRecursion}
+use Rattle.std.specs.List.{AllByRecursion, list_any}
 use Rattle.std.specs.Option.{option_and_then}
 use Rattle.net_types.specs.Fields.{u16_field}
 use Rattle.net_types.specs.declared.address.Ip4.{Ip4}
@@ -15,6 +15,7 @@ use Rattle.v4_frames.specs.declared.sent.TheConstants as ports
 use Rattle.v4_frames.specs.InRange.{FitsMac}
 use Rattle.v4_client.specs.declared.states.Say4.{Say4}
 use Rattle.v4_client.specs.Saying.{sent_of}
+use Rattle.v6_client.specs.Items.{is_nonempty}
 use Rattle.v6_frames.specs.InRange.{FitsSent6}
 use Rattle.v6_frames.specs.Spelled.{Sent6, sent6_in}
 use Rattle.v6_frames.proofs.FramesBack.{reads_back}
@@ -27,6 +28,7 @@ use Rattle.evidence_words.specs.Entries.{Entry, Offer}
 use Rattle.evidence_words.specs.IfaceLives.{IsSaid}
 use Rattle.evidence_words.specs.Inputs.{Site, offers_at}
 use Rattle.lease6_evidence.specs.Exchanges6.{Seen6, if_own, is_own, message6_of, messages6_at, seen6_in, show6, shows6}
+use Rattle.lease6_evidence.specs.KeptBasis6.{IsRebind, speaks6}
 use Rattle.lease6_evidence.proofs.Steps6.{sixes}
 
 -- ---- what is in range
@@ -50,6 +52,12 @@ abbrev FitsSaid6 : Site → Said → Type 0
 FitsSaid6 site (Dhcp4 say) = FitsEnds say
 FitsSaid6 site (Arp say) = Unit {0}
 FitsSaid6 site (Dhcp6 sent) = FitsOwn site sent
+
+-- what the frames of a turn spell, where the client says one message by its tick, and another one by its input
+pub record Talk (site : Site) (e : Entry) (first second : Option Sent6) : Type 0 where
+  pub speaks : speaks6 site e ≡ (is_some first || is_some second)
+  pub alone : (xid : ℕ) → IfSome first (IsRebind xid) → IfSome second (IsRebind xid)
+      → AllByRecursion (λ message. IfSome message (IsRebind xid)) (messages6_at site e)
 
 -- ---- frames
 
@@ -195,3 +203,50 @@ module _ (site : Site) (mac_fits : FitsMac site.managed.spec.mac) where
       ∙ shows_sixes step.said (seen6_in site past)
       ∙ ap (λ (l : List Sent6). show6 (map Some l) (seen6_in site past)) same
       ∙ shows_both first second (seen6_in site past)
+
+  -- ---- what is said
+
+  said_rebinds : (said : List Said) (xid : ℕ) → AllByRecursion (IsRebind xid) (sixes said)
+      → AllByRecursion (λ message. IfSome message (IsRebind xid)) (map message_said said)
+  said_rebinds [] xid all = tt
+  said_rebinds (Dhcp4 say ∷ said) xid all = (tt, said_rebinds said xid all)
+  said_rebinds (Arp say ∷ said) xid all = (tt, said_rebinds said xid all)
+  said_rebinds (Dhcp6 sent ∷ said) xid all = (all.0, said_rebinds said xid all.1)
+
+  speaks_sixes : (said : List Said) → list_any is_some (map message_said said) ≡ is_nonempty (sixes said)
+  speaks_sixes [] = refl
+  speaks_sixes (Dhcp4 say ∷ said) = speaks_sixes said
+  speaks_sixes (Arp say ∷ said) = speaks_sixes said
+  speaks_sixes (Dhcp6 sent ∷ said) = refl
+
+  both_speak : (first second : Option Sent6)
+      → is_nonempty (option_to_list first ++ option_to_list second) ≡ (is_some first || is_some second)
+  both_speak None None = refl
+  both_speak None (Some second) = refl
+  both_speak (Some first) second = refl
+
+  both_rebind : (xid : ℕ) (first second : Option Sent6) → IfSome first (IsRebind xid) → IfSome second (IsRebind xid)
+      → AllByRecursion (IsRebind xid) (option_to_list first ++ option_to_list second)
+  both_rebind xid None None one two = tt
+  both_rebind xid None (Some second) one two = (two, tt)
+  both_rebind xid (Some first) None one two = (one, tt)
+  both_rebind xid (Some first) (Some second) one two = (one, (two, tt))
+
+  pub talk_of : (e : Entry) (step : IfaceStep) (first second : Option Sent6) → IsSaid site e step
+      → sixes step.said ≡ option_to_list first ++ option_to_list second → AllByRecursion FitsFour step.said
+      → IfSome first (FitsOwn site) → IfSome second (FitsOwn site)
+      → Talk site e first second
+  talk_of e step first second said same four one two =
+      let fits : AllByRecursion (FitsSaid6 site) step.said =
+      all_fit step.said four (subst (λ (l : List Sent6). AllByRecursion (FitsOwn site) l) (sym same)
+      (both_fit first second one two)) in
+      let are : messages6_at site e ≡ map message_said step.said = messages_are e step said fits in
+      record {
+        speaks = ap (λ (messages : List (Option Sent6)). list_any is_some messages) are ∙ speaks_sixes step.said
+            ∙ ap (λ (l : List Sent6). is_nonempty l) same ∙ both_speak first second;
+        alone = λ xid h k.
+            subst (λ (messages : List (Option Sent6)). AllByRecursion (λ message. IfSome message (IsRebind xid)) messages)
+            (sym are)
+            (said_rebinds step.said xid (subst (λ (l : List Sent6). AllByRecursion (IsRebind xid) l) (sym same)
+            (both_rebind xid first second h k)));
+      }

@@ -13,7 +13,7 @@ use Rattle.v6_client.specs.Runs.{Turned6}
 use Rattle.v6_client.specs.Saying.{SpokenContent}
 use Rattle.ipv4ll.specs.Table.{LlStep}
 use Rattle.client_model.specs.declared.interfaces.Iface.{Iface}
-use Rattle.client_model.specs.Dhcp4Steps.{arms, dhcp4_step, holds_lease, said_in}
+use Rattle.client_model.specs.Dhcp4Steps.{arms, begin_local, dhcp4_step, holds_lease, said_in}
 use Rattle.client_model.specs.Dhcp6Steps.{dhcp6_step}
 use Rattle.client_model.specs.IfaceSteps.{IfaceStep, silent, then_step}
 use Rattle.client_model.specs.LocalSteps.{local_off, local_step}
@@ -103,10 +103,12 @@ local_skips f step = record {
 pub off_skips : (f : Iface) → Skips f (local_off f)
 off_skips f = record { managed = refl; up = refl; stopped = refl; client_is = refl; says_are = refl }
 
+pub begin_local_skips : (at : ℕ) (f : Iface) → Skips f (begin_local at f)
+begin_local_skips at f = record { managed = refl; up = refl; stopped = refl; client_is = refl; says_are = refl }
+
 pub arms_skips : (at : ℕ) (f : Iface) → Skips f (arms at f)
 arms_skips at f =
-    gated (λ (step : IfaceStep). Skips f step) (holds_lease f) (silent f) _ (silent_skips f)
-    (record { managed = refl; up = refl; stopped = refl; client_is = refl; says_are = refl })
+    gated (λ (step : IfaceStep). Skips f step) (holds_lease f) (silent f) _ (silent_skips f) (begin_local_skips at f)
 
 -- a step of its client
 pub dhcp6_does : (f : Iface) (turned : Turned6)

@@ -1,5 +1,5 @@
 -- What the input of a turn is to the DHCPv6 client of an interface: one of its calls.
-use Rattle.std.proofs.Common.{◌≡◌, ◌≢◌, ℕ, Bool, true, false, ◌&&◌, ◌||◌, List, [], Option, Some, None, refl, sym, ap, subst, ◌∙◌, append-nil, arith, bytes_eq}
+use Rattle.std.proofs.Common.{◌≡◌, ◌≢◌, ℕ, Bool, true, false, ◌&&◌, ◌||◌, List, [], ◌∷◌, Option, Some, None, refl, sym, ap, subst, ◌∙◌, append-nil, arith, bytes_eq}
 use Rattle.std.proofs.lemmas.Bool.{both_ways}
 use Rattle.std.proofs.lemmas.Bool.Decides.{nat_tests}
 use Rattle.std.specs.Option.{option_and_then, option_map}
@@ -37,7 +37,7 @@ use Rattle.client_model.specs.declared.interfaces.Iface.{Iface}
 use Rattle.client_model.specs.declared.steps.News.{News}
 use Rattle.client_model.specs.declared.steps.News.TheVariants as news
 use Rattle.client_model.specs.ClientSettings6.{runs_dhcp6}
-use Rattle.client_model.specs.Dhcp4Steps.{arms, arrival_at, begin_dhcp4, dhcp4_packet, dhcp4_takes, drop_dhcp4, rebind_dhcp4, stop_dhcp4, tick_dhcp4}
+use Rattle.client_model.specs.Dhcp4Steps.{arms, arrival_at, begin_dhcp4, begin_local, dhcp4_packet, dhcp4_takes, drop_dhcp4, rebind_dhcp4, stop_dhcp4, tick_dhcp4}
 use Rattle.client_model.specs.ClientSettings.{runs_dhcp4}
 use Rattle.client_model.specs.Dhcp6Steps.{begin_dhcp6, contested, dhcp6_step, drop_dhcp6, rebind_dhcp6, stop_dhcp6, tell6_of, tick_dhcp6}
 use Rattle.client_model.specs.IfaceSteps.{IfaceStep, silent, then_step, with_news}
@@ -48,7 +48,7 @@ use Rattle.evidence_words.specs.Entries.{Entry, Offer}
 use Rattle.evidence_words.specs.Inputs.{Site, GoesOn, StaysOn, carrier_after, has_carrier, index_at, is_stop}
 use Rattle.lease6_evidence.specs.ItemBasis.{NotContested}
 use Rattle.lease6_evidence.specs.Replies6.{message6_at, message6_on}
-use Rattle.lease6_evidence.proofs.Steps6.{Does, Skips, arms_skips, dhcp4_skips, dhcp6_does, local_skips, message_in, off_skips, silent_skips, sixes, then_does, then_skips}
+use Rattle.lease6_evidence.proofs.Steps6.{Does, Skips, arms_skips, begin_local_skips, dhcp4_skips, dhcp6_does, local_skips, message_in, off_skips, silent_skips, sixes, then_does, then_skips}
 
 -- ---- the calls of a client
 
@@ -88,7 +88,7 @@ abbrev pub FitsCall6 : Site → Entry → List Entry → Call6 → Type 0
 FitsCall6 site e past Ignores = Unit {0}
 FitsCall6 site e past Rests = Goes6 site e past × (message6_at site e ≡ None)
 FitsCall6 site e past (Hears message) = Goes6 site e past × (message6_at site e ≡ Some message)
-FitsCall6 site e past Begins = Goes6 site e past × (message6_at site e ≡ None)
+FitsCall6 site e past Begins = Goes6 site e past × (message6_at site e ≡ None) × (has_carrier site (e ∷ past) ≡ true)
 FitsCall6 site e past Drops = message6_at site e ≡ None
 FitsCall6 site e past (Contests address) = GoesBut site e past address × (message6_at site e ≡ None)
 FitsCall6 site e past (Releases tell) = message6_at site e ≡ None
@@ -165,7 +165,7 @@ module _ (at salt : ℕ) where
   pub begins_run : (f : Iface) → Runs f (begins_or_rests (runs_dhcp6 f.managed.conf) f.dhcp6) (begins at salt f)
   begins_run f =
       then_runs (begins_or_rests (runs_dhcp6 f.managed.conf)) f _ (begin_dhcp6 at salt)
-      (then_skips f f.dhcp6 [] (begin_dhcp4 at salt f) (arms at) (begin4_skips f) (arms_skips at))
+      (then_skips f f.dhcp6 [] (begin_dhcp4 at salt f) (begin_local at) (begin4_skips f) (begin_local_skips at))
       (λ g same client_is.
       subst (λ (m : Managed). Does g (begins_or_rests (runs_dhcp6 f.managed.conf) f.dhcp6).client
       (says_of f (begins_or_rests (runs_dhcp6 f.managed.conf) f.dhcp6))
@@ -395,7 +395,7 @@ module _ (site : Site) (at salt : ℕ) (bytes : List ℕ) (offers : List Offer) 
         → InputRuns event f step
     begin_by event true step goes none does comes runs = record {
       call = Begins;
-      fits = (goes, none);
+      fits = (goes, none, ap (carrier_after (index_at site) event) (sym carrier) ∙ comes);
       managed = does.managed;
       client_is = does.client_is;
       says_are = does.says_are;

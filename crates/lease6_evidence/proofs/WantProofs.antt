@@ -109,7 +109,7 @@ idle_gives_nothing site ask net now past idle basis =
     not_idle site gives.opened gives.message good.good good.serves (n gives.opened gives.message good.is_open good.came)) past idle basis
 
 -- what holds of each turn holds of one among them
-at_cut : {A : Type 0} (P : A → List A → Type 0) (later : List A) (e : A) (earlier : List A) → Always P (later ++ e ∷ earlier) → P e earlier
+pub at_cut : {A : Type 0} (P : A → List A → Type 0) (later : List A) (e : A) (earlier : List A) → Always P (later ++ e ∷ earlier) → P e earlier
 at_cut P [] e earlier all = all.0
 at_cut P (l ∷ later) e earlier all = at_cut P later e earlier all.1
 

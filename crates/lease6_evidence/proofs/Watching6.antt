@@ -35,8 +35,8 @@ use Rattle.v6_client.specs.Exchanges.{again, begun, is_again_due, is_used_up, ne
 use Rattle.v6_client.specs.Inputs.{begin_row, begins, off_row, rebind_row, release_row, released, stops}
 use Rattle.v6_client.specs.Moves.{kept_after, plea_after}
 use Rattle.v6_client.specs.Saying.{lease_server, plea_server, spoken_by}
-use Rattle.v6_client.specs.Steps.{declining, expires, is_last, keep_by, loses, rebinding, rebinds, renewing, renews, requesting, requests, restarting, restarts, rests, soliciting, solicits, tells_parting, to_waiting}
-use Rattle.v6_client.specs.Ticks.{tick_row}
+use Rattle.v6_client.specs.Steps.{declining, emptied, expires, is_last, keep_by, loses, rebinding, rebinds, renewing, renews, requesting, requests, restarting, restarts, rests, soliciting, solicits, tells_parting, to_waiting, unanswered}
+use Rattle.v6_client.specs.Ticks.{restarting_tick, tick_row}
 use Rattle.v6_client.specs.Times.{elapsed, first_delay}
 use Rattle.evidence_words.specs.Entries.{Entry}
 use Rattle.evidence_words.specs.Inputs.{Site}
@@ -364,28 +364,29 @@ module _ (site : Site) (past : List Entry) (count : ℕ) (current : Option Numbe
         rebound next (again_says site past (said_as kind.Rebind exchange.xid (elapsed next.began turn.at) (Rebinding next))
         count current refl h)
 
-    restarted : (exchange : Exchange6) (end since : ℕ)
-        → Says site past (said_as kind.Rebind exchange.xid (elapsed exchange.began turn.at) (Restarting exchange end since))
-        (asks (said_as kind.Rebind exchange.xid (elapsed exchange.began turn.at) (Restarting exchange end since)) now
+    restarted : (exchange : Exchange6) (end since : ℕ) (stands : Bool)
+        → Says site past (said_as kind.Rebind exchange.xid (elapsed exchange.began turn.at) (Restarting exchange end since stands))
+        (asks (said_as kind.Rebind exchange.xid (elapsed exchange.began turn.at) (Restarting exchange end since stands)) now
         current).current
-        → Goes (restarting turn exchange end since)
-    restarted exchange end since says =
-        asked (said_as kind.Rebind exchange.xid (elapsed exchange.began turn.at) (Restarting exchange end since))
-        (Restarting exchange end since)
+        → Goes (restarting turn exchange end since stands)
+    restarted exchange end since stands says =
+        asked (said_as kind.Rebind exchange.xid (elapsed exchange.began turn.at) (Restarting exchange end since stands))
+        (Restarting exchange end since stands)
         (lease_server kept) None says (λ x a. a)
 
-    restarts_anew : Goes (restarts turn)
-    restarts_anew =
+    -- with news or without
+    restarts_anew : (stands : Bool) → Goes (restarts turn stands)
+    restarts_anew stands =
         let exchange : Exchange6 = begun turn REBIND (rand_in turn) in
-        restarted exchange (turn.at + RESTART_TIME) turn.at
-        (new_says kind.Rebind (elapsed exchange.began turn.at) (Restarting exchange (turn.at + RESTART_TIME) turn.at))
+        restarted exchange (turn.at + RESTART_TIME) turn.at stands
+        (new_says kind.Rebind (elapsed exchange.began turn.at) (Restarting exchange (turn.at + RESTART_TIME) turn.at stands))
 
-    restarts_again : (exchange : Exchange6) (end since : ℕ) → Asking6 site exchange.xid None current past
-        → Goes (restarting turn (again turn REBIND exchange) end since)
-    restarts_again exchange end since h =
+    restarts_again : (exchange : Exchange6) (end since : ℕ) (stands : Bool) → Asking6 site exchange.xid None current past
+        → Goes (restarting turn (again turn REBIND exchange) end since stands)
+    restarts_again exchange end since stands h =
         let next : Exchange6 = again turn REBIND exchange in
-        restarted next end since
-        (again_says site past (said_as kind.Rebind exchange.xid (elapsed next.began turn.at) (Restarting next end since)) count
+        restarted next end since stands
+        (again_says site past (said_as kind.Rebind exchange.xid (elapsed next.began turn.at) (Restarting next end since stands)) count
         current refl h)
 
     pub declines_so : (exchange : Exchange6) → Goes (declining turn exchange)
@@ -405,6 +406,20 @@ module _ (site : Site) (past : List Entry) (count : ℕ) (current : Option Numbe
     told_parting : (parting : Parting6) (step : Step6) → Goes step → Goes (tells_parting parting step)
     told_parting parting step h = gated Goes parting.goes _ _ h h
 
+    emptied_so : (stands : Bool) → Goes (emptied turn stands)
+    emptied_so stands = gated Goes stands _ _ expires_so loses_so
+
+    -- with news or without
+    unanswered_so : (stands : Bool) → Goes (unanswered turn stands)
+    unanswered_so stands = record { counted = counted; last_is = last_is; on = tt }
+
+    restarting_after : (parting : Parting6) (exchange : Exchange6) (end since : ℕ) (stands : Bool)
+        → Asking6 site exchange.xid None current past → Goes (restarting_tick turn parting exchange end since stands)
+    restarting_after parting exchange end since stands on =
+        either (is_last parting) _ _ (emptied_so stands) (either (leb end turn.at) _ _ (unanswered_so stands)
+        (either (is_again_due turn exchange) _ _ (restarts_again exchange end (max since turn.at) stands on)
+        (stays (Restarting exchange end (max since turn.at) stands) on)))
+
     pub tick_after : (dates : Dates6) (parting : Parting6) (state : State6)
         → On6 site state (lease_server kept) (plea_server plea) current past
         → Goes (tick_row turn dates parting state)
@@ -423,10 +438,9 @@ module _ (site : Site) (past : List Entry) (count : ℕ) (current : Option Numbe
     tick_after dates parting (Rebinding exchange) on =
         told_parting parting _ (either (is_last parting) _ _ expires_so
         (either (is_again_due turn exchange) _ _ (rebinds_again exchange on) (stays (Rebinding exchange) on)))
-    tick_after dates parting (Restarting exchange end since) on =
-        either (is_last parting) _ _ loses_so (either (leb end turn.at) _ _ waits
-        (either (is_again_due turn exchange) _ _ (restarts_again exchange end (max since turn.at) on)
-        (stays (Restarting exchange end (max since turn.at)) on)))
+    tick_after dates parting (Restarting exchange end since true) on =
+        told_parting parting _ (restarting_after parting exchange end since true on)
+    tick_after dates parting (Restarting exchange end since false) on = restarting_after parting exchange end since false on
     tick_after dates parting (Declining exchange) on =
         told_parting parting _ (either (is_again_due turn exchange) _ _
         (either (is_used_up DECLINE exchange) _ _
@@ -441,33 +455,35 @@ module _ (site : Site) (past : List Entry) (count : ℕ) (current : Option Numbe
 
     -- ---- the other inputs
 
-    pub begins_after : (parting : Parting6) → Goes (begins turn parting)
-    begins_after parting = either parting.stays _ _ restarts_anew waits
+    -- the chance to stand on the kept lease is nothing to the exchanges
+    pub begins_after : (stands : Bool) (parting : Parting6) → Goes (begins turn stands parting)
+    begins_after stands parting =
+        gated (λ (step : Step6). Goes (record step { spends = true })) parting.stays _ _ (restarts_anew stands) waits
 
-    pub begin_after : (parting : Parting6) (state : State6)
+    pub begin_after : (stands : Bool) (parting : Parting6) (state : State6)
         → On6 site state (lease_server kept) (plea_server (plea_after state plea)) current past
-        → Goes (begin_row turn parting state)
-    begin_after parting Off on = begins_after parting
-    begin_after parting (Waiting due) on = stays (Waiting due) on
-    begin_after parting (Soliciting exchange offer) on = stays (Soliciting exchange offer) on
-    begin_after parting (Requesting exchange) on = stays (Requesting exchange) on
-    begin_after parting Bound on = stays Bound on
-    begin_after parting (Renewing exchange) on = stays (Renewing exchange) on
-    begin_after parting (Rebinding exchange) on = stays (Rebinding exchange) on
-    begin_after parting (Restarting exchange end since) on = stays (Restarting exchange end since) on
-    begin_after parting (Declining exchange) on = stays (Declining exchange) on
+        → Goes (begin_row turn stands parting state)
+    begin_after stands parting Off on = begins_after stands parting
+    begin_after stands parting (Waiting due) on = stays (Waiting due) on
+    begin_after stands parting (Soliciting exchange offer) on = stays (Soliciting exchange offer) on
+    begin_after stands parting (Requesting exchange) on = stays (Requesting exchange) on
+    begin_after stands parting Bound on = stays Bound on
+    begin_after stands parting (Renewing exchange) on = stays (Renewing exchange) on
+    begin_after stands parting (Rebinding exchange) on = stays (Rebinding exchange) on
+    begin_after stands parting (Restarting exchange end since stood) on = stays (Restarting exchange end since stood) on
+    begin_after stands parting (Declining exchange) on = stays (Declining exchange) on
 
     pub rebind_after : (parting : Parting6) (state : State6)
         → On6 site state (lease_server kept) (plea_server (plea_after state plea)) current past
         → Goes (rebind_row turn parting state)
-    rebind_after parting Off on = begins_after parting
+    rebind_after parting Off on = begins_after false parting
     rebind_after parting (Waiting due) on = stays (Waiting due) on
     rebind_after parting (Soliciting exchange offer) on = stays (Soliciting exchange offer) on
     rebind_after parting (Requesting exchange) on = stays (Requesting exchange) on
     rebind_after parting Bound on = rebinds_anew
     rebind_after parting (Renewing exchange) on = rebinds_anew
     rebind_after parting (Rebinding exchange) on = stays (Rebinding exchange) on
-    rebind_after parting (Restarting exchange end since) on = stays (Restarting exchange end since) on
+    rebind_after parting (Restarting exchange end since stands) on = stays (Restarting exchange end since stands) on
     rebind_after parting (Declining exchange) on = stays (Declining exchange) on
 
     pub off_after : Goes (off_row turn)
@@ -488,5 +504,6 @@ module _ (site : Site) (past : List Entry) (count : ℕ) (current : Option Numbe
     release_after tell held Bound = released_after tell held
     release_after tell held (Renewing exchange) = released_after tell held
     release_after tell held (Rebinding exchange) = released_after tell held
-    release_after tell held (Restarting exchange end since) = off_after
+    release_after tell held (Restarting exchange end since true) = released_after tell held
+    release_after tell held (Restarting exchange end since false) = off_after
     release_after tell held (Declining exchange) = released_after tell held

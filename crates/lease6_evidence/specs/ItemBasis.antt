@@ -1,5 +1,5 @@
 -- Why an address of a DHCPv6 lease may be held (RFC 8415, sections 18.2.10 and 12). Moments are in milliseconds.
-use Rattle.std.specs.Prelude.{◌≡◌, ◌≢◌, ℕ, ◌+◌, ◌*◌, ◌<◌, ◌⊎◌, true, List}
+use Rattle.std.specs.Prelude.{◌≡◌, ◌≢◌, ℕ, ◌+◌, ◌*◌, ◌<◌, ◌⊎◌, List}
 use Rattle.std.specs.List.{Contains}
 use Rattle.machine.specs.Since.{Since}
 use Rattle.net_types.specs.declared.address.Net.{Net}

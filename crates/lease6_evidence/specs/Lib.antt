@@ -1,8 +1,10 @@
 pub mod Exchanges6
 pub mod Replies6
 pub mod ItemBasis
+pub mod KeptBasis6
 pub mod HeldItems
 pub mod Laws6
 pub mod Ends6
+pub mod KeptNeeds6
 pub mod Wanting6
 pub mod FourMessages

@@ -20,7 +20,7 @@ use Rattle.evidence_words.specs.Entries.{Entry, Offer}
 use Rattle.evidence_words.specs.Inputs.{Site, offers_at}
 use Rattle.lease6_evidence.specs.Ends6.{WasAnswered, said_for}
 use Rattle.lease6_evidence.specs.Exchanges6.{Numbered6, asks_reply, message6_of, seen6_in}
-use Rattle.lease6_evidence.specs.HeldItems.{ItemHasBasis}
+use Rattle.lease6_evidence.specs.HeldItems.{HasItemBasis}
 use Rattle.lease6_evidence.specs.ItemBasis.{AddressBasis, ItemBasis}
 use Rattle.lease6_evidence.specs.Laws6.{Names}
 use Rattle.lease6_evidence.specs.Replies6.{asks_at, message6_at}
@@ -96,9 +96,9 @@ AddressesAreAsked = (site : Site) (net : Net) (now : ℕ) (past : List Entry)
     → Always (λ e earlier. Names site ask item e earlier → ⊥) past)
     → AddressBasis site net now past → ⊥
 
--- So an item of an IA that is held: for one of the same kind and IAID that is asked for.
+-- So an item of an IA: for one of the same kind and IAID that is asked for.
 abbrev pub HeldItemsAreAsked : Type 0
 HeldItemsAreAsked = (site : Site) (ia : IaLeaseContent) (item : Item6) (past : List Entry)
     → ((ask : IaAsk) → Contains (asks_at site) ask → ia.kind ≡ ask.kind → ia.iaid ≡ ask.iaid
     → Always (λ e earlier. Names site ask item.net e earlier → ⊥) past)
-    → ItemHasBasis site ia item past → ⊥
+    → HasItemBasis ItemBasis site ia item past → ⊥

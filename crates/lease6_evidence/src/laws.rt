@@ -3,27 +3,97 @@
 ghost use Rattle.std.specs.Prelude.{◌≡◌, ◌∷◌, [], Some};
 ghost use Rattle.net_types.specs.declared.address.Net.TheVariants.{V6};
 ghost use Rattle.v6_client.specs.Clients.{held_of};
-ghost use Rattle.client_model.specs.KeptLeases.{Beginning};
-ghost use Rattle.evidence_words.specs.IfaceLives.{IsLived, Opening, iface_after, shown, site_of};
+ghost use Rattle.evidence_words.specs.IfaceLives.{IsLived, iface_after, shown, site_of};
 ghost use Rattle.lease_evidence.specs.PlainIface.{client_mac};
 ghost use Rattle.lease6_evidence.specs.Ends6.{EndsBy, IsReleased, IsStopped, IsUnknown, IsUsedTwice, IsWithdrawn, LosesCarrier};
 ghost use Rattle.lease6_evidence.specs.FourMessages.{beginning, granted, lease, opening, prefix, prefixes, three_turns};
-ghost use Rattle.lease6_evidence.specs.HeldItems.{BeginsWithoutItems, HeldItemsHaveBasis, ItemHasBasis};
-ghost use Rattle.lease6_evidence.specs.ItemBasis.{AddressBasis};
+ghost use Rattle.lease6_evidence.specs.HeldItems.{BeginsWithKeptItems, BeginsWithoutItems, HasItemBasis, HeldItemsHaveBasis, PlainItemsAreGiven};
+ghost use Rattle.lease6_evidence.specs.ItemBasis.{AddressBasis, ItemBasis};
+ghost use Rattle.lease6_evidence.specs.KeptNeeds6.{EndsKeptBy, IsAnswered6, NeedsFlag6, NeedsItsTime, NeedsKeptItem, NeedsLiveItem, NeedsMessage6, NeedsOneExchange, NeedsOrigin6, NeedsRebind6};
 ghost use Rattle.lease6_evidence.specs.Laws6.{EndsWithValid, ForeignGivesNothing6, NeedsReply};
 ghost use Rattle.lease6_evidence.specs.Wanting6.{AddressesAreAsked, FirstAloneGives, GivesNothing, HearsIdle6, HeldItemsAreAsked, IsSilent6, NeedsItsName};
 
 /// Law: each item that an interface holds after its opening and some turns, with any outcomes of its frames, has its basis in
 /// what they showed: a Reply in an exchange of its own gave it, its valid lifetime isn't over, and nothing took it away since
-/// (RFC 8415, section 18.2.10).
+/// (RFC 8415, section 18.2.10); or, with `persistent`, it is one of the kept lease, which is asked for again (section 18.2.12).
 pub fn held_items_have_a_basis()
     ensures { HeldItemsHaveBasis }
 {}
 
-/// Law: after the opening no interface holds an item, whatever was kept for it: a kept lease is held only after an exchange of
-/// this life (RFC 8415, section 18.2.12).
+/// Law: where `persistent` isn't in force, or the kept lease doesn't tell its origin, a Reply gave each item that has its basis.
+pub fn plain_items_are_given()
+    ensures { PlainItemsAreGiven }
+{}
+
+/// Law: so after the opening no such interface holds an item, whatever was kept for it: a kept lease is held only after an
+/// exchange of this life (RFC 8415, section 18.2.12).
 pub fn kept_items_are_not_held_at_first()
-    ensures { (beginning : Beginning) (opening : Opening) → BeginsWithoutItems beginning opening }
+    ensures { BeginsWithoutItems }
+{}
+
+/// Law: each item that an interface holds after the opening is one of the kept lease, which is asked for again.
+pub fn items_held_at_first_are_kept()
+    ensures { BeginsWithKeptItems }
+{}
+
+/// Law: no item is held for the kept lease alone where `persistent` isn't in force.
+pub fn kept_items_need_the_flag()
+    ensures { NeedsFlag6 }
+{}
+
+/// Law: nor where no lease was kept, or one that doesn't tell its origin.
+pub fn kept_items_need_an_origin()
+    ensures { NeedsOrigin6 }
+{}
+
+/// Law: nor an item that the kept lease hasn't.
+pub fn kept_items_are_of_the_lease()
+    ensures { NeedsKeptItem }
+{}
+
+/// Law: nor one whose valid lifetime is over (RFC 8415, section 7.7).
+pub fn kept_items_end()
+    ensures { NeedsLiveItem }
+{}
+
+/// Law: nor any after the interface lost its carrier.
+pub fn kept_items_end_with_the_carrier()
+    ensures { EndsKeptBy LosesCarrier }
+{}
+
+/// Law: nor after a release.
+pub fn kept_items_end_with_a_release()
+    ensures { EndsKeptBy IsReleased }
+{}
+
+/// Law: nor after a stop.
+pub fn kept_items_end_with_a_stop()
+    ensures { EndsKeptBy IsStopped }
+{}
+
+/// Law: nor after a good Reply, whatever it says: what is held then it gave (RFC 8415, section 18.2.10.1).
+pub fn kept_items_end_with_a_reply()
+    ensures { EndsKeptBy IsAnswered6 }
+{}
+
+/// Law: nor where the interface said no DHCPv6 message.
+pub fn kept_items_are_asked_for()
+    ensures { NeedsMessage6 }
+{}
+
+/// Law: nor where it said another one than a REBIND (RFC 8415, section 18.2.12).
+pub fn kept_items_are_rebound()
+    ensures { NeedsRebind6 }
+{}
+
+/// Law: nor where it said two of unlike transaction ids.
+pub fn kept_items_have_one_exchange()
+    ensures { NeedsOneExchange }
+{}
+
+/// Law: nor ten seconds after the first one, or later.
+pub fn kept_items_have_ten_seconds()
+    ensures { NeedsItsTime }
 {}
 
 /// Law: no item has a basis without a good Reply that names it (RFC 8415, section 18.2.10).
@@ -99,7 +169,7 @@ pub fn addresses_are_asked_for()
     ensures { AddressesAreAsked }
 {}
 
-/// Law: so no item that is held, of an IA of its kind and IAID (RFC 8415, sections 21.4 and 21.21).
+/// Law: so no item of an IA has one for an IA of its kind and IAID (RFC 8415, sections 21.4 and 21.21).
 pub fn held_items_are_asked_for()
     ensures { HeldItemsAreAsked }
 {}
@@ -110,5 +180,5 @@ pub fn four_messages_give_a_lease()
     ensures lived { IsLived (client_mac ∷ []) beginning opening three_turns }
     ensures held { held_of (iface_after (client_mac ∷ []) beginning opening three_turns).dhcp6 ≡ Some lease }
     ensures address { AddressBasis (site_of (client_mac ∷ []) beginning opening) (V6 granted) 2000 (shown opening three_turns) }
-    ensures prefix { ItemHasBasis (site_of (client_mac ∷ []) beginning opening) prefixes prefix (shown opening three_turns) }
+    ensures prefix { HasItemBasis ItemBasis (site_of (client_mac ∷ []) beginning opening) prefixes prefix (shown opening three_turns) }
 {}

@@ -1,10 +1,12 @@
 -- What the DHCPv4 client of an interface carries of the turns shown, and that a tick keeps it.
 use Rattle.std.proofs.Common.{◌≡◌, ℕ, ◌<◌, ◌≤◌, ◌^◌, Bool, true, false, ◌||◌, List, ◌∷◌, map, Option, Some, None, IfSome, refl, sym, ap, subst, ◌∙◌, arith, nat_eq, if◌then◌else◌}
 use Rattle.std.specs.List.{list_any, AllByRecursion}
+use Rattle.std.specs.Option.{is_some}
 use Rattle.machine.specs.Moment.{is_due}
 use Rattle.net_types.proofs.CaseLaws.{split, gated}
 use Rattle.lease_text.specs.declared.lease.Terms4.{Terms4}
 use Rattle.v4_message.specs.Requests.{AskFits}
+use Rattle.v4_frames.specs.declared.sent.Sent4.{Sent4}
 use Rattle.v4_frames.specs.InRange.{FitsSent}
 use Rattle.v4_frames.specs.InRange as sent
 use Rattle.v4_client.specs.declared.states.Answer4.{Answer4}
@@ -15,7 +17,7 @@ use Rattle.v4_client.specs.declared.states.State4.TheVariants.{Off}
 use Rattle.v4_client.specs.declared.states.Step4.{Step4}
 use Rattle.v4_client.specs.declared.states.Turn4.{Turn4}
 use Rattle.v4_client.specs.Calls.{unsent_step}
-use Rattle.v4_client.specs.Clients.{ClientContent, turn_of}
+use Rattle.v4_client.specs.Clients.{ClientContent, kept_terms, turn_of}
 use Rattle.v4_client.specs.Due.{due_of}
 use Rattle.v4_client.specs.History.{tick_step}
 use Rattle.v4_client.specs.Inputs.{unsent_row}
@@ -31,12 +33,13 @@ use Rattle.client_model.specs.Messages.{Said}
 use Rattle.client_model.specs.ClientSettings.{ask_of, settings_of}
 use Rattle.client_model.specs.Dhcp4Steps.{said_in}
 use Rattle.evidence_words.specs.Entries.{Entry}
-use Rattle.evidence_words.specs.Inputs.{Site, index_at, offers_at, has_carrier}
+use Rattle.evidence_words.specs.Inputs.{Site, index_at, offers_at, carrier_after, has_carrier}
 use Rattle.evidence_words.proofs.Offers.{Offered}
 use Rattle.lease_evidence.specs.Exchanges.{Numbered, Seen, messages_at, shows, show, seen_in}
+use Rattle.lease_evidence.specs.KeptBasis4.{AsksAgain}
 use Rattle.lease_evidence.specs.LeaseBasis.{tells_end, Calm}
 use Rattle.lease_evidence.specs.Replies.{reply_at}
-use Rattle.lease_evidence.proofs.Observer.{Grant, Kept, kept, unless_ended, if_calm, hears, ended_at, stays_at, kept_in, answered_in, Opens, shown_opens}
+use Rattle.lease_evidence.proofs.Observer.{Grant, Kept, kept, unless_ended, if_calm, hears, ended_at, stays_on, stays_at, kept_in, answered_in, Opens, shown_opens}
 use Rattle.lease_evidence.proofs.Observed.{observes, goes_on}
 use Rattle.lease_evidence.proofs.Watching.{LastXid, On, Watched, WatchedAfter, Lasts, AnyTerms, message_in, ended_by}
 use Rattle.lease_evidence.proofs.WatchTicks.{not_due, tick_watched}
@@ -45,7 +48,8 @@ use Rattle.lease_evidence.proofs.ProbeTicks.{Bears, BearsAmid, AfterTick, rested
 use Rattle.lease_evidence.proofs.ProbeInputs.{unsent_bears, clean_bears}
 use Rattle.lease_evidence.proofs.SayFits as fields
 use Rattle.lease_evidence.proofs.SayFits.{FitsFields, FitsStep}
-use Rattle.lease_evidence.proofs.Spoken.{message_said, FitsSaid, AreOther, said_all, messages_are, shows_all, ends_all, all_fit}
+use Rattle.lease_evidence.proofs.Spoken.{message_said, FitsSaid, AreOther, said_all, messages_are, shows_all, ends_all, asks_all, speaks_all, all_fit}
+use Rattle.lease_evidence.proofs.Standing.{ShowsBoth, StandsSo, StandsAmidSo, still_up, tick_stands, unsent_stands}
 
 pub record Carries (K : Terms4 → Type 0) (site : Site) (clean : Type 0) (c : ClientContent) (past : List Entry) : Type 0 where
   pub settings : c.settings ≡ settings_of site.duid site.managed
@@ -53,6 +57,7 @@ pub record Carries (K : Terms4 → Type 0) (site : Site) (clean : Type 0) (c : C
   pub fields : FitsFields c.state
   pub watched : Watched K c.last c.state (seen_in site past) (kept_in site past)
   pub bears : Bears site clean c.state past
+  pub stands : StandsSo site past c
 
 -- after a turn at a moment, with what was said in it
 pub record Ended (site : Site) (clean : Type 0) (at : ℕ) (said : List Said) (c : ClientContent) (past : List Entry) : Type 0 where
@@ -67,7 +72,7 @@ unsent_carries K site clean c past at salt h =
     let turn : Turn4 = turn_of at salt c in
     record {
       settings = h.settings;
-      sound = moved_sound c (rests turn (unsent_row turn c.state)) h.sound (unsent_sound turn c.state h.sound.state);
+      sound = moved_sound c (rests turn (unsent_row turn c.state)) h.sound (unsent_sound (kept_terms c) turn c.state h.sound.state);
       fields = fields.unsent_fits turn c.state h.fields;
       watched = record {
         xid = h.watched.xid;
@@ -75,6 +80,7 @@ unsent_carries K site clean c past at salt h =
             (any_terms K turn (seen_in site past).current (kept_in site past).answered (kept_in site past).grant c.state h.watched.on);
       };
       bears = unsent_bears site clean past turn c.state h.bears;
+      stands = unsent_stands site past turn c.may_stand c.state c.kept h.stands;
     }
 
 pub clean_carries : (K : Terms4 → Type 0) (site : Site) (clean : Type 0) (c : ClientContent) (past : List Entry) → clean → Carries K site clean c past
@@ -88,6 +94,7 @@ clean_carries K site clean c past k h = record {
     on = any_terms K (turn_of 0 0 c) (seen_in site past).current (kept_in site past).answered (kept_in site past).grant c.state h.watched.on;
   };
   bears = clean_bears site clean past c.state k h.bears;
+  stands = h.stands;
 }
 
 -- ---- within a turn, after the tick
@@ -99,6 +106,7 @@ pub record Amid (site : Site) (clean : Type 0) (e : Entry) (past : List Entry) (
   pub say : IfSome one.say (λ say. FitsSent (sent_of say))
   pub watched : Watched (Lasts e.moment) c.last c.state (shows e.moment (message_in one) (seen_in site past)) (ended_by one (kept_in site past))
   pub bears : BearsAmid site (ask_of site.duid site.managed) clean e past (said_in one) (tells_end (message_in one)) c.state
+  pub stands : StandsAmidSo site past (message_in one) c
 
 -- what the settings say of a turn
 pub turn_mac : (site : Site) → sent.FitsMac site.managed.spec.mac → (c : ClientContent) → c.settings ≡ settings_of site.duid site.managed
@@ -107,6 +115,9 @@ turn_mac site mac c same = subst (λ (s : SettingsContent). sent.FitsMac s.site.
 
 pub turn_noarp : (site : Site) (c : ClientContent) → c.settings ≡ settings_of site.duid site.managed → c.settings.site.noarp ≡ site.managed.conf.noarp
 turn_noarp site c same = ap (λ (s : SettingsContent). s.site.noarp) same
+
+pub turn_flag : (site : Site) (c : ClientContent) → c.settings ≡ settings_of site.duid site.managed → c.settings.site.persistent ≡ site.managed.conf.persistent
+turn_flag site c same = ap (λ (s : SettingsContent). s.site.persistent) same
 
 pub within : (site : Site) (past : List Entry) → (kept_in site past).answered ≤ (seen_in site past).count
 within site past = (observes site past).within
@@ -124,7 +135,7 @@ tick_carries site clean e past salt c mac early h =
     record {
       settings = h.settings;
       sound = moved_sound c (tick_step e.moment salt c) h.sound
-          (gated (IsSoundStep c.state) due _ _ (tick_sound turn c.state early h.sound.state) (rests_sound turn c.state h.sound.state));
+          (gated (IsSoundStep (kept_terms c) c.state) due _ _ (tick_sound (kept_terms c) turn c.state early h.sound.state) (rests_sound (kept_terms c) turn c.state h.sound.state));
       fields = fits.state;
       say = fits.say;
       watched = split (is_due (due_of c.state) e.moment)
@@ -138,6 +149,7 @@ tick_carries site clean e past salt c mac early h =
       bears = gated (AfterTick site (ask_of site.duid site.managed) clean e past) due _ _
           (tick_amid site (ask_of site.duid site.managed) clean e past turn refl c.state h.bears)
           (rested_amid site (ask_of site.duid site.managed) clean e past turn c.state h.bears);
+      stands = tick_stands site past c.settings.site.iface.name c.fresh c.kept turn c.may_stand c.state h.stands;
     }
   where
     choice_true : {b : Bool} (x y : Step4) → b ≡ true → (if b then x else y) ≡ x
@@ -204,9 +216,23 @@ module _ (site : Site) (clean : Type 0) (e : Entry) (past : List Entry) (one : S
     abbrev EndsSo : Type 0
     EndsSo = Ended site clean e.moment (said_all one between two after) (moved two before) (e ∷ past)
 
-    finish : Watched (Lasts e.moment) two.last two.state (seen_in site (e ∷ past)) (kept_in site (e ∷ past)) → Bears site clean two.state (e ∷ past) → EndsSo
-    finish w b = record {
-      carries = record { settings = settings; sound = sound; fields = fits.state; watched = w; bears = b };
+    -- what the turn shows
+    shown_so : stays_at site e past ≡ true → ShowsBoth site e past (message_in one) (message_in two)
+    shown_so stays = record {
+      stays = goes_on (has_carrier site past) (index_at site) e.event stays;
+      up = λ was. subst (λ (u : Bool). carrier_after (index_at site) e.event u ≡ true) (sym was)
+          (still_up (index_at site) e.event (subst (λ (u : Bool). stays_on u (index_at site) e.event ≡ true) was stays));
+      alone = λ xid address first second.
+          subst (λ (ms : List (Option Sent4)). AllByRecursion (λ message. IfSome message (AsksAgain xid address)) ms) (sym messages)
+          (asks_all e.moment one two between after others more_others xid address first second);
+      speaks_so = ap (λ (ms : List (Option Sent4)). list_any is_some ms) messages ∙ speaks_all e.moment one two between after others more_others;
+      seen_so = seen_now;
+    }
+
+    finish : Watched (Lasts e.moment) two.last two.state (seen_in site (e ∷ past)) (kept_in site (e ∷ past)) → Bears site clean two.state (e ∷ past)
+        → StandsSo site (e ∷ past) (moved two before) → EndsSo
+    finish w b s = record {
+      carries = record { settings = settings; sound = sound; fields = fits.state; watched = w; bears = b; stands = s };
       fit = all_fit e.moment one two between after others more_others amid.say fits.say;
     }
 
@@ -235,15 +261,15 @@ module _ (site : Site) (clean : Type 0) (e : Entry) (past : List Entry) (one : S
     -- the carrier stays, nothing is given back, and no stop comes
     pub calm_finish : stays_at site e past ≡ true → HeardAfter e.moment reply seen_amid kept_amid two
         → ((tells_end (message_in one) ≡ false → tells_end (message_in two) ≡ false → Calm site e past) → Bears site clean two.state (e ∷ past))
-        → EndsSo
-    calm_finish stays w b = finish (watched_now stays w) (b (calm_now stays))
+        → (ShowsBoth site e past (message_in one) (message_in two) → StandsSo site (e ∷ past) (moved two before)) → EndsSo
+    calm_finish stays w b s = finish (watched_now stays w) (b (calm_now stays)) (s (shown_so stays))
 
     -- the client is off
-    pub off_finish : two.state ≡ Off → WatchedAfter (Lasts e.moment) e.moment seen_amid kept_amid two → EndsSo
-    off_finish off w =
+    pub off_finish : two.state ≡ Off → WatchedAfter (Lasts e.moment) e.moment seen_amid kept_amid two → StandsSo site (e ∷ past) (moved two before) → EndsSo
+    off_finish off w s =
         finish
         (record {
           xid = subst (λ (s : Seen). LastXid two.last s.current) (sym seen_now) w.xid;
           on = subst (λ (state : State4). On (Lasts e.moment) state (seen_in site (e ∷ past)).current (kept_in site (e ∷ past)).answered (kept_in site (e ∷ past)).grant) (sym off) tt;
         })
-        (subst (λ (state : State4). Bears site clean state (e ∷ past)) (sym off) tt)
+        (subst (λ (state : State4). Bears site clean state (e ∷ past)) (sym off) tt) s

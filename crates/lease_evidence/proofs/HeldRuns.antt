@@ -1,8 +1,10 @@
 -- Over every life of an interface it carries what it needs for its lease.
-use Rattle.std.proofs.Common.{◌≡◌, ℕ, Bool, true, false, not, ◌||◌, List, [], ◌∷◌, map, refl, sym, ap, subst, ◌∙◌}
+use Rattle.std.proofs.Common.{◌≡◌, ℕ, Bool, true, false, not, ◌||◌, List, [], ◌∷◌, map, Option, Some, None, IfSome, refl, sym, ap, subst, ◌∙◌}
 use Rattle.std.specs.List.{list_any, AllByRecursion}
 use Rattle.net_types.specs.declared.address.Mac.{Mac}
 use Rattle.net_types.specs.declared.interface.IfSpec.{IfSpec}
+use Rattle.lease_text.specs.Bounds.{FitsLease, HasText, IsTyped}
+use Rattle.lease_text.specs.Leases.{LeaseContent}
 use Rattle.settings.specs.declared.interfaces.Managed.{Managed}
 use Rattle.script_model.specs.IfaceSets.{is_in, is_up}
 use Rattle.client_model.specs.declared.interfaces.Iface.{Iface}
@@ -19,7 +21,7 @@ use Rattle.evidence_words.specs.Entries.{Offer}
 use Rattle.evidence_words.specs.Inputs.{Site, offers_at}
 use Rattle.evidence_words.proofs.Offers.{Offered}
 use Rattle.evidence_words.specs.IfaceLives.{Opening, Met, site_of, opening_entry, entry_of, shown, opens, iface_after, failed_last, IsLived}
-use Rattle.lease_evidence.specs.HeldLeases.{HeldLeasesHaveBasis}
+use Rattle.lease_evidence.specs.HeldLeases.{HeldLeasesHaveBasis, KeepsTyped}
 use Rattle.lease_evidence.proofs.LeasedInputs.{Leased, Turned}
 use Rattle.lease_evidence.proofs.LeasedTurns.{opens_leased, turn_leased}
 use Rattle.lease_evidence.proofs.Spoken.{FitsSaid}
@@ -54,7 +56,11 @@ module _ (spec : IfSpec) (ask : AskContent) (clean : Type 0) where
       others true more h = h
       others false more h = absurd cc
 
-module _ (own : List Mac) (beginning : Beginning) (fits : FitsBeginning beginning) (opening : Opening) where
+has_text : (kept : Option LeaseContent) → IfSome kept FitsLease → IfSome kept IsTyped → IfSome kept HasText
+has_text None fits typed = tt
+has_text (Some lease) fits typed = record { fits = fits; typed = typed }
+
+module _ (own : List Mac) (beginning : Beginning) (fits : FitsBeginning beginning) (typed : KeepsTyped beginning) (opening : Opening) where
   abbrev managed : Managed
   managed = beginning.managed
 
@@ -79,7 +85,7 @@ module _ (own : List Mac) (beginning : Beginning) (fits : FitsBeginning beginnin
 
   turned : (mets : List Met) → IsLived own beginning opening mets → Turned site (Clean mets) (iface mets) (said_last mets) (shown opening mets)
   turned [] lived =
-      opens_leased own (Clean []) opening.at opening.salt lived.0 opening.offers beginning fits.managed fits.duid fits.kept4 (is_up opening.up managed.spec.index.number)
+      opens_leased own (Clean []) opening.at opening.salt lived.0 opening.offers beginning fits.managed fits.duid (has_text beginning.kept4 fits.kept4 typed) (is_up opening.up managed.spec.index.number)
       (offered managed.spec (ask_of beginning.duid managed) (Clean []) (opens beginning opening).said (offers_at site (opening_entry opening)) lived.1 (λ k. k))
   turned (met ∷ mets) lived =
       let before : Leased site (is_in met.turn.unsent (index_of (iface mets)) ≡ false) (iface mets) (shown opening mets) =
@@ -89,15 +95,15 @@ module _ (own : List Mac) (beginning : Beginning) (fits : FitsBeginning beginnin
       (offered managed.spec (ask_of beginning.duid managed) (Clean (met ∷ mets)) (iface_turned own met.turn (iface mets)).said (offers_at site (entry_of met)) lived.3 (λ k. k))
 
 -- Each message of DHCPv4 that an interface says is in range: in its opening, and in each turn.
-pub opening_said_fits : (own : List Mac) (beginning : Beginning) (opening : Opening) → FitsBeginning beginning → IsLived own beginning opening []
-    → AllByRecursion FitsSaid (opens beginning opening).said
-opening_said_fits own beginning opening fits lived = (turned own beginning fits opening [] lived).fit
+pub opening_said_fits : (own : List Mac) (beginning : Beginning) (opening : Opening) → FitsBeginning beginning → KeepsTyped beginning
+    → IsLived own beginning opening [] → AllByRecursion FitsSaid (opens beginning opening).said
+opening_said_fits own beginning opening fits typed lived = (turned own beginning fits typed opening [] lived).fit
 
-pub turn_said_fits : (own : List Mac) (beginning : Beginning) (opening : Opening) (met : Met) (mets : List Met) → FitsBeginning beginning
+pub turn_said_fits : (own : List Mac) (beginning : Beginning) (opening : Opening) (met : Met) (mets : List Met) → FitsBeginning beginning → KeepsTyped beginning
     → IsLived own beginning opening (met ∷ mets) → AllByRecursion FitsSaid (iface_turned own met.turn (iface_after own beginning opening mets)).said
-turn_said_fits own beginning opening met mets fits lived = (turned own beginning fits opening (met ∷ mets) lived).fit
+turn_said_fits own beginning opening met mets fits typed lived = (turned own beginning fits typed opening (met ∷ mets) lived).fit
 
 pub held_leases_have_basis : HeldLeasesHaveBasis
-held_leases_have_basis own beginning opening mets lease fits lived held =
+held_leases_have_basis own beginning opening mets lease fits typed lived held =
     lease_has_basis (site_of own beginning opening) (failed_last (site_of own beginning opening) (shown opening mets) ≡ false) (iface_after own beginning opening mets)
-    (shown opening mets) lease (turned own beginning fits opening mets lived).leased held
+    (shown opening mets) lease (turned own beginning fits typed opening mets lived).leased held

@@ -12,7 +12,7 @@ use Rattle.evidence_words.specs.Entries.{Entry}
 use Rattle.evidence_words.specs.Inputs.{Site}
 use Rattle.evidence_words.proofs.Carrying.{Relation, IsCarried}
 use Rattle.evidence_words.specs.IfaceLives.{now_in}
-use Rattle.lease_evidence.specs.LeaseBasis.{LeaseBasis}
+use Rattle.lease_evidence.specs.HeldLeases.{LeaseRests}
 use Rattle.lease_evidence.proofs.LeasedInputs.{Leased}
 use Rattle.lease_evidence.proofs.LeasedTurns.{opens_leased, turn_leased}
 use Rattle.lease_evidence.proofs.Leases.{lease_has_basis}
@@ -33,5 +33,5 @@ lease_carried Counted = record {
 }
 
 pub lease_based : (site : Site) (clean : Type 0) (f : Iface) (past : List Entry) → f.managed ≡ site.managed → FitsManaged site.managed → IsDuid site.duid → HearBytes past
-    → LeaseRelation site clean f past → (lease : LeaseContent) → held_of f.dhcp4 ≡ Some lease → LeaseBasis site (V4 lease.net) (now_in past) past
+    → LeaseRelation site clean f past → (lease : LeaseContent) → held_of f.dhcp4 ≡ Some lease → LeaseRests site (V4 lease.net) (now_in past) past
 lease_based site clean f past same fits is octets carries lease held = lease_has_basis site clean f past lease (carries fits is octets) held

@@ -11,7 +11,7 @@ use Rattle.frame_link.specs.declared.arp.ArpView.{ArpView}
 use Rattle.frame_link.specs.Frames as ethernet
 use Rattle.frame_link.specs.Packets.{arp_kind}
 use Rattle.ipv4ll.specs.Table.{ll_hears}
-use Rattle.lease_text.specs.Bounds.{FitsLease}
+use Rattle.lease_text.specs.Bounds.{FitsLease, IsTyped}
 use Rattle.lease_text.specs.Leases.{LeaseContent, terms_of}
 use Rattle.udp_frame.specs.declared.udp4.TheConstants.{KIND_IPV4}
 use Rattle.v4_frames.specs.Heard.{HeardMessage, same_mac, message_for, heard4_in}
@@ -22,17 +22,20 @@ use Rattle.v6_client.specs.Runs.{Turned6, hears_turned, carrier_turned, conteste
 use Rattle.v4_client.specs.declared.states.Answer4.TheVariants as answer
 use Rattle.v4_client.specs.declared.states.Carrier.TheVariants.{Up, Down}
 use Rattle.v4_client.specs.declared.states.Exchange4.{Exchange4}
+use Rattle.v4_client.specs.declared.states.State4.{State4}
 use Rattle.v4_client.specs.declared.states.State4.TheVariants.{Off}
 use Rattle.v4_client.specs.declared.states.Step4.{Step4}
 use Rattle.v4_client.specs.declared.states.Tell.{Tell}
 use Rattle.v4_client.specs.declared.states.Tell.TheVariants.{Server}
 use Rattle.v4_client.specs.declared.states.Turn4.{Turn4}
-use Rattle.v4_client.specs.Answers.{reply_in}
+use Rattle.v4_client.specs.Answers.{reply_in, answer_of}
 use Rattle.v4_client.specs.Calls.{answer_to, arp_step, brought, carrier_step, heard_step, rebind_step, release_step}
 use Rattle.v4_client.specs.Clients.{ClientContent, kept_terms, turn_of}
 use Rattle.v4_client.specs.Granting.{kept_values}
 use Rattle.v4_client.specs.Messages.{Arrival}
-use Rattle.v4_client.specs.Moves.{moved}
+use Rattle.v4_client.specs.Hearing.{arp_row, heard_row}
+use Rattle.v4_client.specs.Inputs.{begin_row, rebind_row}
+use Rattle.v4_client.specs.Moves.{kept_after, moved}
 use Rattle.v4_client.specs.Settings.{SettingsContent}
 use Rattle.v4_client.specs.Steps.{rests}
 use Rattle.v4_client.proofs.SoundAnswers.{answer_fits}
@@ -45,7 +48,7 @@ use Rattle.client_model.specs.declared.interfaces.Iface.{Iface}
 use Rattle.client_model.specs.Messages.{Said, Arp}
 use Rattle.client_model.specs.ClientSettings.{ask_of, settings_of, runs_dhcp4}
 use Rattle.client_model.specs.ClientSettings6.{runs_dhcp6}
-use Rattle.client_model.specs.Dhcp4Steps.{holds_lease, said_in, dhcp4_step, arrival_at, begin_dhcp4, rebind_dhcp4, drop_dhcp4, stop_dhcp4, arms}
+use Rattle.client_model.specs.Dhcp4Steps.{holds_lease, said_in, dhcp4_step, arrival_at, begin_dhcp4, begin_local, rebind_dhcp4, drop_dhcp4, stop_dhcp4, arms}
 use Rattle.client_model.specs.Dhcp6Steps.{contested, said6_in, dhcp6_step, tell6_of}
 use Rattle.client_model.specs.IfaceSteps.{IfaceStep, silent, then_step}
 use Rattle.client_model.specs.IfaceTurns.{arp_of_frame, arp_heard, hears_message6, hears_either, hears, input_step}
@@ -54,17 +57,19 @@ use Rattle.client_model.specs.LocalSteps.{local_off}
 use Rattle.evidence_words.specs.Entries.{Entry, Offer, offers_on}
 use Rattle.evidence_words.specs.Inputs.{Site, index_at, arp_on, carrier_after, has_carrier, is_stop, is_stopped}
 use Rattle.evidence_words.proofs.Offers.{Offered}
-use Rattle.lease_evidence.specs.Exchanges.{Seen}
+use Rattle.lease_evidence.specs.Exchanges.{Numbered, Seen}
 use Rattle.evidence_words.specs.IfaceLives.{now_in}
-use Rattle.lease_evidence.specs.LeaseBasis.{tells_end}
+use Rattle.lease_evidence.specs.LeaseBasis.{GoodNak, tells_end}
 use Rattle.lease_evidence.specs.Replies.{message_on, reply_by, reply_at}
 use Rattle.lease_evidence.proofs.ArrivalFits as heard
-use Rattle.lease_evidence.proofs.Carrying.{Carries, Ended, Amid, turn_mac, turn_noarp, seen_amid, kept_amid, within_amid, silent_heard, calm_finish, off_finish}
+use Rattle.lease_evidence.proofs.Carrying.{Carries, Ended, Amid, turn_mac, turn_noarp, turn_flag, seen_amid, kept_amid, within_amid, silent_heard, calm_finish, off_finish}
 use Rattle.lease_evidence.proofs.Observer.{Kept, stays_on, stays_at}
 use Rattle.lease_evidence.proofs.ProbeInputs as probes
 use Rattle.lease_evidence.proofs.SayFits as fields
-use Rattle.lease_evidence.proofs.SayFits.{FitsStep}
+use Rattle.lease_evidence.proofs.SayFits.{FitsGrant, FitsStep}
 use Rattle.lease_evidence.proofs.Spoken.{FitsSaid, AreOther, are_arp, are_dhcp6}
+use Rattle.lease_evidence.proofs.Standing as standing
+use Rattle.lease_evidence.proofs.Standing.{ShowsBoth, StandsIn, StandsSo, stopped_stands}
 use Rattle.lease_evidence.proofs.Watching.{Lasts, message_in}
 use Rattle.lease_evidence.proofs.WatchInputs.{HeardAfter, heard_watched, arp_watched, begin_watched, rebind_watched, off_watched, release_watched}
 
@@ -105,9 +110,12 @@ packet_no_message mac bytes arp h = arp_not_message mac arp (ethernet.frame_in b
 
 -- ---- the kept lease
 
-kept_fits : (kept : Option LeaseContent) → IfSome kept FitsLease → IfSome (option_map terms_of kept) (λ terms. sent.FitsIp4 terms.net.ip)
-kept_fits None h = tt
-kept_fits (Some lease) h = fields.host_fits lease.net.ip h.terms.address
+kept_fits : (may : Bool) (kept : Option LeaseContent) → IfSome kept FitsLease → (may ≡ true → IfSome kept IsTyped)
+    → IfSome (option_map terms_of kept) (λ terms. sent.FitsIp4 terms.net.ip × (may ≡ true → FitsGrant terms))
+kept_fits may None h typed = tt
+kept_fits may (Some lease) h typed =
+    let address : sent.FitsIp4 lease.net.ip = fields.host_fits lease.net.ip h.terms.address in
+    (address, λ is. record { address = address; server = (typed is).server; server_mac = (typed is).server_mac.six })
 
 -- an interface's settings, its carrier, and whether it was stopped
 pub record IsFaced (settings : Managed) (has_carrier_now was_stopped : Bool) (g : Iface) : Type 0 where
@@ -144,9 +152,9 @@ module _ (site : Site) (mac : sent.FitsMac site.managed.spec.mac) (clean : Type 
       (silent (face up stopped c rest)) (record { managed = refl; up = refl; stopped = refl }) (record { managed = refl; up = refl; stopped = refl })
 
   begins4_faced : (up stopped : Bool) (c : ClientContent) (rest : Iface)
-      → IsFaced site.managed up stopped (then_step (begin_dhcp4 at salt (face up stopped c rest)) (arms at)).iface
+      → IsFaced site.managed up stopped (then_step (begin_dhcp4 at salt (face up stopped c rest)) (begin_local at)).iface
   begins4_faced up stopped c rest =
-      arms_faced up stopped (begin_dhcp4 at salt (face up stopped c rest)).iface (perhaps_faced up stopped c rest (carrier_step Up at salt c))
+      let h = perhaps_faced up stopped c rest (carrier_step Up at salt c) in record { managed = h.managed; up = h.up; stopped = h.stopped }
 
   rebinds4_faced : (up stopped : Bool) (c : ClientContent) (rest : Iface)
       → IsFaced site.managed up stopped (then_step (rebind_dhcp4 at salt (face up stopped c rest)) (arms at)).iface
@@ -198,6 +206,19 @@ module _ (site : Site) (mac : sent.FitsMac site.managed.spec.mac) (clean : Type 
     silent_reply : Silent → (exchange : Exchange4) → reply_at site exchange e ≡ answer.Nothing
     silent_reply none exchange = ap (λ (m : Option HeardMessage). reply_by (settings_of site.duid site.managed) exchange (option_map (arrival_at at) m)) none
 
+    -- nothing of a NAK either
+    no_nak : Silent → (o : Numbered) → GoodNak site o e past → ⊥
+    no_nak none o nak = unlike (sym (silent_reply none o.exchange) ∙ nak.refuses)
+      where
+        unlike : answer.Nothing ≡ answer.Nak → ⊥
+        unlike bad = cc
+
+    -- the states after an input: `row` is what comes of a state
+    stands_by : (row : State4 → Step4) → row Off ≡ rests turn Off
+        → standing.AfterInput site e past (message_in one) c.settings.site.iface.name c.fresh c.kept (row c.state)
+        → ShowsBoth site e past (message_in one) (message_in (row c.state)) → StandsSo site (e ∷ past) (moved (row c.state) c)
+    stands_by row quiet on = standing.input_stands site e past (message_in one) c.settings.site.iface.name c.fresh c.kept turn row quiet c.may_stand c.state amid.stands on
+
     -- ---- steps of the client
 
     -- an input that is nothing to the client
@@ -207,6 +228,8 @@ module _ (site : Site) (mac : sent.FitsMac site.managed.spec.mac) (clean : Type 
         (record { state = amid.fields; say = tt }) h stays
         (silent_heard site clean e past one c amid mac between others (rests turn c.state) (silent_reply none) amid.watched)
         (probes.rests_bears site (ask_of site.duid site.managed) clean e past (said_in one) (between ++ after) (tells_end (message_in one)) (bracket after h) turn no_arp c.state amid.bears)
+        (stands_by (rests turn) refl
+        (standing.rests_on site e past (message_in one) c.settings.site.iface.name c.fresh c.kept turn c.state (no_nak none) amid.stands.stands))
 
     -- a packet
     heard_packet : (arp : ArpView) (after : List Said) → AreOther after → stays_at site e past ≡ true → Silent → arp_on (index_at site) event bytes ≡ Some arp
@@ -214,12 +237,21 @@ module _ (site : Site) (mac : sent.FitsMac site.managed.spec.mac) (clean : Type 
     heard_packet arp after more_others stays none is h =
         let two : Step4 = arp_step site.own at salt arp c in
         calm_finish site clean e past one c amid mac between others two c after more_others amid.settings
-        (moved_sound c two amid.sound (arp_sound site.own turn arp c.state amid.sound.state))
+        (moved_sound c two amid.sound (arp_sound (kept_terms c) site.own turn arp c.state amid.sound.state))
         (fields.arp_fits turn (turn_mac site mac c amid.settings) site.own arp c.state amid.fields) h stays
         (silent_heard site clean e past one c amid mac between others two (silent_reply none)
         (arp_watched turn seen_so.count seen_so.current kept_so within_so amid.watched.xid site.own arp c.state amid.watched.on))
         (probes.arp_bears site (ask_of site.duid site.managed) clean e past (said_in one) (between ++ (said_in two ++ after)) (tells_end (message_in one))
         (bracket (said_in two ++ after) h) turn arp is c.state amid.bears)
+        (stands_by (arp_row site.own turn arp) refl
+        (standing.arp_on site e past (message_in one) c.settings.site.iface.name c.fresh c.kept turn (no_nak none) site.own arp c.state amid.stands.stands))
+
+    -- what the message says in an exchange
+    replies_so : (arrival : Arrival) (message : HeardMessage) → arrival ≡ arrival_at at message → message_on site event bytes ≡ Some message
+        → (exchange : Exchange4) → reply_at site exchange e ≡ reply_in c.settings arrival exchange
+    replies_so arrival message same is exchange =
+        ap (λ (came : Option HeardMessage). reply_by (settings_of site.duid site.managed) exchange (option_map (arrival_at at) came)) is
+        ∙ (λ i. reply_in (sym amid.settings i) (sym same i) exchange)
 
     -- a message
     heard_listed : (message : HeardMessage) → heard.FitsHeard message → stays_at site e past ≡ true → message_on site event bytes ≡ Some message
@@ -232,13 +264,17 @@ module _ (site : Site) (mac : sent.FitsMac site.managed.spec.mac) (clean : Type 
         calm_finish site clean e past one c amid mac between others two (brought arrival c) [] tt amid.settings
         (moved_sound (brought arrival c) two
         (brought_sound c (answer_to arrival c) (kept_values c.settings.refused arrival.message.instances) amid.sound (values_fit c.settings.refused arrival.message.instances))
-        (heard_sound turn (answer_to arrival c) c.state early amid.sound.state answers))
+        (heard_sound (kept_terms c) turn (answer_to arrival c) c.state early amid.sound.state answers))
         (fields.heard_fits turn (turn_mac site mac c amid.settings) c.settings arrival (good.message _) good.source c.state answers amid.fields) h stays
         (subst (λ (came : Option HeardMessage). HeardAfter at (λ exchange. reply_by (settings_of site.duid site.managed) exchange (option_map (arrival_at at) came)) seen_so kept_so two) (sym is)
         (subst (λ (s : SettingsContent). HeardAfter at (λ exchange. reply_in s arrival exchange) seen_so kept_so two) amid.settings
         (heard_watched c.settings arrival turn refl seen_so.count kept_so within_so seen_so.current c.state amid.watched.xid amid.watched.on)))
         (probes.heard_bears site (ask_of site.duid site.managed) clean e past (said_in one) (between ++ (said_in two ++ [])) (tells_end (message_in one))
         (bracket (said_in two ++ []) h) c.settings arrival turn (turn_noarp site c amid.settings) no_arp c.state amid.bears)
+        (standing.input_stands site e past (message_in one) c.settings.site.iface.name (brought arrival c).fresh c.kept turn
+        (λ state. heard_row turn (answer_of c.settings arrival state) state) refl c.may_stand c.state amid.stands
+        (standing.heard_on site e past (message_in one) c.settings.site.iface.name (brought arrival c).fresh c.kept c.settings arrival turn (replies_so arrival message refl is)
+        (Lasts at) kept_so.answered kept_so.grant c.state amid.watched.on amid.stands.stands))
 
     heard_message : (message : HeardMessage) → heard.FitsHeard message → stays_at site e past ≡ true → message_on site event bytes ≡ Some message
         → arp_on (index_at site) event bytes ≡ None
@@ -248,52 +284,62 @@ module _ (site : Site) (mac : sent.FitsMac site.managed.spec.mac) (clean : Type 
         subst (λ (more : List Said). Goes more (moved two (brought (arrival_at at message) c))) (append-nil (said_in two)) (heard_listed message good stays is no_arp)
 
     -- the client begins
-    begun : (after : List Said) → AreOther after → stays_at site e past ≡ true → Silent → arp_on (index_at site) event bytes ≡ None
+    begun : (after : List Said) → AreOther after → stays_at site e past ≡ true → has_carrier site (e ∷ past) ≡ true → Silent → arp_on (index_at site) event bytes ≡ None
         → Goes (said_in (carrier_step Up at salt c) ++ after) (moved (carrier_step Up at salt c) c)
-    begun after more_others stays none no_arp h =
+    begun after more_others stays up_now none no_arp h =
         let two : Step4 = carrier_step Up at salt c in
         calm_finish site clean e past one c amid mac between others two c after more_others amid.settings
-        (moved_sound c two amid.sound (begin_sound turn (kept_terms c) c.state early (begin_fits c.kept amid.sound.kept) amid.sound.state))
-        (fields.begin_fits turn (turn_mac site mac c amid.settings) (kept_terms c) c.state (kept_fits c.kept amid.sound.kept) amid.fields) h stays
+        (moved_sound c two amid.sound (begin_sound (kept_terms c) turn c.may_stand c.state early (begin_fits c.kept amid.sound.kept) amid.sound.state))
+        (fields.begin_fits turn (turn_mac site mac c amid.settings) c.may_stand (kept_terms c) c.state
+        (kept_fits c.may_stand c.kept amid.sound.kept (λ is. (amid.stands.may_stand is).0.typed)) amid.fields) h stays
         (silent_heard site clean e past one c amid mac between others two (silent_reply none)
-        (begin_watched turn seen_so.count seen_so.current kept_so within_so amid.watched.xid (kept_terms c) c.state amid.watched.on))
+        (begin_watched turn seen_so.count seen_so.current kept_so within_so amid.watched.xid c.may_stand (kept_terms c) c.state amid.watched.on))
         (probes.begin_bears site (ask_of site.duid site.managed) clean e past (said_in one) (between ++ (said_in two ++ after)) (tells_end (message_in one))
-        (bracket (said_in two ++ after) h) turn no_arp (kept_terms c) c.state amid.bears)
+        (bracket (said_in two ++ after) h) turn no_arp c.may_stand (kept_terms c) c.state amid.bears)
+        (standing.begin_stands site e past (message_in one) c.settings.site.iface.name c.fresh c.kept turn (begin_row turn c.may_stand (kept_terms c)) refl c.may_stand c.state amid.stands
+        (standing.begin_on site e past (message_in one) c.settings.site.iface.name c.fresh c.kept turn (no_nak none) (turn_flag site c amid.settings) up_now
+        c.may_stand c.state amid.stands.stands amid.stands.may_stand))
 
     -- it confirms its lease anew
-    confirmed : (after : List Said) → AreOther after → stays_at site e past ≡ true → Silent → arp_on (index_at site) event bytes ≡ None
+    confirmed : (after : List Said) → AreOther after → stays_at site e past ≡ true → has_carrier site (e ∷ past) ≡ true → Silent → arp_on (index_at site) event bytes ≡ None
         → Goes (said_in (rebind_step at salt c) ++ after) (moved (rebind_step at salt c) c)
-    confirmed after more_others stays none no_arp h =
+    confirmed after more_others stays up_now none no_arp h =
         let two : Step4 = rebind_step at salt c in
         calm_finish site clean e past one c amid mac between others two c after more_others amid.settings
-        (moved_sound c two amid.sound (rebind_sound turn (kept_terms c) c.state early (begin_fits c.kept amid.sound.kept) amid.sound.state))
-        (fields.rebind_fits turn (turn_mac site mac c amid.settings) (kept_terms c) c.state (kept_fits c.kept amid.sound.kept) amid.fields) h stays
+        (moved_sound c two amid.sound (rebind_sound (kept_terms c) turn c.state early (begin_fits c.kept amid.sound.kept) amid.sound.state))
+        (fields.rebind_fits turn (turn_mac site mac c amid.settings) (kept_terms c) c.state (kept_fits false c.kept amid.sound.kept (λ bad. cc)) amid.fields) h stays
         (silent_heard site clean e past one c amid mac between others two (silent_reply none)
         (rebind_watched turn seen_so.count seen_so.current kept_so within_so amid.watched.xid (kept_terms c) c.state amid.watched.on))
         (probes.rebind_bears site (ask_of site.duid site.managed) clean e past (said_in one) (between ++ (said_in two ++ after)) (tells_end (message_in one))
         (bracket (said_in two ++ after) h) turn no_arp (kept_terms c) c.state amid.bears)
+        (standing.begin_stands site e past (message_in one) c.settings.site.iface.name c.fresh c.kept turn (rebind_row turn (kept_terms c)) refl c.may_stand c.state amid.stands
+        (standing.rebind_on site e past (message_in one) c.settings.site.iface.name c.fresh c.kept turn (no_nak none) (turn_flag site c amid.settings) up_now c.state amid.stands.stands))
 
     -- it is off
     dropped : (after : List Said) → AreOther after → Goes (said_in (carrier_step Down at salt c) ++ after) (moved (carrier_step Down at salt c) c)
     dropped after more_others h =
         let two : Step4 = carrier_step Down at salt c in
         off_finish site clean e past one c amid mac between others two c after more_others amid.settings
-        (moved_sound c two amid.sound (off_sound turn c.state)) (fields.off_fits turn (turn_mac site mac c amid.settings)) h refl
+        (moved_sound c two amid.sound (off_sound (kept_terms c) turn c.state)) (fields.off_fits turn (turn_mac site mac c amid.settings)) h refl
         (off_watched turn seen_so.count seen_so.current kept_so within_so amid.watched.xid)
+        (standing.spent_stands site e past (message_in one) c.settings.site.iface.name c.fresh c.kept two c.may_stand refl tt)
 
     stopped_by : (tell : Tell) (after : List Said) → AreOther after → Goes (said_in (release_step tell at salt c) ++ after) (moved (release_step tell at salt c) c)
     stopped_by tell after more_others h =
         let two : Step4 = release_step tell at salt c in
         off_finish site clean e past one c amid mac between others two c after more_others amid.settings
-        (moved_sound c two amid.sound (release_sound turn tell c.state)) (fields.release_fits turn (turn_mac site mac c amid.settings) tell c.state amid.fields) h
+        (moved_sound c two amid.sound (release_sound (kept_terms c) turn tell c.state)) (fields.release_fits turn (turn_mac site mac c amid.settings) tell c.state amid.fields) h
         (probes.stops turn tell c.state)
         (release_watched turn seen_so.count seen_so.current kept_so within_so amid.watched.xid tell c.state)
+        (standing.spent_stands site e past (message_in one) c.settings.site.iface.name c.fresh c.kept two c.may_stand (probes.stops_spend turn tell c.state)
+        (subst (λ (s : State4). StandsIn site (e ∷ past) s (kept_after two.keep c.settings.site.iface.name c.fresh c.kept)) (sym (probes.stops turn tell c.state)) tt))
 
     -- a client that is off hears nothing
-    rests_off : c.state ≡ Off → Goes [] c
-    rests_off off h =
+    rests_off : c.state ≡ Off → is_stopped past ≡ true → Goes [] c
+    rests_off off ended h =
         off_finish site clean e past one c amid mac between others (rests turn c.state) c [] tt amid.settings amid.sound
         (record { state = amid.fields; say = tt }) h off amid.watched
+        (stopped_stands site e past (message_in one) c.may_stand c.state c.kept amid.stands off ended)
 
     -- ---- steps of the interface
 
@@ -312,6 +358,10 @@ module _ (site : Site) (mac : sent.FitsMac site.managed.spec.mac) (clean : Type 
         gated (λ (next : IfaceStep). (after : List Said) → AreOther after → Goes ((step.said ++ next.said) ++ after) next.iface.dhcp4)
         (holds_lease step.iface) (silent step.iface) _ (then_off step spoken) (then_off step spoken)
 
+    -- and arming where a client begins
+    then_begins : (step : IfaceStep) → Spoken step → Spoken (then_step step (begin_local at))
+    then_begins step spoken = then_off step spoken
+
     -- DHCPv6 follows
     module _ (first : IfaceStep) (mac_is : sent.FitsMac first.iface.managed.spec.mac) (spoken : Spoken first) where
       abbrev pub Followed : IfaceStep → Type 0
@@ -326,24 +376,24 @@ module _ (site : Site) (mac : sent.FitsMac site.managed.spec.mac) (clean : Type 
     mac_so : (up stopped : Bool) (g : Iface) → IsFaced site.managed up stopped g → sent.FitsMac g.managed.spec.mac
     mac_so up stopped g faced = subst (λ (m : Managed). sent.FitsMac m.spec.mac) (sym faced.managed) mac
 
-    pub begins_carried : (up stopped : Bool) (rest : Iface) → stays_at site e past ≡ true → Silent → arp_on (index_at site) event bytes ≡ None
+    pub begins_carried : (up stopped : Bool) (rest : Iface) → stays_at site e past ≡ true → has_carrier site (e ∷ past) ≡ true → Silent → arp_on (index_at site) event bytes ≡ None
         → Carried (begins at salt (face up stopped c rest))
-    begins_carried up stopped rest stays none no_arp =
-        let first : IfaceStep = then_step (begin_dhcp4 at salt (face up stopped c rest)) (arms at) in
+    begins_carried up stopped rest stays up_now none no_arp =
+        let first : IfaceStep = then_step (begin_dhcp4 at salt (face up stopped c rest)) (begin_local at) in
         if_dhcp6 first (mac_so up stopped first.iface (begins4_faced up stopped c rest))
-        (then_arms (begin_dhcp4 at salt (face up stopped c rest))
+        (then_begins (begin_dhcp4 at salt (face up stopped c rest))
         (gated Spoken (runs_dhcp4 site.managed.conf) (dhcp4_step at (face up stopped c rest) (carrier_step Up at salt c)) (silent (face up stopped c rest))
-        (λ after more_others. begun after more_others stays none no_arp) (λ after more_others. passed after more_others stays none no_arp)))
+        (λ after more_others. begun after more_others stays up_now none no_arp) (λ after more_others. passed after more_others stays none no_arp)))
         (carrier_turned carrier6.Up at salt first.iface.dhcp6)
 
-    rebinds_carried : (up stopped : Bool) (rest : Iface) → stays_at site e past ≡ true → Silent → arp_on (index_at site) event bytes ≡ None
+    rebinds_carried : (up stopped : Bool) (rest : Iface) → stays_at site e past ≡ true → has_carrier site (e ∷ past) ≡ true → Silent → arp_on (index_at site) event bytes ≡ None
         → Carried (machines_rebind at salt (face up stopped c rest))
-    rebinds_carried up stopped rest stays none no_arp =
+    rebinds_carried up stopped rest stays up_now none no_arp =
         let first : IfaceStep = then_step (rebind_dhcp4 at salt (face up stopped c rest)) (arms at) in
         if_dhcp6 first (mac_so up stopped first.iface (rebinds4_faced up stopped c rest))
         (then_arms (rebind_dhcp4 at salt (face up stopped c rest))
         (gated Spoken (runs_dhcp4 site.managed.conf) (dhcp4_step at (face up stopped c rest) (rebind_step at salt c)) (silent (face up stopped c rest))
-        (λ after more_others. confirmed after more_others stays none no_arp) (λ after more_others. passed after more_others stays none no_arp)))
+        (λ after more_others. confirmed after more_others stays up_now none no_arp) (λ after more_others. passed after more_others stays none no_arp)))
         (rebind_turned at salt first.iface.dhcp6)
 
     drops_carried : (up stopped : Bool) (rest : Iface) → Carried (machines_drop at salt (face up stopped c rest))
@@ -390,7 +440,7 @@ module _ (site : Site) (mac : sent.FitsMac site.managed.spec.mac) (clean : Type 
 
   pub begins_faced : (up stopped : Bool) (c : ClientContent) (rest : Iface) → IsFaced site.managed up stopped (begins at salt (face up stopped c rest)).iface
   begins_faced up stopped c rest =
-      let first : Iface = (then_step (begin_dhcp4 at salt (face up stopped c rest)) (arms at)).iface in
+      let first : Iface = (then_step (begin_dhcp4 at salt (face up stopped c rest)) (begin_local at)).iface in
       dhcp6_faced up stopped first (carrier_turned carrier6.Up at salt first.dhcp6) (begins4_faced up stopped c rest)
 
   rebinds_faced : (up stopped : Bool) (c : ClientContent) (rest : Iface) → IsFaced site.managed up stopped (machines_rebind at salt (face up stopped c rest)).iface
@@ -423,7 +473,7 @@ module _ (site : Site) (mac : sent.FitsMac site.managed.spec.mac) (clean : Type 
     -- after a stop
     stopped_leased : (event : Event) (up : Bool) → Before event one up true c → AfterInput event (silent (face up true c rest))
     stopped_leased event up b h =
-        let ended = rests_off event one between others c b.amid (b.off refl) h in
+        let ended = rests_off event one between others c b.amid (b.off refl) (sym b.stopped_so) h in
         record {
           leased = record {
             stopped = stays (is_stop event) (is_stopped past) b.stopped_so;
@@ -461,6 +511,9 @@ module _ (site : Site) (mac : sent.FitsMac site.managed.spec.mac) (clean : Type 
     stays_so : (event : Event) (up : Bool) → Before event one up false c → stays_on up (index_at site) event ≡ true → stays_at site (entry event) past ≡ true
     stays_so event up b h = subst (λ u. stays_on u (index_at site) event ≡ true) (b.carrier refl) h
 
+    up_so : (event : Event) (up now : Bool) → Before event one up false c → carrier_after (index_at site) event up ≡ now → has_carrier site (entry event ∷ past) ≡ now
+    up_so event up now b carried = subst (λ u. carrier_after (index_at site) event u ≡ now) (b.carrier refl) carried
+
     same_leased : (event : Event) (up : Bool) → Before event one up false c → Passes event up → message_on site event bytes ≡ None
         → arp_on (index_at site) event bytes ≡ None → AfterInput event (silent (face up false c rest))
     same_leased event up b passes none no_arp h =
@@ -482,7 +535,7 @@ module _ (site : Site) (mac : sent.FitsMac site.managed.spec.mac) (clean : Type 
         → AfterInput event (begins at salt (face true false c rest))
     comes_leased event up b stays runs carried none no_arp h =
         going event up true (begins at salt (face true false c rest)) b runs carried (begins_faced true false c rest)
-        (begins_carried event one between others c b.amid true false rest (stays_so event up b stays) none no_arp h)
+        (begins_carried event one between others c b.amid true false rest (stays_so event up b stays) (up_so event up true b carried) none no_arp h)
 
     carrier_leased : (index : ℕ) (to up : Bool) → (index_at site == index) ≡ true → Before (Carrier index to) one up false c
         → AfterInput (Carrier index to) (input_step site.own at salt (Carrier index to) bytes (face up false c rest))
@@ -508,7 +561,7 @@ module _ (site : Site) (mac : sent.FitsMac site.managed.spec.mac) (clean : Type 
         → AfterInput (Rebind index) (input_step site.own at salt (Rebind index) bytes (face up false c rest))
     rebind_leased index true here b =
         rw here (λ h. going (Rebind index) true true (machines_rebind at salt (face true false c rest)) b refl refl (rebinds_faced true false c rest)
-        (rebinds_carried (Rebind index) one between others c b.amid true false rest refl refl refl h))
+        (rebinds_carried (Rebind index) one between others c b.amid true false rest refl (up_so (Rebind index) true true b refl) refl refl h))
     rebind_leased index false here b =
         rw here (same_leased (Rebind index) false b (record { runs = refl; carries = refl; stays = refl }) refl refl)
 

@@ -1,12 +1,12 @@
 -- Each turn of an interface, and its opening, keep what it carries for its lease.
-use Rattle.std.proofs.Common.{◌≡◌, ℕ, ◌<◌, ◌^◌, Bool, true, false, List, [], ◌∷◌, ◌++◌, append_assoc, map, Option, refl, sym, ap, subst, ◌∙◌, lit<, if◌then◌else◌}
+use Rattle.std.proofs.Common.{◌≡◌, ℕ, ◌<◌, ◌^◌, Bool, true, false, List, [], ◌∷◌, ◌++◌, append_assoc, map, Option, Some, None, refl, sym, ap, subst, ◌∙◌, lit<, if◌then◌else◌}
 use Rattle.std.specs.Prelude.{IfSome, option_to_list}
 use Rattle.machine.specs.Moment.{is_due}
 use Rattle.net_types.specs.Marks.{AreBytes}
 use Rattle.net_types.specs.declared.address.Mac.{Mac}
 use Rattle.ipv4ll.specs.Table.{ll_tick}
 use Rattle.net_types.proofs.AllLaws.{all_join}
-use Rattle.lease_text.specs.Bounds.{FitsLease}
+use Rattle.lease_text.specs.Bounds.{FitsLease, HasText, IsTyped}
 use Rattle.lease6_text.specs.Bounds.{IsDuid}
 use Rattle.lease_text.specs.Leases.{LeaseContent}
 use Rattle.v4_client.specs.declared.states.State4.{State4}
@@ -146,13 +146,21 @@ made_sound duid m kept is fits within = record {
   fresh = record { each = tt; rising = tt };
 }
 
+pub lease_fits : (kept : Option LeaseContent) → IfSome kept HasText → IfSome kept FitsLease
+lease_fits None h = tt
+lease_fits (Some lease) h = h.fits
+
+pub lease_typed : (kept : Option LeaseContent) → IfSome kept HasText → IfSome kept IsTyped
+lease_typed None h = tt
+lease_typed (Some lease) h = h.typed
+
 module _ (own : List Mac) (clean : Type 0) (at salt : ℕ) (early : at < 10 ^ 15) (offers : List Offer) (b : Beginning) (fits : FitsManaged b.managed)
-    (is : IsDuid b.duid) (within : IfSome b.kept4 FitsLease) where
+    (is : IsDuid b.duid) (within : IfSome b.kept4 HasText) where
   abbrev m : Managed
   m = b.managed
 
   abbrev site_at : Bool → Site
-  site_at up = record { managed = m; duid = b.duid; own = own; up = up }
+  site_at up = record { managed = m; duid = b.duid; own = own; up = up; kept4 = b.kept4; kept6 = b.kept6 }
 
   abbrev opening : Entry
   opening = record { moment = at; event = Quiet; bytes = []; offers = offers }
@@ -169,11 +177,18 @@ module _ (own : List Mac) (clean : Type 0) (at salt : ℕ) (early : at < 10 ^ 15
   made_amid : (up : Bool) → Amid (site_at up) clean opening [] first made
   made_amid up = record {
     settings = refl;
-    sound = made_sound b.duid m b.kept4 is fits within;
+    sound = made_sound b.duid m b.kept4 is fits (lease_fits b.kept4 within);
     fields = tt;
     say = tt;
     watched = record { xid = tt; on = tt };
     bears = tt;
+    stands = record {
+      may_stand = λ may. (
+        record { off = refl; still = refl; typed = lease_typed b.kept4 within; silent = tt; none_open = refl; stays = tt; unrefused = tt },
+        refl,
+      );
+      stands = tt;
+    };
   }
 
   abbrev opened_when : Bool → IfaceStep
@@ -184,7 +199,7 @@ module _ (own : List Mac) (clean : Type 0) (at salt : ℕ) (early : at < 10 ^ 15
   opens_leased true h =
       let shown : IsFaced m true false (begins at salt (face (site_at true) fits.mac.six clean at salt early [] no_bytes offers [] true false made (resting b))).iface =
       begins_faced (site_at true) fits.mac.six clean at salt early [] no_bytes offers [] true false made (resting b) in
-      let ended = begins_carried (site_at true) fits.mac.six clean at salt early [] no_bytes offers [] Quiet first [] tt made (made_amid true) true false (resting b) refl refl refl h in
+      let ended = begins_carried (site_at true) fits.mac.six clean at salt early [] no_bytes offers [] Quiet first [] tt made (made_amid true) true false (resting b) refl refl refl refl h in
       record {
         leased = record {
           stopped = shown.stopped;

@@ -1,6 +1,7 @@
 -- A lease that is held has its basis.
-use Rattle.std.proofs.Common.{◌≡◌, ℕ, zero, suc, ◌+◌, ◌*◌, ◌||◌, Bool, true, false, List, [], ◌∷◌, Option, Some, None, inl, inr, refl, sym, ap, subst, ◌∙◌, nat_lt, eqb, arith, if◌then◌else◌}
+use Rattle.std.proofs.Common.{◌≡◌, ℕ, zero, suc, ◌+◌, ◌*◌, ◌||◌, Bool, true, false, List, [], ◌∷◌, Option, Some, None, IfSome, inl, inr, refl, sym, ap, subst, ◌∙◌, nat_lt, eqb, arith, if◌then◌else◌}
 use Rattle.std.proofs.lemmas.Bool.Decides.{nat_tests}
+use Rattle.std.specs.Option.{is_some}
 use Rattle.std.specs.Prelude.{option_map}
 use Rattle.machine.proofs.Entries.{since-map}
 use Rattle.machine.specs.Moment.{is_due}
@@ -11,6 +12,7 @@ use Rattle.lease_text.specs.declared.lease.TheConstants.{INFINITE_LEASE}
 use Rattle.lease_text.specs.declared.lease.Terms4.{Terms4}
 use Rattle.lease_text.specs.Leases.{LeaseContent, terms_of}
 use Rattle.v4_client.specs.declared.moments.TheConstants.{SECOND}
+use Rattle.v4_client.specs.declared.states.Exchange4.{Exchange4}
 use Rattle.v4_client.specs.declared.states.State4.{State4}
 use Rattle.v4_client.specs.declared.states.State4.TheVariants.{Off, Init, Selecting, Requesting, Rebooting, Checking, Waiting, Bound, Renewing, Rebinding}
 use Rattle.v4_client.specs.Answers.{is_unexpired}
@@ -22,12 +24,15 @@ use Rattle.evidence_words.specs.Inputs.{Site}
 use Rattle.evidence_words.specs.Probed.{TurnWord, AsProbe, Probes, Probed}
 use Rattle.lease_evidence.specs.Exchanges.{seen_in}
 use Rattle.evidence_words.specs.IfaceLives.{now_in}
+use Rattle.lease_evidence.specs.HeldLeases.{LeaseRests}
+use Rattle.lease_evidence.specs.KeptBasis4.{KeptBasis4}
 use Rattle.lease_evidence.specs.LeaseBasis.{Calm, FirstAck, CalmFor, LeaseBasis}
 use Rattle.lease_evidence.proofs.LawProofs.{granting}
 use Rattle.lease_evidence.proofs.LeasedInputs.{Leased}
 use Rattle.lease_evidence.proofs.Observer.{Grant, kept_in}
 use Rattle.lease_evidence.proofs.Observed.{observes}
 use Rattle.lease_evidence.proofs.ProbeTicks.{IsProbed, Bears}
+use Rattle.lease_evidence.proofs.Standing.{IsAsking, Reboots, Checks, StandsIn}
 use Rattle.lease_evidence.proofs.Watching.{Holds, On, Lasts}
 
 -- ---- the first probe's turn is of no matter
@@ -101,25 +106,58 @@ module _ (site : Site) (past : List Entry) (lease : LeaseContent) where
   not_held : {A : Type 0} → None ≡ Some lease → A
   not_held h = absurd cc
 
+  -- the kept lease, which is asked for again
+  by_asking : (terms : Terms4) (kept : Option LeaseContent) (xid : ℕ) (stood : LeaseContent) → kept ≡ Some lease → kept ≡ Some stood → terms_of stood ≡ terms
+      → IsAsking site past stood xid → Lasts (now_in past) terms → KeptBasis4 site (V4 lease.net) (now_in past) past
+  by_asking terms kept xid stood is still same asking lasts =
+      let lasts_so : Lasts (now_in past) (terms_of stood) = subst (λ (t : Terms4). Lasts (now_in past) t) (sym same) lasts in
+      record {
+        persistent = asking.persistent;
+        lease = stood;
+        kept = asking.filed;
+        told = asking.told;
+        gives = ap (λ (l : LeaseContent). V4 l.net) (one_lease lease stood (sym is ∙ still));
+        unexpired = lasts_unexpired stood.first stood.lease (now_in past) lasts_so;
+        up = asking.up;
+        stays = asking.stays;
+        xid = xid;
+        asks = asking.asks;
+        asked = asking.asked;
+        unrefused = asking.unrefused;
+      }
+    where
+      one_lease : (a b : LeaseContent) → Some a ≡ Some b → a ≡ b
+      one_lease a b h = cc
+
+  by_rebooting : (exchange : Exchange4) (stands : Option Terms4) (kept : Option LeaseContent) → (if is_some stands then kept else None) ≡ Some lease
+      → IfSome stands (Lasts (now_in past)) → IfSome stands (Reboots site past exchange kept) → KeptBasis4 site (V4 lease.net) (now_in past) past
+  by_rebooting exchange None kept is lasts r = not_held is
+  by_rebooting exchange (Some terms) kept is lasts r = by_asking terms kept exchange.xid r.lease is r.still r.same r.asking lasts
+
+  by_checking : (xid : ℕ) (stands : Option Terms4) (kept : Option LeaseContent) → (if is_some stands then kept else None) ≡ Some lease
+      → IfSome stands (Lasts (now_in past)) → IfSome stands (Checks site past xid kept) → KeptBasis4 site (V4 lease.net) (now_in past) past
+  by_checking xid None kept is lasts r = not_held is
+  by_checking xid (Some terms) kept is lasts r = by_asking terms kept xid r.lease is r.still r.same r.asking lasts
+
   by_state : (clean : Type 0) (state : State4) (kept : Option LeaseContent) → (if is_held state then kept else None) ≡ Some lease → IsKept (held_terms state) kept
       → On (Lasts (now_in past)) state (seen_in site past).current (kept_in site past).answered (kept_in site past).grant
-      → Bears site clean state past → LeaseBasis site (V4 lease.net) (now_in past) past
-  by_state clean Off kept is sound on bears = not_held is
-  by_state clean (Init due) kept is sound on bears = not_held is
-  by_state clean (Selecting xid began secs backoff due) kept is sound on bears = not_held is
-  by_state clean (Requesting exchange secs backoff due) kept is sound on bears = not_held is
-  by_state clean (Rebooting exchange backoff end due) kept is sound on bears = not_held is
-  by_state clean (Checking xid terms origin acd) kept is sound on bears = not_held is
-  by_state clean (Waiting due) kept is sound on bears = not_held is
-  by_state clean (Bound xid terms acd) kept is sound on bears =
-      by_grant terms (kept_in site past).grant refl (kept_terms kept terms is sound) on.1 bears
-  by_state clean (Renewing exchange terms acd due) kept is sound on bears =
-      by_grant terms (kept_in site past).grant refl (kept_terms kept terms is sound) on.1 bears.1
-  by_state clean (Rebinding exchange terms acd due) kept is sound on bears =
-      by_grant terms (kept_in site past).grant refl (kept_terms kept terms is sound) on.1 bears.1
+      → Bears site clean state past → StandsIn site past state kept → LeaseRests site (V4 lease.net) (now_in past) past
+  by_state clean Off kept is sound on bears s = not_held is
+  by_state clean (Init due) kept is sound on bears s = not_held is
+  by_state clean (Selecting xid began secs backoff due) kept is sound on bears s = not_held is
+  by_state clean (Requesting exchange secs backoff due) kept is sound on bears s = not_held is
+  by_state clean (Rebooting exchange backoff end due stands) kept is sound on bears s = inr (by_rebooting exchange stands kept is on.1 s)
+  by_state clean (Checking xid terms origin acd stands) kept is sound on bears s = inr (by_checking xid stands kept is on.2 s)
+  by_state clean (Waiting due) kept is sound on bears s = not_held is
+  by_state clean (Bound xid terms acd) kept is sound on bears s =
+      inl (by_grant terms (kept_in site past).grant refl (kept_terms kept terms is sound) on.1 bears)
+  by_state clean (Renewing exchange terms acd due) kept is sound on bears s =
+      inl (by_grant terms (kept_in site past).grant refl (kept_terms kept terms is sound) on.1 bears.1)
+  by_state clean (Rebinding exchange terms acd due) kept is sound on bears s =
+      inl (by_grant terms (kept_in site past).grant refl (kept_terms kept terms is sound) on.1 bears.1)
 
 -- the lease that an interface holds has its basis at the moment of the newest turn
 pub lease_has_basis : (site : Site) (clean : Type 0) (f : Iface) (past : List Entry) (lease : LeaseContent) → Leased site clean f past
-    → held_of f.dhcp4 ≡ Some lease → LeaseBasis site (V4 lease.net) (now_in past) past
+    → held_of f.dhcp4 ≡ Some lease → LeaseRests site (V4 lease.net) (now_in past) past
 lease_has_basis site clean f past lease leased held =
-    by_state site past lease clean f.dhcp4.state f.dhcp4.kept held leased.client.sound.held leased.client.watched.on leased.client.bears
+    by_state site past lease clean f.dhcp4.state f.dhcp4.kept held leased.client.sound.held leased.client.watched.on leased.client.bears leased.client.stands.stands

@@ -10,6 +10,7 @@ pub mod ProbeInputs
 pub mod SayFits
 pub mod ArrivalFits
 pub mod Spoken
+pub mod Standing
 pub mod Carrying
 pub mod LeasedInputs
 pub mod LeasedTurns
@@ -22,3 +23,4 @@ pub mod Cutting
 pub mod EndingProofs
 pub mod ProbeCounts
 pub mod AskingProofs
+pub mod KeptNeedsProofs

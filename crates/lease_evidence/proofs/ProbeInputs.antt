@@ -27,7 +27,7 @@ use Rattle.v4_client.specs.Moments.{expiry}
 use Rattle.v4_client.specs.Steps.{rests}
 use Rattle.v4_client.specs.Answers.{answering, offer_by, reply_in, answer_of}
 use Rattle.v4_client.specs.Hearing.{offered, granted, answered, renewed, heard_row, contested, arp_row}
-use Rattle.v4_client.specs.Inputs.{begins, begin_row, released, release_row, rebind_row, unsent_row}
+use Rattle.v4_client.specs.Inputs.{begins, begin_row, released, released_standing, release_row, rebind_row, unsent_row}
 use Rattle.v4_client.specs.Messages.{Arrival}
 use Rattle.v4_client.specs.Settings.{SettingsContent}
 use Rattle.net_types.specs.declared.address.Ip4.{Ip4}
@@ -57,7 +57,8 @@ module _ (site : Site) (ask : AskContent) (clean : Type 0) (e : Entry) (past : L
     Amid state = BearsAmid site ask clean e past said ended state
 
     abbrev Uncontested : State4 → Type 0
-    Uncontested state = (xid : ℕ) (terms : Terms4) (origin : Origin4) (acd : Acd) → state ≡ Checking xid terms origin acd → contests site acd.addr e ≡ false
+    Uncontested state = (xid : ℕ) (terms : Terms4) (origin : Origin4) (acd : Acd) (stands : Option Terms4) → state ≡ Checking xid terms origin acd stands
+        → contests site acd.addr e ≡ false
 
     stays : (turn : Turn4) (state : State4) → Uncontested state → Amid state → Then (rests turn state)
     stays turn state none b calm = bears_on site ask clean e past said more ended state offers (λ q. calm q refl) none b
@@ -67,7 +68,7 @@ module _ (site : Site) (ask : AskContent) (clean : Type 0) (e : Entry) (past : L
     module _ (settings : SettingsContent) (arrival : Arrival) (turn : Turn4) (arped : turn.site.noarp ≡ site.managed.conf.noarp)
         (silent : arp_on (index_at site) e.event e.bytes ≡ None) where
       none : (state : State4) → Uncontested state
-      none state xid terms origin acd is = ap (tells_contest site.own acd.addr) silent
+      none state xid terms origin acd stands is = ap (tells_contest site.own acd.addr) silent
 
       offering : (xid secs : ℕ) (state : State4) (said : Answer4) → Bears site clean state (e ∷ past) → Then (offered turn xid secs state said)
       offering xid secs state answer.Nothing b calm = b
@@ -75,8 +76,8 @@ module _ (site : Site) (ask : AskContent) (clean : Type 0) (e : Entry) (past : L
       offering xid secs state (answer.Ack terms) b calm = b
       offering xid secs state answer.Nak b calm = b
 
-      granting : (xid : ℕ) (terms : Terms4) (origin : Origin4) → Then (granted turn xid terms origin)
-      granting xid terms origin =
+      granting : (xid : ℕ) (terms : Terms4) (origin : Origin4) (stands : Option Terms4) → Then (granted turn xid terms origin stands)
+      granting xid terms origin stands =
           split turn.site.noarp
           (λ off. rw off (λ calm on. absurd (both off (arped ∙ on))))
           (λ on. rw on (λ calm. (refl, (lit≤ tt, λ k. tt))))
@@ -84,11 +85,12 @@ module _ (site : Site) (ask : AskContent) (clean : Type 0) (e : Entry) (past : L
           both : turn.site.noarp ≡ true → turn.site.noarp ≡ false → ⊥
           both a b = cc
 
-      answering_said : (xid : ℕ) (origin : Origin4) (state : State4) (said : Answer4) → Bears site clean state (e ∷ past) → Then (answered turn xid origin state said)
-      answering_said xid origin state answer.Nothing b = λ calm. b
-      answering_said xid origin state (answer.Offer address server) b = λ calm. b
-      answering_said xid origin state (answer.Ack terms) b = granting xid terms origin
-      answering_said xid origin state answer.Nak b = λ calm. tt
+      answering_said : (xid : ℕ) (origin : Origin4) (stands : Option Terms4) (state : State4) (said : Answer4) → Bears site clean state (e ∷ past)
+          → Then (answered turn xid origin stands state said)
+      answering_said xid origin stands state answer.Nothing b = λ calm. b
+      answering_said xid origin stands state (answer.Offer address server) b = λ calm. b
+      answering_said xid origin stands state (answer.Ack terms) b = granting xid terms origin stands
+      answering_said xid origin stands state answer.Nak b = λ calm. tt
 
       renewing_said : (exchange : Exchange4) (terms : Terms4) (news : News4) (acd : Option Acd) (state : State4) (said : Answer4)
           → reply_in settings arrival exchange ≡ said → ended ≡ false → exchange.address ≡ terms.net.ip → IsProbedAmid site ask clean e past terms.net.ip
@@ -107,10 +109,10 @@ module _ (site : Site) (ask : AskContent) (clean : Type 0) (e : Entry) (past : L
       heard_bears (Selecting xid began secs backoff due) b =
           offering xid secs (Selecting xid began secs backoff due) (offer_by settings arrival (answering settings xid arrival)) tt
       heard_bears (Requesting exchange secs backoff due) b =
-          answering_said exchange.xid origin.Offered (Requesting exchange secs backoff due) (reply_in settings arrival exchange) tt
-      heard_bears (Rebooting exchange backoff end due) b =
-          answering_said exchange.xid origin.Rebooted (Rebooting exchange backoff end due) (reply_in settings arrival exchange) tt
-      heard_bears (Checking xid terms origin acd) b = stays turn (Checking xid terms origin acd) (none (Checking xid terms origin acd)) b
+          answering_said exchange.xid origin.Offered None (Requesting exchange secs backoff due) (reply_in settings arrival exchange) tt
+      heard_bears (Rebooting exchange backoff end due stands) b =
+          answering_said exchange.xid origin.Rebooted stands (Rebooting exchange backoff end due stands) (reply_in settings arrival exchange) tt
+      heard_bears (Checking xid terms origin acd stands) b = stays turn (Checking xid terms origin acd stands) (none (Checking xid terms origin acd stands)) b
       heard_bears (Waiting due) b = λ calm. tt
       heard_bears (Bound xid terms acd) b = stays turn (Bound xid terms acd) (none (Bound xid terms acd)) b
       heard_bears (Renewing exchange terms acd due) b =
@@ -140,32 +142,34 @@ module _ (site : Site) (ask : AskContent) (clean : Type 0) (e : Entry) (past : L
           defends xid terms (with_acd state (detection.acd_hears own acd arp turn.at).acd) (detection.acd_hears own acd arp turn.at).says q
           (with_on (detection.acd_hears own acd arp turn.at).acd)
 
-      checking_heard : (xid : ℕ) (terms : Terms4) (origin : Origin4) (i : IfIndex) (addr : Ip4) (phase : Phase) → Amid (Checking xid terms origin (mk i addr phase))
-          → Then (checked turn xid terms origin (detection.acd_hears site.own (mk i addr phase) arp turn.at).acd (detection.acd_hears site.own (mk i addr phase) arp turn.at).says)
-      checking_heard xid terms origin i addr (Probing n due) b =
+      checking_heard : (xid : ℕ) (terms : Terms4) (origin : Origin4) (i : IfIndex) (addr : Ip4) (phase : Phase) (stands : Option Terms4)
+          → Amid (Checking xid terms origin (mk i addr phase) stands)
+          → Then (checked turn xid terms origin (detection.acd_hears site.own (mk i addr phase) arp turn.at).acd stands (detection.acd_hears site.own (mk i addr phase) arp turn.at).says)
+      checking_heard xid terms origin i addr (Probing n due) stands b =
           split (is_contested site.own addr arp)
           (λ taken. rw taken (λ calm. tt))
-          (λ free. rw free (stays turn (Checking xid terms origin (mk i addr (Probing n due)))
-          (λ xid2 terms2 origin2 acd2 is. ap (λ (a : Ip4). tells_contest site.own a (arp_on (index_at site) e.event e.bytes)) (sym (address_of is)) ∙ ap (tells_contest site.own addr) heard ∙ free) b))
+          (λ free. rw free (stays turn (Checking xid terms origin (mk i addr (Probing n due)) stands)
+          (λ xid2 terms2 origin2 acd2 stands2 is. ap (λ (a : Ip4). tells_contest site.own a (arp_on (index_at site) e.event e.bytes)) (sym (address_of is)) ∙ ap (tells_contest site.own addr) heard ∙ free) b))
         where
           checked_address : State4 → Ip4
-          checked_address (Checking xid terms origin acd) = acd.addr
+          checked_address (Checking xid terms origin acd stands) = acd.addr
           checked_address state = addr
 
-          address_of : {xid2 : ℕ} {terms2 : Terms4} {origin2 : Origin4} {acd2 : Acd} → Checking xid terms origin (mk i addr (Probing n due)) ≡ Checking xid2 terms2 origin2 acd2
+          address_of : {xid2 : ℕ} {terms2 : Terms4} {origin2 : Origin4} {acd2 : Acd} {stands2 : Option Terms4}
+              → Checking xid terms origin (mk i addr (Probing n due)) stands ≡ Checking xid2 terms2 origin2 acd2 stands2
               → addr ≡ acd2.addr
           address_of is = ap checked_address is
-      checking_heard xid terms origin i addr (Announcing due last) b = absurd b.2
-      checking_heard xid terms origin i addr (Held last) b = absurd b.2
-      checking_heard xid terms origin i addr Over b = absurd b.2
+      checking_heard xid terms origin i addr (Announcing due last) stands b = absurd b.2
+      checking_heard xid terms origin i addr (Held last) stands b = absurd b.2
+      checking_heard xid terms origin i addr Over stands b = absurd b.2
 
       pub arp_bears : (state : State4) → Amid state → Then (arp_row site.own turn arp state)
       arp_bears Off b = λ calm. tt
       arp_bears (Init due) b = λ calm. tt
       arp_bears (Selecting xid began secs backoff due) b = λ calm. tt
       arp_bears (Requesting exchange secs backoff due) b = λ calm. tt
-      arp_bears (Rebooting exchange backoff end due) b = λ calm. tt
-      arp_bears (Checking xid terms origin acd) b = checking_heard xid terms origin acd.iface acd.addr acd.phase b
+      arp_bears (Rebooting exchange backoff end due stands) b = λ calm. tt
+      arp_bears (Checking xid terms origin acd stands) b = checking_heard xid terms origin acd.iface acd.addr acd.phase stands b
       arp_bears (Waiting due) b = λ calm. tt
       arp_bears (Bound xid terms acd) b =
           let on : Calm site e past → IsProbed site terms.net.ip (e ∷ past) = λ calm. is_probed_on site ask clean e past terms.net.ip calm b.1 in
@@ -183,34 +187,35 @@ module _ (site : Site) (ask : AskContent) (clean : Type 0) (e : Entry) (past : L
 
     module _ (turn : Turn4) (silent : arp_on (index_at site) e.event e.bytes ≡ None) where
       no_arp : (state : State4) → Uncontested state
-      no_arp state xid terms origin acd is = ap (tells_contest site.own acd.addr) silent
+      no_arp state xid terms origin acd stands is = ap (tells_contest site.own acd.addr) silent
 
       pub rests_bears : (state : State4) → Amid state → Then (rests turn state)
       rests_bears state b = stays turn state (no_arp state) b
 
-      begun : (kept : Option Terms4) → Then (begins turn kept)
-      begun None = λ calm. tt
-      begun (Some terms) = gated Then (is_due (expiry terms) turn.at || eqb turn.site.reboot 0) _ _ (λ calm. tt) (λ calm. tt)
+      begun : (may_stand : Bool) (kept : Option Terms4) → Then (begins turn may_stand kept)
+      begun may_stand None = λ calm. tt
+      begun may_stand (Some terms) =
+          gated (λ (step : Step4). Then (record step { spends = true })) (is_due (expiry terms) turn.at || eqb turn.site.reboot 0) _ _ (λ calm. tt) (λ calm. tt)
 
-      pub begin_bears : (kept : Option Terms4) (state : State4) → Amid state → Then (begin_row turn kept state)
-      begin_bears kept Off b = begun kept
-      begin_bears kept (Init due) b = rests_bears (Init due) b
-      begin_bears kept (Selecting xid began secs backoff due) b = rests_bears (Selecting xid began secs backoff due) b
-      begin_bears kept (Requesting exchange secs backoff due) b = rests_bears (Requesting exchange secs backoff due) b
-      begin_bears kept (Rebooting exchange backoff end due) b = rests_bears (Rebooting exchange backoff end due) b
-      begin_bears kept (Checking xid terms origin acd) b = rests_bears (Checking xid terms origin acd) b
-      begin_bears kept (Waiting due) b = rests_bears (Waiting due) b
-      begin_bears kept (Bound xid terms acd) b = rests_bears (Bound xid terms acd) b
-      begin_bears kept (Renewing exchange terms acd due) b = rests_bears (Renewing exchange terms acd due) b
-      begin_bears kept (Rebinding exchange terms acd due) b = rests_bears (Rebinding exchange terms acd due) b
+      pub begin_bears : (may_stand : Bool) (kept : Option Terms4) (state : State4) → Amid state → Then (begin_row turn may_stand kept state)
+      begin_bears may_stand kept Off b = begun may_stand kept
+      begin_bears may_stand kept (Init due) b = rests_bears (Init due) b
+      begin_bears may_stand kept (Selecting xid began secs backoff due) b = rests_bears (Selecting xid began secs backoff due) b
+      begin_bears may_stand kept (Requesting exchange secs backoff due) b = rests_bears (Requesting exchange secs backoff due) b
+      begin_bears may_stand kept (Rebooting exchange backoff end due stands) b = rests_bears (Rebooting exchange backoff end due stands) b
+      begin_bears may_stand kept (Checking xid terms origin acd stands) b = rests_bears (Checking xid terms origin acd stands) b
+      begin_bears may_stand kept (Waiting due) b = rests_bears (Waiting due) b
+      begin_bears may_stand kept (Bound xid terms acd) b = rests_bears (Bound xid terms acd) b
+      begin_bears may_stand kept (Renewing exchange terms acd due) b = rests_bears (Renewing exchange terms acd due) b
+      begin_bears may_stand kept (Rebinding exchange terms acd due) b = rests_bears (Rebinding exchange terms acd due) b
 
       pub rebind_bears : (kept : Option Terms4) (state : State4) → Amid state → Then (rebind_row turn kept state)
-      rebind_bears kept Off b = begun kept
+      rebind_bears kept Off b = begun false kept
       rebind_bears kept (Init due) b = rests_bears (Init due) b
       rebind_bears kept (Selecting xid began secs backoff due) b = rests_bears (Selecting xid began secs backoff due) b
       rebind_bears kept (Requesting exchange secs backoff due) b = rests_bears (Requesting exchange secs backoff due) b
-      rebind_bears kept (Rebooting exchange backoff end due) b = rests_bears (Rebooting exchange backoff end due) b
-      rebind_bears kept (Checking xid terms origin acd) b = rests_bears (Checking xid terms origin acd) b
+      rebind_bears kept (Rebooting exchange backoff end due stands) b = rests_bears (Rebooting exchange backoff end due stands) b
+      rebind_bears kept (Checking xid terms origin acd stands) b = rests_bears (Checking xid terms origin acd stands) b
       rebind_bears kept (Waiting due) b = rests_bears (Waiting due) b
       rebind_bears kept (Bound xid terms acd) b = λ calm. (refl, is_probed_on site ask clean e past terms.net.ip (calm b.0 refl) b.1)
       rebind_bears kept (Renewing exchange terms acd due) b = λ calm. (refl, is_probed_on site ask clean e past terms.net.ip (calm b.0 refl) b.2)
@@ -222,17 +227,42 @@ released_off : (turn : Turn4) (tell : Tell) (terms : Terms4) → (released turn 
 released_off turn Server terms = refl
 released_off turn Nobody terms = refl
 
+standing_off : (turn : Turn4) (tell : Tell) (stands : Option Terms4) → (released_standing turn tell stands).state ≡ Off
+standing_off turn tell None = refl
+standing_off turn tell (Some terms) = released_off turn tell terms
+
 pub stops : (turn : Turn4) (tell : Tell) (state : State4) → (release_row turn tell state).state ≡ Off
 stops turn tell Off = refl
 stops turn tell (Init due) = refl
 stops turn tell (Selecting xid began secs backoff due) = refl
 stops turn tell (Requesting exchange secs backoff due) = refl
-stops turn tell (Rebooting exchange backoff end due) = refl
-stops turn tell (Checking xid terms origin acd) = refl
+stops turn tell (Rebooting exchange backoff end due stands) = standing_off turn tell stands
+stops turn tell (Checking xid terms origin acd stands) = standing_off turn tell stands
 stops turn tell (Waiting due) = refl
 stops turn tell (Bound xid terms acd) = released_off turn tell terms
 stops turn tell (Renewing exchange terms acd due) = released_off turn tell terms
 stops turn tell (Rebinding exchange terms acd due) = released_off turn tell terms
+
+-- and can't stand on its kept lease any more
+released_spends : (turn : Turn4) (tell : Tell) (terms : Terms4) → (released turn tell terms).spends ≡ true
+released_spends turn Server terms = refl
+released_spends turn Nobody terms = refl
+
+standing_spends : (turn : Turn4) (tell : Tell) (stands : Option Terms4) → (released_standing turn tell stands).spends ≡ true
+standing_spends turn tell None = refl
+standing_spends turn tell (Some terms) = released_spends turn tell terms
+
+pub stops_spend : (turn : Turn4) (tell : Tell) (state : State4) → (release_row turn tell state).spends ≡ true
+stops_spend turn tell Off = refl
+stops_spend turn tell (Init due) = refl
+stops_spend turn tell (Selecting xid began secs backoff due) = refl
+stops_spend turn tell (Requesting exchange secs backoff due) = refl
+stops_spend turn tell (Rebooting exchange backoff end due stands) = standing_spends turn tell stands
+stops_spend turn tell (Checking xid terms origin acd stands) = standing_spends turn tell stands
+stops_spend turn tell (Waiting due) = refl
+stops_spend turn tell (Bound xid terms acd) = released_spends turn tell terms
+stops_spend turn tell (Renewing exchange terms acd due) = released_spends turn tell terms
+stops_spend turn tell (Rebinding exchange terms acd due) = released_spends turn tell terms
 
 -- ---- a failed send of the turn before
 
@@ -254,8 +284,8 @@ module _ (site : Site) (clean : Type 0) (past : List Entry) where
   unsent_bears turn (Init due) b = tt
   unsent_bears turn (Selecting xid began secs backoff due) b = tt
   unsent_bears turn (Requesting exchange secs backoff due) b = tt
-  unsent_bears turn (Rebooting exchange backoff end due) b = tt
-  unsent_bears turn (Checking xid terms origin acd) b = (b.0, restarted_phase acd.iface acd.addr acd.phase turn.at turn.salt b.1)
+  unsent_bears turn (Rebooting exchange backoff end due stands) b = tt
+  unsent_bears turn (Checking xid terms origin acd stands) b = (b.0, restarted_phase acd.iface acd.addr acd.phase turn.at turn.salt b.1)
   unsent_bears turn (Waiting due) b = tt
   unsent_bears turn (Bound xid terms acd) b = b
   unsent_bears turn (Renewing exchange terms acd due) b = b
@@ -272,8 +302,8 @@ module _ (site : Site) (clean : Type 0) (past : List Entry) where
   clean_bears (Init due) k b = tt
   clean_bears (Selecting xid began secs backoff due) k b = tt
   clean_bears (Requesting exchange secs backoff due) k b = tt
-  clean_bears (Rebooting exchange backoff end due) k b = tt
-  clean_bears (Checking xid terms origin acd) k b = (b.0, clean_phase acd.addr acd.phase k b.1)
+  clean_bears (Rebooting exchange backoff end due stands) k b = tt
+  clean_bears (Checking xid terms origin acd stands) k b = (b.0, clean_phase acd.addr acd.phase k b.1)
   clean_bears (Waiting due) k b = tt
   clean_bears (Bound xid terms acd) k b = b
   clean_bears (Renewing exchange terms acd due) k b = b

@@ -15,7 +15,7 @@ use Rattle.v4_client.specs.declared.states.State4.TheVariants.{Off, Init, Select
 use Rattle.v4_client.specs.declared.states.Step4.{Step4}
 use Rattle.v4_client.specs.declared.states.Turn4.{Turn4}
 use Rattle.v4_client.specs.Detection.{checked, defended, with_acd}
-use Rattle.v4_client.specs.Moments.{earlier, expiry, renewal_at, rebinding_at}
+use Rattle.v4_client.specs.Moments.{earlier, expiry, renewal_at, rebinding_at, standing_until}
 use Rattle.v4_client.specs.Steps.{rests}
 use Rattle.std.proofs.lemmas.Slice.Eq.{bytes_eq-Decides}
 use Rattle.net_types.specs.declared.address.Ip4.{Ip4}
@@ -59,8 +59,8 @@ module _ (site : Site) where
   Bears clean (Init due) past = Unit {0}
   Bears clean (Selecting xid began secs backoff due) past = Unit {0}
   Bears clean (Requesting exchange secs backoff due) past = Unit {0}
-  Bears clean (Rebooting exchange backoff end due) past = Unit {0}
-  Bears clean (Checking xid terms origin acd) past = (acd.addr ≡ terms.net.ip) × Probes4 clean acd.addr acd.phase past
+  Bears clean (Rebooting exchange backoff end due stands) past = Unit {0}
+  Bears clean (Checking xid terms origin acd stands) past = (acd.addr ≡ terms.net.ip) × Probes4 clean acd.addr acd.phase past
   Bears clean (Waiting due) past = Unit {0}
   Bears clean (Bound xid terms acd) past = IsProbed terms.net.ip past
   Bears clean (Renewing exchange terms acd due) past = (exchange.address ≡ terms.net.ip) × IsProbed terms.net.ip past
@@ -88,8 +88,8 @@ module _ (site : Site) where
     BearsAmid said ended (Init due) = Unit {0}
     BearsAmid said ended (Selecting xid began secs backoff due) = Unit {0}
     BearsAmid said ended (Requesting exchange secs backoff due) = Unit {0}
-    BearsAmid said ended (Rebooting exchange backoff end due) = Unit {0}
-    BearsAmid said ended (Checking xid terms origin acd) = (ended ≡ false) × (acd.addr ≡ terms.net.ip) × Probes4Amid said acd.addr acd.phase
+    BearsAmid said ended (Rebooting exchange backoff end due stands) = Unit {0}
+    BearsAmid said ended (Checking xid terms origin acd stands) = (ended ≡ false) × (acd.addr ≡ terms.net.ip) × Probes4Amid said acd.addr acd.phase
     BearsAmid said ended (Waiting due) = Unit {0}
     BearsAmid said ended (Bound xid terms acd) = (ended ≡ false) × IsProbedAmid terms.net.ip
     BearsAmid said ended (Renewing exchange terms acd due) = (ended ≡ false) × (exchange.address ≡ terms.net.ip) × IsProbedAmid terms.net.ip
@@ -124,15 +124,15 @@ module _ (site : Site) where
 
     -- the state stays as it is, in a calm turn in which nobody contests the address that is probed
     pub bears_on : (said more : List Said) (ended : Bool) (state : State4) → OfferedHere (said ++ more) → (ended ≡ false → C e past)
-        → ((xid : ℕ) (terms : Terms4) (origin : Origin4) (acd : Acd) → state ≡ Checking xid terms origin acd → contests site acd.addr e ≡ false)
+        → ((xid : ℕ) (terms : Terms4) (origin : Origin4) (acd : Acd) (stands : Option Terms4) → state ≡ Checking xid terms origin acd stands → contests site acd.addr e ≡ false)
         → BearsAmid said ended state → Bears clean state (e ∷ past)
     bears_on said more ended Off h calm none b = tt
     bears_on said more ended (Init due) h calm none b = tt
     bears_on said more ended (Selecting xid began secs backoff due) h calm none b = tt
     bears_on said more ended (Requesting exchange secs backoff due) h calm none b = tt
-    bears_on said more ended (Rebooting exchange backoff end due) h calm none b = tt
-    bears_on said more ended (Checking xid terms origin acd) h calm none b =
-        (b.1, probes_on said more acd.addr acd.phase h (calm b.0) (none xid terms origin acd refl) b.2)
+    bears_on said more ended (Rebooting exchange backoff end due stands) h calm none b = tt
+    bears_on said more ended (Checking xid terms origin acd stands) h calm none b =
+        (b.1, probes_on said more acd.addr acd.phase h (calm b.0) (none xid terms origin acd stands refl) b.2)
     bears_on said more ended (Waiting due) h calm none b = tt
     bears_on said more ended (Bound xid terms acd) h calm none b = is_probed_on terms.net.ip (calm b.0) b.1
     bears_on said more ended (Renewing exchange terms acd due) h calm none b = (b.1, is_probed_on terms.net.ip (calm b.0) b.2)
@@ -157,8 +157,8 @@ module _ (site : Site) where
     rested_amid turn (Init due) b = tt
     rested_amid turn (Selecting xid began secs backoff due) b = tt
     rested_amid turn (Requesting exchange secs backoff due) b = tt
-    rested_amid turn (Rebooting exchange backoff end due) b = tt
-    rested_amid turn (Checking xid terms origin acd) b = (refl, b.0, early_amid acd.addr acd.phase b.1)
+    rested_amid turn (Rebooting exchange backoff end due stands) b = tt
+    rested_amid turn (Checking xid terms origin acd stands) b = (refl, b.0, early_amid acd.addr acd.phase b.1)
     rested_amid turn (Waiting due) b = tt
     rested_amid turn (Bound xid terms acd) b = (refl, still_probed terms.net.ip b)
     rested_amid turn (Renewing exchange terms acd due) b = (refl, b.0, still_probed terms.net.ip b.1)
@@ -178,10 +178,10 @@ module _ (site : Site) where
         rw (h.1 k) (rw same refl)
 
     module _ (turn : Turn4) (now : turn.at ≡ e.moment) where
-      checking_amid : (xid : ℕ) (terms : Terms4) (origin : Origin4) (i : IfIndex) (addr : Ip4) (phase : Phase) → addr ≡ terms.net.ip
+      checking_amid : (xid : ℕ) (terms : Terms4) (origin : Origin4) (i : IfIndex) (addr : Ip4) (phase : Phase) (stands : Option Terms4) → addr ≡ terms.net.ip
           → Probes4 (Unit {0}) addr phase past
-          → AfterTick (checked turn xid terms origin (detection.acd_tick (mk i addr phase) turn.at turn.salt).acd (detection.acd_tick (mk i addr phase) turn.at turn.salt).says)
-      checking_amid xid terms origin i addr (Probing n due) same c =
+          → AfterTick (checked turn xid terms origin (detection.acd_tick (mk i addr phase) turn.at turn.salt).acd stands (detection.acd_tick (mk i addr phase) turn.at turn.salt).says)
+      checking_amid xid terms origin i addr (Probing n due) stands same c =
           split (nat_le due turn.at)
           (λ come. rw come (
           let le : due ≤ e.moment = subst (λ at. due ≤ at) now (test-le due turn.at come) in
@@ -202,9 +202,9 @@ module _ (site : Site) where
             λ noarp. inr (subst (λ a. Probes C C site a 3 2000 e.moment past) same (three_said C site addr n due e past (three n c.0 all) le (c.1 tt))),
           ))))
           (λ early. rw early (refl, same, early_amid addr (Probing n due) c))
-      checking_amid xid terms origin i addr (Announcing due last) same c = absurd c
-      checking_amid xid terms origin i addr (Held last) same c = absurd c
-      checking_amid xid terms origin i addr Over same c = absurd c
+      checking_amid xid terms origin i addr (Announcing due last) stands same c = absurd c
+      checking_amid xid terms origin i addr (Held last) stands same c = absurd c
+      checking_amid xid terms origin i addr Over stands same c = absurd c
 
       defends_amid : (xid : ℕ) (terms : Terms4) (state : State4) (says : AcdSays) → ((said : List Said) → BearsAmid said false state)
           → AfterTick (defended turn xid terms state says)
@@ -232,9 +232,11 @@ module _ (site : Site) where
       tick_amid (Requesting exchange secs Sixteen due) b = tt
       tick_amid (Requesting exchange secs ThirtyTwo due) b = tt
       tick_amid (Requesting exchange secs SixtyFour due) b = tt
-      tick_amid (Rebooting exchange backoff end due) b = gated AfterTick (nat_le end turn.at) _ _ tt tt
-      tick_amid (Checking xid terms origin acd) b =
-          gated AfterTick (is_due (expiry terms) turn.at) _ _ tt (checking_amid xid terms origin acd.iface acd.addr acd.phase b.0 b.1)
+      tick_amid (Rebooting exchange backoff end due stands) b =
+          gated AfterTick (is_due (standing_until stands) turn.at) _ _ tt (gated AfterTick (nat_le end turn.at) _ _ tt tt)
+      tick_amid (Checking xid terms origin acd stands) b =
+          gated AfterTick (is_due (standing_until stands) turn.at) _ _ (refl, b.0, early_amid acd.addr acd.phase b.1)
+          (gated AfterTick (is_due (expiry terms) turn.at) _ _ tt (checking_amid xid terms origin acd.iface acd.addr acd.phase stands b.0 b.1))
       tick_amid (Bound xid terms acd) b =
           let p : IsProbedAmid terms.net.ip = still_probed terms.net.ip b in
           gated AfterTick (is_due (expiry terms) turn.at) _ _ tt

@@ -1,5 +1,7 @@
 -- Each message that a client says fits its fields.
 use Rattle.std.proofs.Common.{◌≡◌, ℕ, ◌+◌, ◌*◌, ◌%◌, ◌^◌, ◌<◌, ◌≤◌, ◌||◌, Bool, true, false, List, Option, Some, None, refl, sym, subst, nat_eq, nat_le, eqb, ◌&&◌, not, arith, lit<, IfSome}
+use Rattle.std.specs.Option.{is_some}
+use Rattle.std.specs.Prelude.{if◌then◌else◌}
 use Rattle.machine.specs.Moment.{is_due}
 use Rattle.net_types.proofs.CaseLaws.{gated}
 use Rattle.net_types.specs.declared.address.Mac.{Mac}
@@ -24,13 +26,13 @@ use Rattle.v4_client.specs.declared.states.Tell.{Tell}
 use Rattle.v4_client.specs.declared.states.Tell.TheVariants.{Server, Nobody}
 use Rattle.v4_client.specs.declared.states.Turn4.{Turn4}
 use Rattle.v4_client.specs.Detection.{checked, defended, with_acd}
-use Rattle.v4_client.specs.Moments.{expiry, renewal_at, rebinding_at, doubled}
+use Rattle.v4_client.specs.Moments.{expiry, renewal_at, rebinding_at, standing_until, doubled}
 use Rattle.v4_client.specs.Saying.{no_address, sent_of, flags, to_everyone, to_server, base}
 use Rattle.v4_client.specs.Sound.{FitsAnswer}
 use Rattle.v4_client.specs.Steps.{rests, to_init, expires, requesting, rebooting, new_exchange, renewing, rebinding, declines, gives_up}
 use Rattle.v4_client.specs.Answers.{answering, offer_by, reply_in, answer_of}
 use Rattle.v4_client.specs.Hearing.{offered, answered, renewed, heard_row, contested, arp_row}
-use Rattle.v4_client.specs.Inputs.{begins, begin_row, off_row, released, release_row, rebind_row, unsent_row}
+use Rattle.v4_client.specs.Inputs.{stood, begins, begin_row, off_row, released, released_standing, release_row, rebind_row, unsent_row}
 use Rattle.v4_client.specs.Messages.{Arrival}
 use Rattle.v4_client.specs.Settings.{SettingsContent}
 use Rattle.net_types.specs.declared.address.Ip4.{Ip4}
@@ -47,7 +49,7 @@ use Rattle.v4_frames.specs.declared.speaker.TheConstants.{BROADCAST_FLAG}
 use Rattle.v4_frames.specs.InRange.{FitsIp4, FitsMac, FitsSent}
 use Rattle.v4_client.specs.declared.settings.Site4.{Site4}
 use Rattle.v4_client.specs.Moments.{secs_since}
-use Rattle.v4_client.specs.Steps.{new_xid, selecting}
+use Rattle.v4_client.specs.Steps.{new_xid, selecting, discovers, standing_news}
 use Rattle.lease_evidence.proofs.ReplyFacts.{IsGranted, is_granted, is_offered}
 use Rattle.arp_acd.proofs.Standing.{test-le}
 
@@ -68,8 +70,8 @@ FitsFields Off = Unit {0}
 FitsFields (Init due) = Unit {0}
 FitsFields (Selecting xid began secs backoff due) = (xid < 2 ^ 32) × (secs < 2 ^ 16)
 FitsFields (Requesting exchange secs backoff due) = FitsAsk exchange × (secs < 2 ^ 16)
-FitsFields (Rebooting exchange backoff end due) = FitsAsk exchange
-FitsFields (Checking xid terms origin acd) = (xid < 2 ^ 32) × FitsGrant terms
+FitsFields (Rebooting exchange backoff end due stands) = FitsAsk exchange × IfSome stands FitsGrant
+FitsFields (Checking xid terms origin acd stands) = (xid < 2 ^ 32) × FitsGrant terms × IfSome stands FitsGrant
 FitsFields (Waiting due) = Unit {0}
 FitsFields (Bound xid terms acd) = (xid < 2 ^ 32) × FitsGrant terms
 FitsFields (Renewing exchange terms acd due) = FitsAsk exchange × FitsGrant terms
@@ -151,15 +153,19 @@ module _ (turn : Turn4) (mac : FitsMac turn.site.iface.mac) where
     say = everyone_fits Discover xid (secs_since began turn.at) (flags turn.site) no_address None None x (secs_fit began turn.at) (flags_fit turn.site) zero_fits tt tt;
   }
 
+  discovers_fits : (news : News4) → FitsStep (record (discovers turn) { news = news })
+  discovers_fits news = let fits = selecting_fits (new_xid turn) turn.at Four (new_xid_fits turn) in record { state = fits.state; say = fits.say }
+
   requesting_fits : (exchange : Exchange4) (secs : ℕ) (backoff : Backoff) → FitsAsk exchange → secs < 2 ^ 16 → FitsStep (requesting turn exchange secs backoff)
   requesting_fits exchange secs backoff a s = record {
     state = (a, s);
     say = everyone_fits Request exchange.xid secs (flags turn.site) no_address (Some exchange.address) exchange.server a.xid s (flags_fit turn.site) zero_fits a.address a.server;
   }
 
-  rebooting_fits : (exchange : Exchange4) (backoff : Backoff) (end : ℕ) → FitsAsk exchange → FitsStep (rebooting turn exchange backoff end)
-  rebooting_fits exchange backoff end a = record {
-    state = a;
+  rebooting_fits : (exchange : Exchange4) (backoff : Backoff) (end : ℕ) (stands : Option Terms4) → FitsAsk exchange → IfSome stands FitsGrant
+      → FitsStep (rebooting turn exchange backoff end stands)
+  rebooting_fits exchange backoff end stands a s = record {
+    state = (a, s);
     say = everyone_fits Request exchange.xid 0 (flags turn.site) no_address (Some exchange.address) exchange.server a.xid (lit< tt) (flags_fit turn.site) zero_fits a.address a.server;
   }
 
@@ -184,14 +190,14 @@ module _ (turn : Turn4) (mac : FitsMac turn.site.iface.mac) where
   expires_fits : FitsStep (expires turn)
   expires_fits = record { state = tt; say = tt }
 
-  declines_fits : (xid : ℕ) (terms : Terms4) → xid < 2 ^ 32 → FitsGrant terms → FitsStep (declines turn xid terms)
-  declines_fits xid terms x t = record {
+  declines_fits : (xid : ℕ) (terms : Terms4) (news : News4) → xid < 2 ^ 32 → FitsGrant terms → FitsStep (declines turn xid terms news)
+  declines_fits xid terms news x t = record {
     state = tt;
     say = everyone_fits Decline xid 0 0 no_address (Some terms.net.ip) (Some terms.server) x (lit< tt) (lit< tt) zero_fits t.address t.server;
   }
 
   gives_up_fits : (xid : ℕ) (terms : Terms4) → xid < 2 ^ 32 → FitsGrant terms → FitsStep (gives_up turn xid terms)
-  gives_up_fits xid terms x t = record { state = tt; say = (declines_fits xid terms x t).say }
+  gives_up_fits xid terms x t = record { state = tt; say = (declines_fits xid terms news.Expire x t).say }
 
   defends_fits : (xid : ℕ) (terms : Terms4) (state : State4) (says : AcdSays) → xid < 2 ^ 32 → FitsGrant terms → FitsFields state
       → FitsStep (defended turn xid terms state says)
@@ -202,14 +208,14 @@ module _ (turn : Turn4) (mac : FitsMac turn.site.iface.mac) where
   defends_fits xid terms state Conflict x t f = record { state = f; say = tt }
   defends_fits xid terms state GivenUp x t f = gives_up_fits xid terms x t
 
-  checks_fits : (xid : ℕ) (terms : Terms4) (origin : Origin4) (acd : Acd) (says : AcdSays) → xid < 2 ^ 32 → FitsGrant terms
-      → FitsStep (checked turn xid terms origin acd says)
-  checks_fits xid terms origin acd Quiet x t = record { state = (x, t); say = tt }
-  checks_fits xid terms origin acd SayProbe x t = record { state = (x, t); say = tt }
-  checks_fits xid terms origin acd SayAnnounce x t = record { state = (x, t); say = tt }
-  checks_fits xid terms origin acd Passed x t = record { state = (x, t); say = tt }
-  checks_fits xid terms origin acd Conflict x t = declines_fits xid terms x t
-  checks_fits xid terms origin acd GivenUp x t = record { state = (x, t); say = tt }
+  checks_fits : (xid : ℕ) (terms : Terms4) (origin : Origin4) (acd : Acd) (stands : Option Terms4) (says : AcdSays) → xid < 2 ^ 32 → FitsGrant terms
+      → IfSome stands FitsGrant → FitsStep (checked turn xid terms origin acd stands says)
+  checks_fits xid terms origin acd stands Quiet x t s = record { state = (x, t, s); say = tt }
+  checks_fits xid terms origin acd stands SayProbe x t s = record { state = (x, t, s); say = tt }
+  checks_fits xid terms origin acd stands SayAnnounce x t s = record { state = (x, t, s); say = tt }
+  checks_fits xid terms origin acd stands Passed x t s = record { state = (x, t); say = tt }
+  checks_fits xid terms origin acd stands Conflict x t s = declines_fits xid terms (standing_news stands) x t
+  checks_fits xid terms origin acd stands GivenUp x t s = record { state = (x, t, s); say = tt }
 
   detects_fits : (xid : ℕ) (terms : Terms4) (state : State4) (acd : Option Acd) → xid < 2 ^ 32 → FitsGrant terms → ((acd : Acd) → FitsFields (with_acd state acd))
       → FitsFields state → FitsStep (detects turn xid terms state acd)
@@ -228,11 +234,13 @@ module _ (turn : Turn4) (mac : FitsMac turn.site.iface.mac) where
   tick_fits (Requesting exchange secs Sixteen due) f = requesting_fits exchange secs (doubled Sixteen) f.0 f.1
   tick_fits (Requesting exchange secs ThirtyTwo due) f = requesting_fits exchange secs (doubled ThirtyTwo) f.0 f.1
   tick_fits (Requesting exchange secs SixtyFour due) f = init_fits
-  tick_fits (Rebooting exchange backoff end due) f =
-      gated FitsStep (nat_le end turn.at) _ _ (selecting_fits (new_xid turn) turn.at Four (new_xid_fits turn)) (rebooting_fits exchange (doubled backoff) end f)
-  tick_fits (Checking xid terms origin acd) f =
-      gated FitsStep (is_due (expiry terms) turn.at) _ _ init_fits
-      (checks_fits xid terms origin (detection.acd_tick acd turn.at turn.salt).acd (detection.acd_tick acd turn.at turn.salt).says f.0 f.1)
+  tick_fits (Rebooting exchange backoff end due stands) f =
+      gated FitsStep (is_due (standing_until stands) turn.at) _ _ expires_fits
+      (gated FitsStep (nat_le end turn.at) _ _ (discovers_fits (standing_news stands)) (rebooting_fits exchange (doubled backoff) end stands f.0 f.1))
+  tick_fits (Checking xid terms origin acd stands) f =
+      gated FitsStep (is_due (standing_until stands) turn.at) _ _ (record { state = (f.0, f.1, tt); say = tt })
+      (gated FitsStep (is_due (expiry terms) turn.at) _ _ (record { state = tt; say = tt })
+      (checks_fits xid terms origin (detection.acd_tick acd turn.at turn.salt).acd stands (detection.acd_tick acd turn.at turn.salt).says f.0 f.1 f.2))
   tick_fits (Bound xid terms acd) f =
       let new : FitsAsk (new_exchange turn terms.net.ip) = new_fits terms.net.ip f.1.address in
       gated FitsStep (is_due (expiry terms) turn.at) _ _ expires_fits
@@ -274,14 +282,14 @@ module _ (turn : Turn4) (mac : FitsMac turn.site.iface.mac) where
         requesting_fits _ secs Four
         (record { xid = x; address = host_fits address good; server = named_fits server (is_offered settings xid arrival address server is).from.named }) s
 
-    answering_fits : (exchange : Exchange4) (origin : Origin4) (state : State4) (said : Answer4) → reply_in settings arrival exchange ≡ said → FitsAsk exchange
-        → FitsFields state → FitsStep (answered turn exchange.xid origin state said)
-    answering_fits exchange origin state (answer.Ack terms) is a f =
+    answering_fits : (exchange : Exchange4) (origin : Origin4) (stands : Option Terms4) (state : State4) (said : Answer4) → reply_in settings arrival exchange ≡ said
+        → FitsAsk exchange → IfSome stands FitsGrant → FitsFields state → FitsStep (answered turn exchange.xid origin stands state said)
+    answering_fits exchange origin stands state (answer.Ack terms) is a s f =
         let t : FitsGrant terms = granted_fits exchange terms a is in
-        gated FitsStep turn.site.noarp _ _ (record { state = (a.xid, t); say = tt }) (record { state = (a.xid, t); say = tt })
-    answering_fits exchange origin state answer.Nak is a f = record { state = tt; say = tt }
-    answering_fits exchange origin state answer.Nothing is a f = rests_fits state f
-    answering_fits exchange origin state (answer.Offer address server) is a f = rests_fits state f
+        gated FitsStep turn.site.noarp _ _ (record { state = (a.xid, t); say = tt }) (record { state = (a.xid, t, s); say = tt })
+    answering_fits exchange origin stands state answer.Nak is a s f = record { state = tt; say = tt }
+    answering_fits exchange origin stands state answer.Nothing is a s f = rests_fits state f
+    answering_fits exchange origin stands state (answer.Offer address server) is a s f = rests_fits state f
 
     renewed_fits : (exchange : Exchange4) (news : News4) (acd : Option Acd) (state : State4) (said : Answer4) → reply_in settings arrival exchange ≡ said
         → FitsAsk exchange → FitsFields state → FitsStep (renewed turn exchange.xid news acd state said)
@@ -296,10 +304,10 @@ module _ (turn : Turn4) (mac : FitsMac turn.site.iface.mac) where
     heard_fits (Selecting xid began secs backoff due) good f =
         offering_fits xid secs (Selecting xid began secs backoff due) (offer_by settings arrival (answering settings xid arrival)) refl good f.0 f.1 f
     heard_fits (Requesting exchange secs backoff due) good f =
-        answering_fits exchange origin.Offered (Requesting exchange secs backoff due) (reply_in settings arrival exchange) refl f.0 f
-    heard_fits (Rebooting exchange backoff end due) good f =
-        answering_fits exchange origin.Rebooted (Rebooting exchange backoff end due) (reply_in settings arrival exchange) refl f f
-    heard_fits (Checking xid terms origin acd) good f = rests_fits (Checking xid terms origin acd) f
+        answering_fits exchange origin.Offered None (Requesting exchange secs backoff due) (reply_in settings arrival exchange) refl f.0 tt f
+    heard_fits (Rebooting exchange backoff end due stands) good f =
+        answering_fits exchange origin.Rebooted stands (Rebooting exchange backoff end due stands) (reply_in settings arrival exchange) refl f.0 f.1 f
+    heard_fits (Checking xid terms origin acd stands) good f = rests_fits (Checking xid terms origin acd stands) f
     heard_fits (Waiting due) good f = rests_fits (Waiting due) f
     heard_fits (Bound xid terms acd) good f = rests_fits (Bound xid terms acd) f
     heard_fits (Renewing exchange terms acd due) good f =
@@ -321,9 +329,9 @@ module _ (turn : Turn4) (mac : FitsMac turn.site.iface.mac) where
   arp_fits own arp (Init due) f = rests_fits (Init due) f
   arp_fits own arp (Selecting xid began secs backoff due) f = rests_fits (Selecting xid began secs backoff due) f
   arp_fits own arp (Requesting exchange secs backoff due) f = rests_fits (Requesting exchange secs backoff due) f
-  arp_fits own arp (Rebooting exchange backoff end due) f = rests_fits (Rebooting exchange backoff end due) f
-  arp_fits own arp (Checking xid terms origin acd) f =
-      checks_fits xid terms origin (detection.acd_hears own acd arp turn.at).acd (detection.acd_hears own acd arp turn.at).says f.0 f.1
+  arp_fits own arp (Rebooting exchange backoff end due stands) f = rests_fits (Rebooting exchange backoff end due stands) f
+  arp_fits own arp (Checking xid terms origin acd stands) f =
+      checks_fits xid terms origin (detection.acd_hears own acd arp turn.at).acd stands (detection.acd_hears own acd arp turn.at).says f.0 f.1 f.2
   arp_fits own arp (Waiting due) f = rests_fits (Waiting due) f
   arp_fits own arp (Bound xid terms acd) f = contests_fits own arp xid terms (Bound xid terms acd) acd f.0 f.1 (λ next. f) f
   arp_fits own arp (Renewing exchange terms acd due) f = contests_fits own arp exchange.xid terms (Renewing exchange terms acd due) acd f.0.xid f.1 (λ next. f) f
@@ -331,31 +339,48 @@ module _ (turn : Turn4) (mac : FitsMac turn.site.iface.mac) where
 
   -- ---- the other inputs
 
-  begun_fits : (kept : Option Terms4) → IfSome kept (λ terms. FitsIp4 terms.net.ip) → FitsStep (begins turn kept)
-  begun_fits None k = init_fits
-  begun_fits (Some terms) k =
-      gated FitsStep (is_due (expiry terms) turn.at || eqb turn.site.reboot 0) _ _ init_fits
-      (rebooting_fits (new_exchange turn terms.net.ip) Four (turn.at + SECOND * turn.site.reboot) (new_fits terms.net.ip k))
+  -- the kept lease's own fields, where the client may stand on it
+  abbrev pub FitsKept : (may_stand : Bool) → Option Terms4 → Type 0
+  FitsKept may_stand kept = IfSome kept (λ terms. FitsIp4 terms.net.ip × (may_stand ≡ true → FitsGrant terms))
 
-  pub begin_fits : (kept : Option Terms4) (state : State4) → IfSome kept (λ terms. FitsIp4 terms.net.ip) → FitsFields state → FitsStep (begin_row turn kept state)
-  begin_fits kept Off k f = begun_fits kept k
-  begin_fits kept (Init due) k f = rests_fits (Init due) f
-  begin_fits kept (Selecting xid began secs backoff due) k f = rests_fits (Selecting xid began secs backoff due) f
-  begin_fits kept (Requesting exchange secs backoff due) k f = rests_fits (Requesting exchange secs backoff due) f
-  begin_fits kept (Rebooting exchange backoff end due) k f = rests_fits (Rebooting exchange backoff end due) f
-  begin_fits kept (Checking xid terms origin acd) k f = rests_fits (Checking xid terms origin acd) f
-  begin_fits kept (Waiting due) k f = rests_fits (Waiting due) f
-  begin_fits kept (Bound xid terms acd) k f = rests_fits (Bound xid terms acd) f
-  begin_fits kept (Renewing exchange terms acd due) k f = rests_fits (Renewing exchange terms acd due) f
-  begin_fits kept (Rebinding exchange terms acd due) k f = rests_fits (Rebinding exchange terms acd due) f
+  stood_fits : (may_stand : Bool) (terms : Terms4) → (may_stand ≡ true → FitsGrant terms) → IfSome (stood turn may_stand terms) FitsGrant
+  stood_fits true terms g =
+      gated (λ (s : Option Terms4). IfSome s FitsGrant) (turn.site.persistent && true && is_some terms.origin) (Some terms) None (g refl) tt
+  stood_fits false terms g = never turn.site.persistent
+    where
+      never : (wished : Bool) → IfSome (if wished && false && is_some terms.origin then Some terms else None) FitsGrant
+      never true = tt
+      never false = tt
 
-  pub rebind_fits : (kept : Option Terms4) (state : State4) → IfSome kept (λ terms. FitsIp4 terms.net.ip) → FitsFields state → FitsStep (rebind_row turn kept state)
-  rebind_fits kept Off k f = begun_fits kept k
+  begun_fits : (may_stand : Bool) (kept : Option Terms4) → FitsKept may_stand kept → FitsStep (begins turn may_stand kept)
+  begun_fits may_stand None k = record { state = tt; say = tt }
+  begun_fits may_stand (Some terms) k =
+      let stands : Option Terms4 = stood turn may_stand terms in
+      let fits : FitsStep (rebooting turn (new_exchange turn terms.net.ip) Four (turn.at + SECOND * turn.site.reboot) stands) =
+      rebooting_fits (new_exchange turn terms.net.ip) Four (turn.at + SECOND * turn.site.reboot) stands (new_fits terms.net.ip k.0) (stood_fits may_stand terms k.1) in
+      gated (λ (step : Step4). FitsStep (record step { spends = true })) (is_due (expiry terms) turn.at || eqb turn.site.reboot 0) _ _
+      (record { state = tt; say = tt }) (record { state = fits.state; say = fits.say })
+
+  pub begin_fits : (may_stand : Bool) (kept : Option Terms4) (state : State4) → FitsKept may_stand kept → FitsFields state
+      → FitsStep (begin_row turn may_stand kept state)
+  begin_fits may_stand kept Off k f = begun_fits may_stand kept k
+  begin_fits may_stand kept (Init due) k f = rests_fits (Init due) f
+  begin_fits may_stand kept (Selecting xid began secs backoff due) k f = rests_fits (Selecting xid began secs backoff due) f
+  begin_fits may_stand kept (Requesting exchange secs backoff due) k f = rests_fits (Requesting exchange secs backoff due) f
+  begin_fits may_stand kept (Rebooting exchange backoff end due stands) k f = rests_fits (Rebooting exchange backoff end due stands) f
+  begin_fits may_stand kept (Checking xid terms origin acd stands) k f = rests_fits (Checking xid terms origin acd stands) f
+  begin_fits may_stand kept (Waiting due) k f = rests_fits (Waiting due) f
+  begin_fits may_stand kept (Bound xid terms acd) k f = rests_fits (Bound xid terms acd) f
+  begin_fits may_stand kept (Renewing exchange terms acd due) k f = rests_fits (Renewing exchange terms acd due) f
+  begin_fits may_stand kept (Rebinding exchange terms acd due) k f = rests_fits (Rebinding exchange terms acd due) f
+
+  pub rebind_fits : (kept : Option Terms4) (state : State4) → FitsKept false kept → FitsFields state → FitsStep (rebind_row turn kept state)
+  rebind_fits kept Off k f = begun_fits false kept k
   rebind_fits kept (Init due) k f = rests_fits (Init due) f
   rebind_fits kept (Selecting xid began secs backoff due) k f = rests_fits (Selecting xid began secs backoff due) f
   rebind_fits kept (Requesting exchange secs backoff due) k f = rests_fits (Requesting exchange secs backoff due) f
-  rebind_fits kept (Rebooting exchange backoff end due) k f = rests_fits (Rebooting exchange backoff end due) f
-  rebind_fits kept (Checking xid terms origin acd) k f = rests_fits (Checking xid terms origin acd) f
+  rebind_fits kept (Rebooting exchange backoff end due stands) k f = rests_fits (Rebooting exchange backoff end due stands) f
+  rebind_fits kept (Checking xid terms origin acd stands) k f = rests_fits (Checking xid terms origin acd stands) f
   rebind_fits kept (Waiting due) k f = rests_fits (Waiting due) f
   rebind_fits kept (Bound xid terms acd) k f = rebinding_fits (new_exchange turn terms.net.ip) terms acd (new_fits terms.net.ip f.1.address) f.1
   rebind_fits kept (Renewing exchange terms acd due) k f = rebinding_fits (new_exchange turn terms.net.ip) terms acd (new_fits terms.net.ip f.1.address) f.1
@@ -368,13 +393,17 @@ module _ (turn : Turn4) (mac : FitsMac turn.site.iface.mac) where
   released_fits Server terms t = record { state = tt; say = server_fits Release (new_xid turn) terms (Some terms.server) (new_xid_fits turn) t t.server }
   released_fits Nobody terms t = record { state = tt; say = tt }
 
+  standing_fits : (tell : Tell) (stands : Option Terms4) → IfSome stands FitsGrant → FitsStep (released_standing turn tell stands)
+  standing_fits tell None s = off_fits
+  standing_fits tell (Some terms) s = released_fits tell terms s
+
   pub release_fits : (tell : Tell) (state : State4) → FitsFields state → FitsStep (release_row turn tell state)
   release_fits tell Off f = off_fits
   release_fits tell (Init due) f = off_fits
   release_fits tell (Selecting xid began secs backoff due) f = off_fits
   release_fits tell (Requesting exchange secs backoff due) f = off_fits
-  release_fits tell (Rebooting exchange backoff end due) f = off_fits
-  release_fits tell (Checking xid terms origin acd) f = off_fits
+  release_fits tell (Rebooting exchange backoff end due stands) f = standing_fits tell stands f.1
+  release_fits tell (Checking xid terms origin acd stands) f = standing_fits tell stands f.2
   release_fits tell (Waiting due) f = off_fits
   release_fits tell (Bound xid terms acd) f = released_fits tell terms f.1
   release_fits tell (Renewing exchange terms acd due) f = released_fits tell terms f.1
@@ -385,8 +414,8 @@ unsent_fits turn Off f = f
 unsent_fits turn (Init due) f = f
 unsent_fits turn (Selecting xid began secs backoff due) f = f
 unsent_fits turn (Requesting exchange secs backoff due) f = f
-unsent_fits turn (Rebooting exchange backoff end due) f = f
-unsent_fits turn (Checking xid terms origin acd) f = f
+unsent_fits turn (Rebooting exchange backoff end due stands) f = f
+unsent_fits turn (Checking xid terms origin acd stands) f = f
 unsent_fits turn (Waiting due) f = f
 unsent_fits turn (Bound xid terms acd) f = f
 unsent_fits turn (Renewing exchange terms acd due) f = f

@@ -3,6 +3,7 @@ use Rattle.std.proofs.Common.{◌≡◌, ℕ, Bool, true, false, ◌||◌, List,
 use Rattle.std.proofs.lemmas.List.{length-append}
 use Rattle.std.specs.Prelude.{option_to_list, option_map}
 use Rattle.std.specs.List.{AllByRecursion, list_any}
+use Rattle.std.specs.Option.{is_some}
 use Rattle.net_types.proofs.AllLaws.{all_join, all_map}
 use Rattle.net_types.specs.Fields.{u16_field}
 use Rattle.net_types.specs.declared.address.Ip4.{Ip4}
@@ -35,6 +36,7 @@ use Rattle.evidence_words.specs.Entries.{Offer}
 use Rattle.evidence_words.specs.Inputs.{Site}
 use Rattle.evidence_words.proofs.Offers.{Offered}
 use Rattle.lease_evidence.specs.Exchanges.{Seen, message_of, shows, show}
+use Rattle.lease_evidence.specs.KeptBasis4.{AsksAgain}
 use Rattle.lease_evidence.specs.LeaseBasis.{tells_end}
 use Rattle.lease_evidence.proofs.Watching.{message_in}
 
@@ -186,6 +188,43 @@ module _ (at : ℕ) (more : List Said) where
   ends_others (Arp say ∷ said) h = ends_others said h.1
   ends_others (Dhcp6 sent ∷ said) h = ends_others said h.1
 
+  speaks_step : (step : Step4) → list_any is_some (map message_said (said_in step ++ more)) ≡ (is_some (message_in step) || list_any is_some (map message_said more))
+  speaks_step step = by_parts step.say step.arp
+    where
+      by_parts : (say : Option Say4) (arp : Option ArpSay)
+          → list_any is_some (map message_said ((map Dhcp4 (option_to_list say) ++ map Arp (option_to_list arp)) ++ more))
+          ≡ (is_some (option_map sent_of say) || list_any is_some (map message_said more))
+      by_parts None None = refl
+      by_parts None (Some arp) = refl
+      by_parts (Some say) None = refl
+      by_parts (Some say) (Some arp) = refl
+
+  speaks_others : (said : List Said) → AreOther said → list_any is_some (map message_said (said ++ more)) ≡ list_any is_some (map message_said more)
+  speaks_others [] h = refl
+  speaks_others (Dhcp4 say ∷ said) h = absurd h.0
+  speaks_others (Arp say ∷ said) h = speaks_others said h.1
+  speaks_others (Dhcp6 sent ∷ said) h = speaks_others said h.1
+
+  module _ (xid : ℕ) (address : Ip4) where
+    abbrev AskAll : List Said → Type 0
+    AskAll said = AllByRecursion (λ message. IfSome message (AsksAgain xid address)) (map message_said said)
+
+    asks_step : (step : Step4) → IfSome (message_in step) (AsksAgain xid address) → AskAll more → AskAll (said_in step ++ more)
+    asks_step step asks rest = by_parts step.say step.arp asks
+      where
+        by_parts : (say : Option Say4) (arp : Option ArpSay) → IfSome (option_map sent_of say) (AsksAgain xid address)
+            → AskAll ((map Dhcp4 (option_to_list say) ++ map Arp (option_to_list arp)) ++ more)
+        by_parts None None h = rest
+        by_parts None (Some arp) h = (tt, rest)
+        by_parts (Some say) None h = (h, rest)
+        by_parts (Some say) (Some arp) h = (h, (tt, rest))
+
+    asks_others : (said : List Said) → AreOther said → AskAll more → AskAll (said ++ more)
+    asks_others [] h rest = rest
+    asks_others (Dhcp4 say ∷ said) h rest = absurd h.0
+    asks_others (Arp say ∷ said) h rest = (tt, asks_others said h.1 rest)
+    asks_others (Dhcp6 sent ∷ said) h rest = (tt, asks_others said h.1 rest)
+
 -- what an interface says in a turn: a step of its DHCPv4 client, other messages, another step, other messages
 abbrev pub said_all : (one : Step4) (between : List Said) (two : Step4) (after : List Said) → List Said
 said_all one between two after = (said_in one ++ between) ++ (said_in two ++ after)
@@ -220,6 +259,23 @@ module _ (at : ℕ) (one two : Step4) (between after : List Said) (others : AreO
       ∙ ap (λ b. tells_end (message_in one) || b) (ends_others at (said_in two ++ (after ++ [])) between others
       ∙ ends_step at (after ++ []) two ∙ ap (λ b. tells_end (message_in two) || b) (ends_others at [] after more_others))
       ∙ or_none (tells_end (message_in one)) (tells_end (message_in two))
+
+  pub speaks_all : list_any is_some (map message_said (said_all one between two after)) ≡ (is_some (message_in one) || is_some (message_in two))
+  speaks_all =
+      ap (λ (said : List Said). list_any is_some (map message_said said)) same_list
+      ∙ speaks_step at (between ++ (said_in two ++ (after ++ []))) one
+      ∙ ap (λ b. is_some (message_in one) || b) (speaks_others at (said_in two ++ (after ++ [])) between others
+      ∙ speaks_step at (after ++ []) two ∙ ap (λ b. is_some (message_in two) || b) (speaks_others at [] after more_others))
+      ∙ or_none (is_some (message_in one)) (is_some (message_in two))
+
+  -- each message asks for an address again where those of both steps do
+  pub asks_all : (xid : ℕ) (address : Ip4) → IfSome (message_in one) (AsksAgain xid address) → IfSome (message_in two) (AsksAgain xid address)
+      → AllByRecursion (λ message. IfSome message (AsksAgain xid address)) (map message_said (said_all one between two after))
+  asks_all xid address first second =
+      subst (λ (said : List Said). AllByRecursion (λ message. IfSome message (AsksAgain xid address)) (map message_said said)) (sym same_list)
+      (asks_step at (between ++ (said_in two ++ (after ++ []))) xid address one first
+      (asks_others at (said_in two ++ (after ++ [])) xid address between others
+      (asks_step at (after ++ []) xid address two second (asks_others at [] xid address after more_others tt))))
 
   pub all_fit : IfSome one.say (λ say. FitsSent (sent_of say)) → IfSome two.say (λ say. FitsSent (sent_of say))
       → AllByRecursion FitsSaid (said_all one between two after)

@@ -1,12 +1,21 @@
 -- Inputs keep what a client carries of the observer.
-use Rattle.std.proofs.Common.{◌≡◌, ℕ, ◌+◌, ◌*◌, ◌≤◌, ◌||◌, if◌then◌else◌, Bool, true, false, List, Option, Some, None, refl, sym, ap, subst, ◌∙◌, nat_eq, nat_lt, eqb, arith}
+use Rattle.std.proofs.Common.{◌≡◌, ℕ, ◌+◌, ◌-◌, ◌*◌, ◌≤◌, ◌&&◌, ◌||◌, if◌then◌else◌, IfSome, Bool, true, false, List, Option, Some, None, refl, sym, ap, subst, ◌∙◌, nat_eq, nat_le, nat_lt, eqb, arith}
 use Rattle.std.proofs.lemmas.Bool.Decides.{nat_tests}
+use Rattle.std.specs.Option.{is_some}
 use Rattle.machine.specs.Moment.{is_due}
-use Rattle.net_types.proofs.CaseLaws.{gated}
+use Rattle.net_types.proofs.CaseLaws.{split, gated}
 use Rattle.net_types.specs.declared.address.Mac.{Mac}
 use Rattle.frame_link.specs.declared.arp.ArpView.{ArpView}
 use Rattle.arp_acd.specs.declared.detection.Acd.{Acd}
+use Rattle.arp_acd.specs.declared.detection.AcdSays.TheVariants.{Passed}
+use Rattle.arp_acd.specs.declared.detection.Phase.{Phase}
+use Rattle.arp_acd.specs.declared.detection.Phase.TheVariants.{Probing, Announcing, Held, Over}
+use Rattle.arp_acd.specs.declared.timing.TheConstants.{DEFEND_INTERVAL}
+use Rattle.arp_acd.specs.Conflict.{is_used, is_contested}
 use Rattle.arp_acd.specs.Table as detection
+use Rattle.arp_acd.proofs.Standing.{mk}
+use Rattle.net_types.specs.declared.address.Ip4.{Ip4}
+use Rattle.net_types.specs.declared.interface.IfIndex.{IfIndex}
 use Rattle.lease_text.specs.declared.lease.TheConstants.{INFINITE_LEASE}
 use Rattle.lease_text.specs.declared.lease.Terms4.{Terms4}
 use Rattle.v4_client.specs.declared.moments.TheConstants.{SECOND}
@@ -31,7 +40,7 @@ use Rattle.v4_client.specs.Saying.{sent_of, request}
 use Rattle.v4_client.specs.Steps.{rests, requesting, rebooting, new_exchange}
 use Rattle.v4_client.specs.Answers.{answering, is_unexpired, offer_by, reply_in, answer_of}
 use Rattle.v4_client.specs.Hearing.{offered, answered, renewed, heard_row, contested, arp_row}
-use Rattle.v4_client.specs.Inputs.{begins, begin_row, off_row, released, release_row, rebind_row, unsent_row}
+use Rattle.v4_client.specs.Inputs.{stood, begins, begin_row, off_row, released, released_standing, release_row, rebind_row, unsent_row}
 use Rattle.v4_client.specs.Messages.{Arrival}
 use Rattle.v4_client.specs.Settings.{SettingsContent}
 use Rattle.lease_evidence.specs.Exchanges.{Numbered, Seen, shows}
@@ -133,15 +142,15 @@ module _ (settings : SettingsContent) (arrival : Arrival) (turn : Turn4) (now : 
         → On (Lasts turn.at) state (Some x) k.answered k.grant → Heard (Some x) (rests turn state)
     waits state said is none on = unheard (Some x) state last (heard_as said is ∙ none) on
 
-    answers : (xid : ℕ) (origin : Origin4) (state : State4) (said : Answer4) → reply exchange ≡ said
-        → On (Lasts turn.at) state (Some x) k.answered k.grant → Heard (Some x) (answered turn xid origin state said)
-    answers xid origin state (answer.Ack terms) is on =
+    answers : (xid : ℕ) (origin : Origin4) (stands : Option Terms4) (state : State4) (said : Answer4) → reply exchange ≡ said → IfSome stands (Lasts turn.at)
+        → On (Lasts turn.at) state (Some x) k.answered k.grant → Heard (Some x) (answered turn xid origin stands state said)
+    answers xid origin stands state (answer.Ack terms) is stood on =
         gated (Heard (Some x)) turn.site.noarp _ _
         (takes terms (Bound xid terms None) is (λ a h. (a, h)))
-        (takes terms (Checking xid terms origin (detection.acd_begun turn.site.iface.index terms.net.ip turn.at turn.salt)) is (λ a h. (a, h)))
-    answers xid origin state answer.Nak is on = record { xid = last; on = tt }
-    answers xid origin state answer.Nothing is on = waits state answer.Nothing is refl on
-    answers xid origin state (answer.Offer address server) is on = waits state (answer.Offer address server) is refl on
+        (takes terms (Checking xid terms origin (detection.acd_begun turn.site.iface.index terms.net.ip turn.at turn.salt) stands) is (λ a h. (a, (h.0, tt), stood)))
+    answers xid origin stands state answer.Nak is stood on = record { xid = last; on = tt }
+    answers xid origin stands state answer.Nothing is stood on = waits state answer.Nothing is refl on
+    answers xid origin stands state (answer.Offer address server) is stood on = waits state (answer.Offer address server) is refl on
 
     renews : (xid : ℕ) (news : News4) (acd : Option Acd) (state : State4) (said : Answer4) → reply exchange ≡ said
         → On (Lasts turn.at) state (Some x) k.answered k.grant → Heard (Some x) (renewed turn xid news acd state said)
@@ -150,11 +159,12 @@ module _ (settings : SettingsContent) (arrival : Arrival) (turn : Turn4) (now : 
     renews xid news acd state answer.Nothing is on = waits state answer.Nothing is refl on
     renews xid news acd state (answer.Offer address server) is on = waits state (answer.Offer address server) is refl on
 
-  answering_in : (current : Option Numbered) (exchange : Exchange4) (origin : Origin4) (state : State4) → LastXid turn.last current
-      → Asks exchange k.answered current → On (Lasts turn.at) state current k.answered k.grant
-      → Heard current (answered turn exchange.xid origin state (reply exchange))
-  answering_in None exchange origin state last asks on = absurd asks
-  answering_in (Some x) exchange origin state last asks on = answers x exchange asks.0 asks.1 last exchange.xid origin state (reply exchange) refl on
+  answering_in : (current : Option Numbered) (exchange : Exchange4) (origin : Origin4) (stands : Option Terms4) (state : State4) → LastXid turn.last current
+      → Asks exchange k.answered current → IfSome stands (Lasts turn.at) → On (Lasts turn.at) state current k.answered k.grant
+      → Heard current (answered turn exchange.xid origin stands state (reply exchange))
+  answering_in None exchange origin stands state last asks stood on = absurd asks
+  answering_in (Some x) exchange origin stands state last asks stood on =
+      answers x exchange asks.0 asks.1 last exchange.xid origin stands state (reply exchange) refl stood on
 
   renewing_in : (current : Option Numbered) (exchange : Exchange4) (news : News4) (acd : Option Acd) (state : State4) → LastXid turn.last current
       → Asks exchange k.answered current → On (Lasts turn.at) state current k.answered k.grant
@@ -178,9 +188,9 @@ module _ (settings : SettingsContent) (arrival : Arrival) (turn : Turn4) (now : 
   heard_watched current Off last on = free current Off last (λ grant answered. tt)
   heard_watched current (Init due) last on = free current (Init due) last (λ grant answered. tt)
   heard_watched current (Selecting xid began secs backoff due) last on = selecting_in current xid began secs backoff due on
-  heard_watched current (Requesting exchange secs backoff due) last on = answering_in current exchange Offered (Requesting exchange secs backoff due) last on on
-  heard_watched current (Rebooting exchange backoff end due) last on = answering_in current exchange Rebooted (Rebooting exchange backoff end due) last on on
-  heard_watched current (Checking xid terms origin acd) last on = unheard current (Checking xid terms origin acd) last (settled reply current k on.0) on
+  heard_watched current (Requesting exchange secs backoff due) last on = answering_in current exchange Offered None (Requesting exchange secs backoff due) last on tt on
+  heard_watched current (Rebooting exchange backoff end due stands) last on = answering_in current exchange Rebooted stands (Rebooting exchange backoff end due stands) last on.0 on.1 on
+  heard_watched current (Checking xid terms origin acd stands) last on = unheard current (Checking xid terms origin acd stands) last (settled reply current k on.0) on
   heard_watched current (Waiting due) last on = free current (Waiting due) last (λ grant answered. tt)
   heard_watched current (Bound xid terms acd) last on = unheard current (Bound xid terms acd) last (settled reply current k on.0) on
   heard_watched current (Renewing exchange terms acd due) last on =
@@ -189,6 +199,28 @@ module _ (settings : SettingsContent) (arrival : Arrival) (turn : Turn4) (now : 
       renewing_in current exchange news.Rebind acd (Rebinding exchange terms acd due) last on.0 on
 
 -- ---- the other inputs
+
+contested_by : (acd : Acd) (last : Option ℕ) (at : ℕ) (next : Phase) → (detection.contested_row acd last at next).says ≡ Passed → ⊥
+contested_by acd None at next = λ is. absurd cc
+contested_by acd (Some before) at next =
+    gated (λ (step : detection.AcdStep). step.says ≡ Passed → ⊥) (nat_le DEFEND_INTERVAL (at - before)) _ _ (λ is. absurd cc) (λ is. absurd cc)
+
+-- a packet lets no address pass
+never_passes : (own : List Mac) (iface : IfIndex) (addr : Ip4) (phase : Phase) (arp : ArpView) (at : ℕ)
+    → (detection.acd_hears own (mk iface addr phase) arp at).says ≡ Passed → ⊥
+never_passes own iface addr (Probing sent due) arp at =
+    gated (λ (step : detection.AcdStep). step.says ≡ Passed → ⊥) (is_contested own addr arp) _ _ (λ is. absurd cc) (λ is. absurd cc)
+never_passes own iface addr (Announcing due last) arp at =
+    gated (λ (step : detection.AcdStep). step.says ≡ Passed → ⊥) (is_used own addr arp) _ _
+    (contested_by (mk iface addr (Announcing due last)) last at (Announcing due (Some at))) (λ is. absurd cc)
+never_passes own iface addr (Held last) arp at =
+    gated (λ (step : detection.AcdStep). step.says ≡ Passed → ⊥) (is_used own addr arp) _ _
+    (contested_by (mk iface addr (Held last)) last at (Held (Some at))) (λ is. absurd cc)
+never_passes own iface addr Over arp at = λ is. absurd cc
+
+first_false : (a b : Bool) → (a || b) ≡ false → a ≡ false
+first_false true b h = absurd cc
+first_false false b h = refl
 
 module _ (turn : Turn4) (count : ℕ) (current : Option Numbered) (k : Kept) (within : k.answered ≤ count) (last : LastXid turn.last current) where
   abbrev Then : Step4 → Type 0
@@ -210,42 +242,50 @@ module _ (turn : Turn4) (count : ℕ) (current : Option Numbered) (k : Kept) (wi
   arp_watched own arp (Init due) on = stays (Init due) on
   arp_watched own arp (Selecting xid began secs backoff due) on = stays (Selecting xid began secs backoff due) on
   arp_watched own arp (Requesting exchange secs backoff due) on = stays (Requesting exchange secs backoff due) on
-  arp_watched own arp (Rebooting exchange backoff end due) on = stays (Rebooting exchange backoff end due) on
-  arp_watched own arp (Checking xid terms origin acd) on =
-      checks turn count current k within last xid terms origin (detection.acd_hears own acd arp turn.at).acd (detection.acd_hears own acd arp turn.at).says on
+  arp_watched own arp (Rebooting exchange backoff end due stands) on = stays (Rebooting exchange backoff end due stands) on
+  arp_watched own arp (Checking xid terms origin acd stands) on =
+      checks turn count current k within last xid terms origin (detection.acd_hears own acd arp turn.at).acd stands (detection.acd_hears own acd arp turn.at).says on
+      (λ passed. absurd (never_passes own acd.iface acd.addr acd.phase arp turn.at passed))
   arp_watched own arp (Waiting due) on = stays (Waiting due) on
   arp_watched own arp (Bound xid terms acd) on = contests own arp xid terms (Bound xid terms acd) acd (λ next. on) on
   arp_watched own arp (Renewing exchange terms acd due) on = contests own arp exchange.xid terms (Renewing exchange terms acd due) acd (λ next. on) on
   arp_watched own arp (Rebinding exchange terms acd due) on = contests own arp exchange.xid terms (Rebinding exchange terms acd due) acd (λ next. on) on
 
-  begun : (kept : Option Terms4) → Then (begins turn kept)
-  begun None = freed turn count current k within last
-  begun (Some terms) =
+  -- a kept lease on which the client stands from now on isn't over
+  stood_lasts : (may_stand : Bool) (terms : Terms4) → is_due (expiry terms) turn.at ≡ false → IfSome (stood turn may_stand terms) (Lasts turn.at)
+  stood_lasts may_stand terms lasts =
+      gated (λ (s : Option Terms4). IfSome s (Lasts turn.at)) (turn.site.persistent && may_stand && is_some terms.origin) (Some terms) None lasts tt
+
+  begun : (may_stand : Bool) (kept : Option Terms4) → Then (begins turn may_stand kept)
+  begun may_stand None = record { xid = last; on = tt }
+  begun may_stand (Some terms) =
       let exchange : Exchange4 = new_exchange turn terms.net.ip in
       let end : ℕ = turn.at + SECOND * turn.site.reboot in
-      gated Then (is_due (expiry terms) turn.at || eqb turn.site.reboot 0) _ _ (freed turn count current k within last)
-      (asks_anew (Lasts turn.at) turn.at (sent_of (request turn.site exchange 0)).said exchange (rebooting turn exchange Four end).state count current k within
-      (fresh turn current last) refl (λ x asks. asks))
+      let stands : Option Terms4 = stood turn may_stand terms in
+      split (is_due (expiry terms) turn.at || eqb turn.site.reboot 0) (λ over. rw over (record { xid = last; on = tt }))
+      (λ asks. rw asks (asks_anew (Lasts turn.at) turn.at (sent_of (request turn.site exchange 0)).said exchange (rebooting turn exchange Four end stands).state count current k within
+      (fresh turn current last) refl (λ x is. (is, stood_lasts may_stand terms (first_false (is_due (expiry terms) turn.at) (eqb turn.site.reboot 0) asks)))))
 
-  pub begin_watched : (kept : Option Terms4) (state : State4) → On (Lasts turn.at) state current k.answered k.grant → Then (begin_row turn kept state)
-  begin_watched kept Off on = begun kept
-  begin_watched kept (Init due) on = stays (Init due) on
-  begin_watched kept (Selecting xid began secs backoff due) on = stays (Selecting xid began secs backoff due) on
-  begin_watched kept (Requesting exchange secs backoff due) on = stays (Requesting exchange secs backoff due) on
-  begin_watched kept (Rebooting exchange backoff end due) on = stays (Rebooting exchange backoff end due) on
-  begin_watched kept (Checking xid terms origin acd) on = stays (Checking xid terms origin acd) on
-  begin_watched kept (Waiting due) on = stays (Waiting due) on
-  begin_watched kept (Bound xid terms acd) on = stays (Bound xid terms acd) on
-  begin_watched kept (Renewing exchange terms acd due) on = stays (Renewing exchange terms acd due) on
-  begin_watched kept (Rebinding exchange terms acd due) on = stays (Rebinding exchange terms acd due) on
+  pub begin_watched : (may_stand : Bool) (kept : Option Terms4) (state : State4) → On (Lasts turn.at) state current k.answered k.grant
+      → Then (begin_row turn may_stand kept state)
+  begin_watched may_stand kept Off on = begun may_stand kept
+  begin_watched may_stand kept (Init due) on = stays (Init due) on
+  begin_watched may_stand kept (Selecting xid began secs backoff due) on = stays (Selecting xid began secs backoff due) on
+  begin_watched may_stand kept (Requesting exchange secs backoff due) on = stays (Requesting exchange secs backoff due) on
+  begin_watched may_stand kept (Rebooting exchange backoff end due stands) on = stays (Rebooting exchange backoff end due stands) on
+  begin_watched may_stand kept (Checking xid terms origin acd stands) on = stays (Checking xid terms origin acd stands) on
+  begin_watched may_stand kept (Waiting due) on = stays (Waiting due) on
+  begin_watched may_stand kept (Bound xid terms acd) on = stays (Bound xid terms acd) on
+  begin_watched may_stand kept (Renewing exchange terms acd due) on = stays (Renewing exchange terms acd due) on
+  begin_watched may_stand kept (Rebinding exchange terms acd due) on = stays (Rebinding exchange terms acd due) on
 
   pub rebind_watched : (kept : Option Terms4) (state : State4) → On (Lasts turn.at) state current k.answered k.grant → Then (rebind_row turn kept state)
-  rebind_watched kept Off on = begun kept
+  rebind_watched kept Off on = begun false kept
   rebind_watched kept (Init due) on = stays (Init due) on
   rebind_watched kept (Selecting xid began secs backoff due) on = stays (Selecting xid began secs backoff due) on
   rebind_watched kept (Requesting exchange secs backoff due) on = stays (Requesting exchange secs backoff due) on
-  rebind_watched kept (Rebooting exchange backoff end due) on = stays (Rebooting exchange backoff end due) on
-  rebind_watched kept (Checking xid terms origin acd) on = stays (Checking xid terms origin acd) on
+  rebind_watched kept (Rebooting exchange backoff end due stands) on = stays (Rebooting exchange backoff end due stands) on
+  rebind_watched kept (Checking xid terms origin acd stands) on = stays (Checking xid terms origin acd stands) on
   rebind_watched kept (Waiting due) on = stays (Waiting due) on
   rebind_watched kept (Bound xid terms acd) on = rebinds turn count current k within last terms acd on.1
   rebind_watched kept (Renewing exchange terms acd due) on = rebinds turn count current k within last terms acd on.1
@@ -258,13 +298,17 @@ module _ (turn : Turn4) (count : ℕ) (current : Option Numbered) (k : Kept) (wi
   let_go Server terms = record { xid = tt; on = tt }
   let_go Nobody terms = record { xid = last; on = tt }
 
+  let_fall : (tell : Tell) (stands : Option Terms4) → Then (released_standing turn tell stands)
+  let_fall tell None = off_watched
+  let_fall tell (Some terms) = let_go tell terms
+
   pub release_watched : (tell : Tell) (state : State4) → Then (release_row turn tell state)
   release_watched tell Off = off_watched
   release_watched tell (Init due) = off_watched
   release_watched tell (Selecting xid began secs backoff due) = off_watched
   release_watched tell (Requesting exchange secs backoff due) = off_watched
-  release_watched tell (Rebooting exchange backoff end due) = off_watched
-  release_watched tell (Checking xid terms origin acd) = off_watched
+  release_watched tell (Rebooting exchange backoff end due stands) = let_fall tell stands
+  release_watched tell (Checking xid terms origin acd stands) = let_fall tell stands
   release_watched tell (Waiting due) = off_watched
   release_watched tell (Bound xid terms acd) = let_go tell terms
   release_watched tell (Renewing exchange terms acd due) = let_go tell terms
@@ -278,20 +322,24 @@ module _ (K : Terms4 → Type 0) (turn : Turn4) (current : Option Numbered) (ans
   unsent_watched (Init due) on = on
   unsent_watched (Selecting xid began secs backoff due) on = on
   unsent_watched (Requesting exchange secs backoff due) on = on
-  unsent_watched (Rebooting exchange backoff end due) on = on
-  unsent_watched (Checking xid terms origin acd) on = on
+  unsent_watched (Rebooting exchange backoff end due stands) on = on
+  unsent_watched (Checking xid terms origin acd stands) on = on
   unsent_watched (Waiting due) on = on
   unsent_watched (Bound xid terms acd) on = on
   unsent_watched (Renewing exchange terms acd due) on = on
   unsent_watched (Rebinding exchange terms acd due) on = on
+
+  any_stands : (stands : Option Terms4) → IfSome stands AnyTerms
+  any_stands None = tt
+  any_stands (Some terms) = tt
 
   pub any_terms : (state : State4) → On K state current answered grant → On AnyTerms state current answered grant
   any_terms Off on = on
   any_terms (Init due) on = on
   any_terms (Selecting xid began secs backoff due) on = on
   any_terms (Requesting exchange secs backoff due) on = on
-  any_terms (Rebooting exchange backoff end due) on = on
-  any_terms (Checking xid terms origin acd) on = (on.0, with_terms K AnyTerms terms grant tt on.1)
+  any_terms (Rebooting exchange backoff end due stands) on = (on.0, any_stands stands)
+  any_terms (Checking xid terms origin acd stands) on = (on.0, on.1, any_stands stands)
   any_terms (Waiting due) on = on
   any_terms (Bound xid terms acd) on = (on.0, with_terms K AnyTerms terms grant tt on.1)
   any_terms (Renewing exchange terms acd due) on = (on.0, with_terms K AnyTerms terms grant tt on.1)

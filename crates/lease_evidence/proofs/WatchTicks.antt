@@ -21,7 +21,7 @@ use Rattle.v4_client.specs.declared.states.Step4.{Step4}
 use Rattle.v4_client.specs.declared.states.Turn4.{Turn4}
 use Rattle.v4_client.specs.Detection.{checked, defended, with_acd}
 use Rattle.v4_client.specs.Due.{acd_due, due_of}
-use Rattle.v4_client.specs.Moments.{earlier, expiry, renewal_at, rebinding_at, doubled}
+use Rattle.v4_client.specs.Moments.{earlier, expiry, renewal_at, rebinding_at, standing_until, doubled}
 use Rattle.v4_client.specs.Saying.{sent_of, request, renewing_request, rebinding_request}
 use Rattle.v4_client.specs.Sound.{FitsState}
 use Rattle.v4_client.specs.Steps.{to_init, expires, discovers, requesting, rebooting, new_exchange, renewing, rebinding}
@@ -54,6 +54,11 @@ checked_later : (first end : Option ℕ) (at : ℕ) → is_due (earlier first en
 checked_later first None at h = refl
 checked_later first (Some end) at h = second_not first end at h
 
+-- a kept lease on which the client stands isn't over
+pub stands_later : (stands : Option Terms4) (at : ℕ) → is_due (standing_until stands) at ≡ false → IfSome stands (Lasts at)
+stands_later None at h = tt
+stands_later (Some terms) at h = h
+
 bound_by : (endless : Bool) (renews ends at : ℕ) (other : Option ℕ) → renews ≤ ends
     → is_due (earlier (if endless then None else Some renews) other) at ≡ false → is_due (if endless then None else Some ends) at ≡ false
 bound_by true renews ends at other before h = refl
@@ -73,9 +78,10 @@ not_due Off at current answered grant fits h on = on
 not_due (Init due) at current answered grant fits h on = on
 not_due (Selecting xid began secs backoff due) at current answered grant fits h on = on
 not_due (Requesting exchange secs backoff due) at current answered grant fits h on = on
-not_due (Rebooting exchange backoff end due) at current answered grant fits h on = on
-not_due (Checking xid terms origin acd) at current answered grant fits h on =
-    (on.0, with_terms AnyTerms (Lasts at) terms grant (checked_later (detection.due_of acd.phase) (expiry terms) at h) on.1)
+not_due (Rebooting exchange backoff end due stands) at current answered grant fits h on =
+    (on.0, stands_later stands at (checked_later (Some due) (standing_until stands) at h))
+not_due (Checking xid terms origin acd stands) at current answered grant fits h on =
+    (on.0, on.1, stands_later stands at (checked_later (earlier (detection.due_of acd.phase) (expiry terms)) (standing_until stands) at h))
 not_due (Waiting due) at current answered grant fits h on = on
 not_due (Bound xid terms acd) at current answered grant fits h on =
     (on.0, with_terms AnyTerms (Lasts at) terms grant (bound_later terms at (acd_due acd) fits h) on.1)
@@ -116,14 +122,16 @@ module _ (turn : Turn4) (count : ℕ) (current : Option Numbered) (k : Kept) (wi
       defends xid terms (with_acd state (detection.acd_tick acd turn.at turn.salt).acd) (detection.acd_tick acd turn.at turn.salt).says
       (with_on (detection.acd_tick acd turn.at turn.salt).acd)
 
-  pub checks : (xid : ℕ) (terms : Terms4) (origin : Origin4) (acd : Acd) (says : AcdSays) → IsAnswered k.answered current × Holds (Lasts turn.at) terms k.grant
-      → After (checked turn xid terms origin acd says)
-  checks xid terms origin acd Quiet on = record { xid = last; on = on }
-  checks xid terms origin acd SayProbe on = record { xid = last; on = on }
-  checks xid terms origin acd SayAnnounce on = record { xid = last; on = on }
-  checks xid terms origin acd Passed on = record { xid = last; on = on }
-  checks xid terms origin acd Conflict on = record { xid = tt; on = tt }
-  checks xid terms origin acd GivenUp on = record { xid = last; on = on }
+  -- an address passes where its lease isn't over
+  pub checks : (xid : ℕ) (terms : Terms4) (origin : Origin4) (acd : Acd) (stands : Option Terms4) (says : AcdSays)
+      → On (Lasts turn.at) (Checking xid terms origin acd stands) current k.answered k.grant → (says ≡ Passed → Lasts turn.at terms)
+      → After (checked turn xid terms origin acd stands says)
+  checks xid terms origin acd stands Quiet on passes = record { xid = last; on = on }
+  checks xid terms origin acd stands SayProbe on passes = record { xid = last; on = on }
+  checks xid terms origin acd stands SayAnnounce on passes = record { xid = last; on = on }
+  checks xid terms origin acd stands Passed on passes = record { xid = last; on = (on.0, with_terms AnyTerms (Lasts turn.at) terms k.grant (passes refl) on.1) }
+  checks xid terms origin acd stands Conflict on passes = record { xid = tt; on = tt }
+  checks xid terms origin acd stands GivenUp on passes = record { xid = last; on = on }
 
   renews : (terms : Terms4) (acd : Option Acd) → Holds (Lasts turn.at) terms k.grant → After (renewing turn (new_exchange turn terms.net.ip) terms acd)
   renews terms acd holds =
@@ -152,10 +160,11 @@ module _ (turn : Turn4) (count : ℕ) (current : Option Numbered) (k : Kept) (wi
       asks_again (Lasts turn.at) turn.at (sent_of (request turn.site exchange secs)).said exchange (requesting turn exchange secs backoff).state
       count current k refl (asked_xid exchange k.answered current asks) asks asks
 
-  reboots_again : (exchange : Exchange4) (backoff : Backoff) (end : ℕ) → Asks exchange k.answered current → After (rebooting turn exchange backoff end)
-  reboots_again exchange backoff end asks =
-      asks_again (Lasts turn.at) turn.at (sent_of (request turn.site exchange 0)).said exchange (rebooting turn exchange backoff end).state
-      count current k refl (asked_xid exchange k.answered current asks) asks asks
+  reboots_again : (exchange : Exchange4) (backoff : Backoff) (end : ℕ) (stands : Option Terms4) → Asks exchange k.answered current → IfSome stands (Lasts turn.at)
+      → After (rebooting turn exchange backoff end stands)
+  reboots_again exchange backoff end stands asks lasts =
+      asks_again (Lasts turn.at) turn.at (sent_of (request turn.site exchange 0)).said exchange (rebooting turn exchange backoff end stands).state
+      count current k refl (asked_xid exchange k.answered current asks) asks (asks, lasts)
 
   pub tick_watched : (state : State4) → On AnyTerms state current k.answered k.grant → After (tick_row turn state)
   tick_watched Off on = record { xid = last; on = tt }
@@ -167,12 +176,15 @@ module _ (turn : Turn4) (count : ℕ) (current : Option Numbered) (k : Kept) (wi
   tick_watched (Requesting exchange secs Sixteen due) on = requests_again exchange secs (doubled Sixteen) on
   tick_watched (Requesting exchange secs ThirtyTwo due) on = requests_again exchange secs (doubled ThirtyTwo) on
   tick_watched (Requesting exchange secs SixtyFour due) on = freed
-  tick_watched (Rebooting exchange backoff end due) on =
-      gated After (nat_le end turn.at) _ _ discovered (reboots_again exchange (doubled backoff) end on)
-  tick_watched (Checking xid terms origin acd) on =
-      split (is_due (expiry terms) turn.at) (λ over. rw over freed)
-      (λ lasts. rw lasts (checks xid terms origin (detection.acd_tick acd turn.at turn.salt).acd (detection.acd_tick acd turn.at turn.salt).says
-      (on.0, with_terms AnyTerms (Lasts turn.at) terms k.grant lasts on.1)))
+  tick_watched (Rebooting exchange backoff end due stands) on =
+      split (is_due (standing_until stands) turn.at) (λ over. rw over ended)
+      (λ lasts. rw lasts (gated After (nat_le end turn.at) _ _ (record { xid = tt; on = refl })
+      (reboots_again exchange (doubled backoff) end stands on.0 (stands_later stands turn.at lasts))))
+  tick_watched (Checking xid terms origin acd stands) on =
+      split (is_due (standing_until stands) turn.at) (λ over. rw over (record { xid = last; on = (on.0, on.1, tt) }))
+      (λ stood. rw stood (split (is_due (expiry terms) turn.at) (λ over. rw over (record { xid = last; on = tt }))
+      (λ lasts. rw lasts (checks xid terms origin (detection.acd_tick acd turn.at turn.salt).acd stands (detection.acd_tick acd turn.at turn.salt).says
+      (on.0, on.1, stands_later stands turn.at stood) (λ passed. lasts)))))
   tick_watched (Bound xid terms acd) on =
       split (is_due (expiry terms) turn.at) (λ over. rw over ended)
       (λ lasts.

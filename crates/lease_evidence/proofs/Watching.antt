@@ -1,5 +1,5 @@
 -- What a client carries of the observer, state by state.
-use Rattle.std.proofs.Common.{◌≡◌, ℕ, ◌+◌, ◌<◌, ◌≤◌, ◌^◌, ◌%◌, true, false, Option, Some, None, refl, sym, ap, subst, ◌∙◌, nat_eq, arith, if◌then◌else◌}
+use Rattle.std.proofs.Common.{◌≡◌, ℕ, ◌+◌, ◌<◌, ◌≤◌, ◌^◌, ◌%◌, true, false, Option, Some, None, refl, sym, ap, subst, ◌∙◌, nat_eq, arith, if◌then◌else◌, IfSome}
 use Rattle.std.proofs.lemmas.Bool.Decides.{nat_tests}
 use Rattle.std.specs.Prelude.{◌==◌, option_map}
 use Rattle.machine.specs.Draw.{xid_of, draw_xid_of}
@@ -46,13 +46,18 @@ abbrev pub Holds : (Terms4 → Type 0) → Terms4 → Option Grant → Type 0
 Holds K terms None = ⊥
 Holds K terms (Some grant) = (grant.terms ≡ terms) × K terms
 
+-- of any terms
+abbrev pub AnyTerms : Terms4 → Type 0
+AnyTerms terms = Unit {0}
+
+-- the kept lease on which a client stands is as K says
 abbrev pub On : (Terms4 → Type 0) → State4 → Option Numbered → ℕ → Option Grant → Type 0
 On K Off current answered grant = Unit {0}
 On K (Init due) current answered grant = Unit {0}
 On K (Selecting xid began secs backoff due) current answered grant = current ≡ None
 On K (Requesting exchange secs backoff due) current answered grant = Asks exchange answered current
-On K (Rebooting exchange backoff end due) current answered grant = Asks exchange answered current
-On K (Checking xid terms origin acd) current answered grant = IsAnswered answered current × Holds K terms grant
+On K (Rebooting exchange backoff end due stands) current answered grant = Asks exchange answered current × IfSome stands K
+On K (Checking xid terms origin acd stands) current answered grant = IsAnswered answered current × Holds AnyTerms terms grant × IfSome stands K
 On K (Waiting due) current answered grant = Unit {0}
 On K (Bound xid terms acd) current answered grant = IsAnswered answered current × Holds K terms grant
 On K (Renewing exchange terms acd due) current answered grant = Asks exchange answered current × Holds K terms grant
@@ -65,9 +70,6 @@ pub record Watched (K : Terms4 → Type 0) (last : Option ℕ) (state : State4) 
 -- a lease that isn't over at this moment
 abbrev pub Lasts : ℕ → Terms4 → Type 0
 Lasts at terms = is_due (expiry terms) at ≡ false
-
-abbrev pub AnyTerms : Terms4 → Type 0
-AnyTerms terms = Unit {0}
 
 -- the message that a step says
 abbrev pub message_in : Step4 → Option Sent4

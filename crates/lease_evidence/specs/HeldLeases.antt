@@ -1,7 +1,9 @@
 -- That each lease which an interface holds has its basis, in the life of that interface alone.
-use Rattle.std.specs.Prelude.{◌≡◌, ◌++◌, Bool, List, None, Some}
+use Rattle.std.specs.Prelude.{◌≡◌, ◌⊎◌, ◌++◌, ℕ, Bool, false, List, [], None, Some, IfSome}
 use Rattle.net_types.specs.declared.address.Mac.{Mac}
+use Rattle.net_types.specs.declared.address.Net.{Net}
 use Rattle.net_types.specs.declared.address.Net.TheVariants.{V4}
+use Rattle.lease_text.specs.Bounds.{IsTyped}
 use Rattle.lease_text.specs.Leases.{LeaseContent}
 use Rattle.v4_client.specs.Clients.{held_of}
 use Rattle.world.specs.declared.rows.HostRow.{HostRow}
@@ -10,22 +12,60 @@ use Rattle.script_model.specs.IfaceSets.{is_up}
 use Rattle.client_model.specs.Fitting.{FitsBeginning}
 use Rattle.client_model.specs.KeptLeases.{Beginning}
 use Rattle.client_model.specs.WantedRows.{outlet_of, static_rows, static6_rows, iface_rows}
+use Rattle.evidence_words.specs.Entries.{Entry}
 use Rattle.evidence_words.specs.IfaceLives.{Opening, Met, site_of, shown, opens, iface_after, IsLived, now_in}
+use Rattle.evidence_words.specs.Inputs.{Site}
+use Rattle.lease_evidence.specs.KeptBasis4.{KeptBasis4}
+use Rattle.lease_evidence.specs.KeptNeeds.{HasNoOrigin}
 use Rattle.lease_evidence.specs.LeaseBasis.{LeaseBasis}
 
--- Each lease that an interface holds after an opening and some turns has its basis in them, whatever lease was kept before.
+-- An ACK of this life granted the address, or it is that of the kept lease, which is asked for again.
+abbrev pub LeaseRests : Site → Net → (now : ℕ) → List Entry → Type 0
+LeaseRests site net now past = LeaseBasis site net now past ⊎ KeptBasis4 site net now past
+
+-- the kept lease is within the types that hold it, as each lease in memory is
+abbrev pub KeepsTyped : Beginning → Type 0
+KeepsTyped beginning = IfSome beginning.kept4 IsTyped
+
+-- Each lease that an interface holds after an opening and some turns has its basis in them, whatever lease was kept
+-- before.
 abbrev pub HeldLeasesHaveBasis : Type 0
-HeldLeasesHaveBasis = (own : List Mac) (beginning : Beginning) (opening : Opening) (mets : List Met) (lease : LeaseContent)
-    → FitsBeginning beginning → IsLived own beginning opening mets → held_of (iface_after own beginning opening mets).dhcp4 ≡ Some lease
-    → LeaseBasis (site_of own beginning opening) (V4 lease.net) (now_in (shown opening mets)) (shown opening mets)
+HeldLeasesHaveBasis = (own : List Mac) (beginning : Beginning) (opening : Opening) (mets : List Met)
+    (lease : LeaseContent)
+    → FitsBeginning beginning → KeepsTyped beginning → IsLived own beginning opening mets
+    → held_of (iface_after own beginning opening mets).dhcp4 ≡ Some lease
+    → LeaseRests (site_of own beginning opening) (V4 lease.net) (now_in (shown opening mets)) (shown opening mets)
+
+-- Where `persistent` isn't in force, or the kept lease doesn't tell its origin, an ACK granted each.
+abbrev pub IsPlain4 : Site → Type 0
+IsPlain4 site = (site.managed.conf.persistent ≡ false) ⊎ HasNoOrigin site
+
+abbrev pub PlainLeasesAreGranted : Type 0
+PlainLeasesAreGranted = (site : Site) (net : Net) (now : ℕ) (past : List Entry) → IsPlain4 site
+    → LeaseRests site net now past → LeaseBasis site net now past
+
+-- So after the opening such an interface holds no lease, whatever was kept.
+abbrev pub BeginsWithoutLease : Type 0
+BeginsWithoutLease = (own : List Mac) (beginning : Beginning) (opening : Opening)
+    → IsPlain4 (site_of own beginning opening)
+    → held_of (opens beginning opening).iface.dhcp4 ≡ None
+
+-- The lease that another one holds then is the kept one.
+abbrev pub BeginsWithKept : Type 0
+BeginsWithKept = (own : List Mac) (beginning : Beginning) (opening : Opening) (lease : LeaseContent)
+    → FitsBeginning beginning → KeepsTyped beginning → IsLived own beginning opening []
+    → held_of (opens beginning opening).iface.dhcp4 ≡ Some lease
+    → KeptBasis4 (site_of own beginning opening) (V4 lease.net) (now_in (shown opening [])) (shown opening [])
 
 -- the rows of static addresses, of IPv4 and of IPv6
 abbrev pub configured_rows : Managed → (in_force : Bool) → List HostRow
 configured_rows managed in_force =
-    static_rows (outlet_of managed) in_force managed.conf.address managed.conf.router ++ static6_rows (outlet_of managed) in_force managed.conf.address6
+    static_rows (outlet_of managed) in_force managed.conf.address managed.conf.router
+    ++ static6_rows (outlet_of managed) in_force managed.conf.address6
 
--- After the opening an interface holds no lease, whatever was kept: its rows are those of static addresses alone.
-pub record BeginsWithoutLease (beginning : Beginning) (opening : Opening) : Type 0 where
-  pub none_held : held_of (opens beginning opening).iface.dhcp4 ≡ None
-  pub static_rows_alone : iface_rows (opens beginning opening).iface
-      ≡ configured_rows beginning.managed (is_up opening.up beginning.managed.spec.index.number)
+-- Without `persistent` the rows of an interface after the opening are those of static addresses alone, whatever was
+-- kept.
+abbrev pub BeginsWithStaticRows : Type 0
+BeginsWithStaticRows = (beginning : Beginning) (opening : Opening) → beginning.managed.conf.persistent ≡ false
+    → iface_rows (opens beginning opening).iface
+    ≡ configured_rows beginning.managed (is_up opening.up beginning.managed.spec.index.number)

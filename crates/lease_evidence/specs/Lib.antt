@@ -2,9 +2,11 @@ pub mod Replies
 pub mod Exchanges
 pub mod LeaseBasis
 pub mod Laws
+pub mod KeptBasis4
+pub mod Endings
+pub mod KeptNeeds
 pub mod HeldLeases
 pub mod PlainIface
 pub mod SevenTurns
-pub mod Endings
 pub mod ProbedFirst
 pub mod AskedFirst

@@ -36,5 +36,6 @@ plain_eth0 = record {
     dhcp6 = record { rapid = false; ias = []; shares = [] };
     resolver = record { servers = []; search = []; domain = [] };
     hooks = record { script = Nothing; env = [] };
+    persistent = false;
   };
 }

@@ -3,12 +3,12 @@
 ghost use Rattle.std.specs.Prelude.{◌≡◌, ◌∷◌, [], Some};
 ghost use Rattle.net_types.specs.declared.address.Net.TheVariants.{V4};
 ghost use Rattle.v4_client.specs.Clients.{held_of};
-ghost use Rattle.client_model.specs.KeptLeases.{Beginning};
 ghost use Rattle.v4_message.specs.declared.writing.Kind4.TheVariants.{Decline, Discover, Release};
-ghost use Rattle.evidence_words.specs.IfaceLives.{IsLived, Opening, iface_after, shown, site_of};
+ghost use Rattle.evidence_words.specs.IfaceLives.{IsLived, iface_after, shown, site_of};
 ghost use Rattle.lease_evidence.specs.AskedFirst.{LastsFromRequest, NeedsFrameHere, NeedsNewRequest, NeedsRequest};
 ghost use Rattle.lease_evidence.specs.Endings.{EndsBy, EndsBySaying, IsGivenBack, IsRefused, IsToldToStop, LosesCarrier, NewestCounts};
-ghost use Rattle.lease_evidence.specs.HeldLeases.{BeginsWithoutLease, HeldLeasesHaveBasis};
+ghost use Rattle.lease_evidence.specs.HeldLeases.{BeginsWithKept, BeginsWithStaticRows, BeginsWithoutLease, HeldLeasesHaveBasis, PlainLeasesAreGranted};
+ghost use Rattle.lease_evidence.specs.KeptNeeds.{EndsWithKept, KeptEndsBy, NamesServer, NeedsAsking, NeedsFlag, NeedsItsAddress, NeedsOneExchange, NeedsOrigin, SaysElse};
 ghost use Rattle.lease_evidence.specs.LeaseBasis.{LeaseBasis};
 ghost use Rattle.lease_evidence.specs.Laws.{EndsWithLease, ForeignGivesNothing, NeedsAck};
 ghost use Rattle.lease_evidence.specs.PlainIface.{client_mac};
@@ -16,15 +16,47 @@ ghost use Rattle.lease_evidence.specs.ProbedFirst.{ContestsPartProbes, NeedsThre
 ghost use Rattle.lease_evidence.specs.SevenTurns.{beginning, lease, opening, seven_turns};
 
 /// Law: each lease that an interface holds after its opening and some turns, with any outcomes of its frames, has its basis
-/// in what they showed: an ACK in its own exchange, unexpired, probed and not given up since (RFC 2131, section 4.4).
+/// in what they showed: an ACK in its own exchange, unexpired, probed and not given up since (RFC 2131, section 4.4); or,
+/// under `persistent`, it is the lease that was kept with its origin, unexpired, and a server is asked to confirm it.
+/// Without the flag or an origin it is the former.
 pub fn held_leases_have_a_basis()
-    ensures { HeldLeasesHaveBasis }
+    ensures each { HeldLeasesHaveBasis }
+    ensures plain { PlainLeasesAreGranted }
 {}
 
-/// Law: after the opening no interface holds a lease, whatever was kept for it, and its static addresses alone give it rows: a kept
-/// lease is held only after an exchange of this life (RFC 2131, section 3.2).
+/// Law: after the opening no interface holds a lease without `persistent`, nor one that was kept without its origin: such a
+/// lease is held only after an exchange of this life (RFC 2131, section 3.2). Without `persistent` its static addresses
+/// alone give it rows. What is held is the kept lease, which a server was asked to confirm.
 pub fn a_kept_lease_is_not_held_at_first()
-    ensures { (beginning : Beginning) (opening : Opening) → BeginsWithoutLease beginning opening }
+    ensures none { BeginsWithoutLease }
+    ensures rows { BeginsWithStaticRows }
+    ensures kept { BeginsWithKept }
+{}
+
+/// Law: no address has a basis by a kept lease without `persistent`, without a lease that was kept with its origin and
+/// gives the address, or once that is over.
+pub fn kept_leases_need_their_file()
+    ensures flag { NeedsFlag }
+    ensures origin { NeedsOrigin }
+    ensures address { NeedsItsAddress }
+    ensures lifetime { EndsWithKept }
+{}
+
+/// Law: nor once the carrier was lost, the leases are to be given back, or the daemon is to end, whatever came then.
+pub fn disturbed_kept_leases_end()
+    ensures carrier { KeptEndsBy LosesCarrier }
+    ensures release { KeptEndsBy IsGivenBack }
+    ensures stop { KeptEndsBy IsToldToStop }
+{}
+
+/// Law: nor before a REQUEST, nor once the client said another DHCPv4 message, named a server or began a second exchange,
+/// nor once a NAK came in an exchange that had no ACK (RFC 2131, sections 3.2 and 4.3.2).
+pub fn kept_leases_are_asked_for_alone()
+    ensures asked { NeedsAsking }
+    ensures others { KeptEndsBy SaysElse }
+    ensures server { KeptEndsBy NamesServer }
+    ensures exchange { NeedsOneExchange }
+    ensures refused { KeptEndsBy IsRefused }
 {}
 
 /// Law: no address has a basis as a leased one without an acceptable ACK in an exchange that asked for it (RFC 2131,

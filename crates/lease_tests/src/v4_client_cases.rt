@@ -63,6 +63,7 @@ fn settings(alloc: Global, noarp: bool) -> Result<Set4, Fail>
         required: Vec::new(alloc),
         refused: Vec::new(alloc),
         blacklist: Vec::new(alloc),
+        persistent: false,
     })
 }
 
@@ -374,6 +375,133 @@ fn a_rebound_lease_is_released(rt: HostRuntime) -> Result<(), Fail> {
     let released = release4(&mut c, Tell::Server, 8000, 0)?;
     assert!(rt; released.news == News4::Stop && released.old.is_some());
     assert!(rt; kept4(&c).is_none());
+    Ok(())
+}
+
+/// A client that was made with the lease that lasts until 3,600,100, and stands on it where that is wished.
+fn restarted(rt: &impl Abort, alloc: Global, persistent: bool) -> Result<Client4, Fail> {
+    let before = bound(rt, alloc)?;
+    let lease = kept4(&before).ok_or("none")?.copied(alloc)?;
+    let mut set = settings(alloc, false)?;
+    set.persistent = persistent;
+    Ok(client4_new(alloc, set, Some(lease)))
+}
+
+fn says_and_tells(at: u64, input: Input, kind: Kind4, news: News4, xid: u32, due: u64) -> Row {
+    Row {
+        news,
+        ..says(at, input, kind, xid, due)
+    }
+}
+
+#[test]
+fn a_kept_lease_stays_in_force_while_it_is_asked_for(rt: HostRuntime) -> Result<(), Fail> {
+    let mut c = restarted(&rt, rt.alloc(), true)?;
+    let begins = Input::Carrier(Carrier::Up);
+    follows(
+        &rt,
+        &mut c,
+        &[says(20_000, begins, Kind4::Request, 1, 23_001)],
+    )?;
+    assert!(rt; held4(&c).is_some());
+    // no answer came: the lease stays kept
+    follows(
+        &rt,
+        &mut c,
+        &[
+            says(23_001, Input::Tick, Kind4::Request, 1, 25_000),
+            says_and_tells(
+                25_000,
+                Input::Tick,
+                Kind4::Discover,
+                News4::Expire,
+                2,
+                28_001,
+            ),
+        ],
+    )?;
+    assert!(rt; held4(&c).is_none() && kept4(&c).is_some());
+    // its end comes first
+    let mut late = restarted(&rt, rt.alloc(), true)?;
+    follows(
+        &rt,
+        &mut late,
+        &[
+            says(3_598_000, begins, Kind4::Request, 1, 3_600_100),
+            tells(3_600_100, Input::Tick, News4::Expire, Some(3_600_101)),
+        ],
+    )?;
+    assert!(rt; kept4(&late).is_none());
+    Ok(())
+}
+
+#[test]
+fn a_kept_lease_stays_in_force_while_the_new_one_is_checked(rt: HostRuntime) -> Result<(), Fail> {
+    // another host has the address
+    let mut contested = restarted(&rt, rt.alloc(), true)?;
+    let up = Input::Carrier(Carrier::Up);
+    let checks = [
+        says(20_000, up, Kind4::Request, 1, 23_001),
+        quiet(20_500, Input::Message(ACK, 1, 3600), Some(20_501)),
+        probes(20_501, 21_502),
+    ];
+    follows(&rt, &mut contested, &checks)?;
+    assert!(rt; held4(&contested).is_some());
+    let declined = says_and_tells(
+        21_000,
+        Input::Conflict,
+        Kind4::Decline,
+        News4::Expire,
+        1,
+        31_000,
+    );
+    follows(&rt, &mut contested, &[declined])?;
+    // the kept lease ends before the new one is bound
+    let mut late = restarted(&rt, rt.alloc(), true)?;
+    follows(
+        &rt,
+        &mut late,
+        &[
+            says(3_599_000, up, Kind4::Request, 1, 3_600_100),
+            quiet(3_599_500, Input::Message(ACK, 1, 3600), Some(3_599_501)),
+            probes(3_599_501, 3_600_100),
+            tells(3_600_100, Input::Tick, News4::Expire, Some(3_600_502)),
+            probes(3_600_502, 3_601_503),
+            probes(3_601_503, 3_603_503),
+            announces(3_603_503, News4::Reboot, 3_605_503),
+        ],
+    )
+}
+
+#[test]
+fn a_client_stands_at_its_first_begin_where_it_is_wished(rt: HostRuntime) -> Result<(), Fail> {
+    let mut c = restarted(&rt, rt.alloc(), true)?;
+    let rows = [
+        says(
+            20_000,
+            Input::Carrier(Carrier::Up),
+            Kind4::Request,
+            1,
+            23_001,
+        ),
+        quiet(21_000, Input::Carrier(Carrier::Down), None),
+        says(
+            22_000,
+            Input::Carrier(Carrier::Up),
+            Kind4::Request,
+            2,
+            25_001,
+        ),
+    ];
+    follows(&rt, &mut c, &rows)?;
+    let mut other = restarted(&rt, rt.alloc(), false)?;
+    follows(&rt, &mut other, &rows[..1])?;
+    assert!(rt; held4(&c).is_none() && held4(&other).is_none());
+    // one that stands is released
+    let mut released = restarted(&rt, rt.alloc(), true)?;
+    follows(&rt, &mut released, &rows[..1])?;
+    let out = release4(&mut released, Tell::Server, 21_000, 0)?;
+    assert!(rt; out.news == News4::Stop && out.old.is_some() && kept4(&released).is_none());
     Ok(())
 }
 

@@ -1,3 +1,8 @@
+ghost use Rattle.std.specs.Prelude.{option_map, IfOk, IfSome};
+ghost use Rattle.lease6_text.specs.Bounds.{FitsLease6};
+ghost use Rattle.lease6_text.specs.Leases.{lease6_content};
+
+use lease6_text::{Lease6, read_lease6};
 use machine::Machine;
 use net_types::{IfIndex, IfSpec, Ip6, Mac, NoMemory, read_name};
 use std::alloc::Global;
@@ -42,6 +47,13 @@ const TWO_ADDRESSES: [u8; 72] = [
 
 /// A client of interface 1 that asks for an address without the first delay.
 fn client(alloc: Global) -> Result<Client6, Fail> {
+    client_with(alloc, false, None)
+}
+
+/// A client of interface 1 with the lease that was kept before.
+fn client_with(alloc: Global, persistent: bool, kept: Option<Lease6>) -> Result<Client6, Fail>
+    requires { IfSome (option_map lease6_content kept) FitsLease6 }
+{
     let Some(duid) = Duid::new(alloc, &DUID)? else {
         return Err(Fail::from(NoMemory));
     };
@@ -62,8 +74,51 @@ fn client(alloc: Global) -> Result<Client6, Fail> {
         ias: Vec::from_slice(alloc, &[ask])?,
         nodelay: true,
         rapid: false,
+        persistent,
     };
-    Ok(client6_new(alloc, set, None))
+    Ok(client6_new(alloc, set, kept))
+}
+
+/// A lease with that address, the next one, which is valid until 5,000 alone, and an IA that isn't asked for.
+const KEPT: &str = "dhcpcd-lease6 2
+interface eth0
+mac 02:00:00:00:00:01
+confirmed 0
+server 000300010200000000fe
+t1 never
+t2 never
+ia na 2
+addr 2001:db8::52 1000000 1000000
+ia na 1
+addr 2001:db8::50 1000000 1000000
+addr 2001:db8::51 5000 5000
+end
+";
+
+/// The same without its origin.
+const KEPT_BEFORE: &str = "dhcpcd-lease6 1
+interface eth0
+server 000300010200000000fe
+t1 never
+t2 never
+ia na 2
+addr 2001:db8::52 1000000 1000000
+ia na 1
+addr 2001:db8::50 1000000 1000000
+addr 2001:db8::51 5000 5000
+end
+";
+
+fn lease_read(alloc: Global, text: &str) -> Result<Lease6, Fail>
+    ensures { IfOk result (λ lease. FitsLease6 (lease6_content lease)) }
+{
+    Ok(read_lease6(alloc, text.as_bytes())?)
+}
+
+/// A client that was made with the lease of a text.
+fn restarted(alloc: Global, persistent: bool, text: &str) -> Result<Client6, Fail> {
+    let lease = lease_read(alloc, text)?;
+    client_with(alloc, persistent, Some(lease))
 }
 
 /// A message of the server.
@@ -216,5 +271,88 @@ fn an_address_that_is_over_goes(rt: HostRuntime) -> Result<(), Fail> {
     let rows = [quiet(6_000_600, Input::Tick, News6::Expire, 6_000_601)];
     follows(&rt, &mut c, &TWO_ADDRESSES, &rows)?;
     assert!(rt; held6(&c).is_none());
+    Ok(())
+}
+
+/// Where the client begins at 1,000: REBIND for both addresses.
+fn begun(news: News6) -> Row {
+    Row {
+        news,
+        ..says(1000, Input::Up, Kind6::Rebind, 1, 2, 5000)
+    }
+}
+
+#[test]
+fn kept_addresses_are_held_while_they_are_asked_for(rt: HostRuntime) -> Result<(), Fail> {
+    let mut c = restarted(rt.alloc(), true, KEPT)?;
+    follows(&rt, &mut c, &OPTIONS, &[begun(News6::Changed)])?;
+    assert!(rt; held6(&c).is_some());
+    // the IA that isn't asked for isn't kept
+    assert!(rt; kept_items(&c) == Some(2));
+    let rows = [
+        quiet(5000, Input::Tick, News6::Changed, 10_010),
+        says(10_010, Input::Tick, Kind6::Rebind, 1, 1, 11_000),
+    ];
+    follows(&rt, &mut c, &OPTIONS, &rows)?;
+    assert!(rt; held6(&c).is_some());
+    let rows = [quiet(11_000, Input::Tick, News6::Expire, 11_001)];
+    follows(&rt, &mut c, &OPTIONS, &rows)?;
+    assert!(rt; held6(&c).is_none());
+    assert!(rt; kept_items(&c) == Some(1));
+    Ok(())
+}
+
+#[test]
+fn kept_addresses_in_use_are_not_asked_for_again(rt: HostRuntime) -> Result<(), Fail> {
+    let mut c = restarted(rt.alloc(), true, KEPT)?;
+    let rows = [
+        begun(News6::Changed),
+        quiet(2000, Input::Duplicate, News6::Changed, 5000),
+    ];
+    follows(&rt, &mut c, &OPTIONS, &rows)?;
+    assert!(rt; kept_items(&c) == Some(1));
+    let rows = [quiet(5000, Input::Tick, News6::Expire, 5001)];
+    follows(&rt, &mut c, &OPTIONS, &rows)?;
+    assert!(rt; kept_items(&c) == None);
+    Ok(())
+}
+
+#[test]
+fn a_reply_confirms_kept_addresses(rt: HostRuntime) -> Result<(), Fail> {
+    let mut c = restarted(rt.alloc(), true, KEPT)?;
+    follows(&rt, &mut c, &OPTIONS, &[begun(News6::Changed)])?;
+    let out = heard6(
+        &mut c,
+        &message(ServerKind6::Reply, 1, 0, &OPTIONS),
+        2000,
+        0,
+    )?;
+    assert_eq!(rt; (out.news, c.due()), (News6::Reboot, Some(1_502_000)));
+    // the address that the Reply doesn't name isn't held any more
+    assert!(rt; kept_items(&c) == Some(1));
+    Ok(())
+}
+
+#[test]
+fn a_client_stands_once(rt: HostRuntime) -> Result<(), Fail> {
+    let mut c = restarted(rt.alloc(), true, KEPT)?;
+    follows(&rt, &mut c, &OPTIONS, &[begun(News6::Changed)])?;
+    carrier6(&mut c, Carrier6::Down, 2000, 0)?;
+    assert!(rt; held6(&c).is_none());
+    let rows = [says(3000, Input::Up, Kind6::Rebind, 2, 2, 5000)];
+    follows(&rt, &mut c, &OPTIONS, &rows)?;
+    assert!(rt; held6(&c).is_none());
+    Ok(())
+}
+
+#[test]
+fn without_the_wish_or_an_origin_nothing_is_held(rt: HostRuntime) -> Result<(), Fail> {
+    let alloc = rt.alloc();
+    let mut unasked = restarted(alloc, false, KEPT)?;
+    follows(&rt, &mut unasked, &OPTIONS, &[begun(News6::Nothing)])?;
+    assert!(rt; held6(&unasked).is_none());
+    let mut unknown = restarted(alloc, true, KEPT_BEFORE)?;
+    follows(&rt, &mut unknown, &OPTIONS, &[begun(News6::Nothing)])?;
+    assert!(rt; held6(&unknown).is_none());
     Ok(())
 }

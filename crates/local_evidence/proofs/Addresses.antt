@@ -20,8 +20,9 @@ use Rattle.v4_client.specs.Due.{due_of}
 use Rattle.v4_client.specs.History.{tick_step}
 use Rattle.v4_client.specs.Messages.{Arrival}
 use Rattle.v4_client.specs.Moves.{kept_after, moved}
-use Rattle.v4_client.specs.Sound.{FitsBegin, FitsKeep, FitsState, IsKept, IsSoundStep, KeepsHeld}
+use Rattle.v4_client.specs.Sound.{FitsBegin, FitsKeep, FitsState, IsKept, IsSoundStep}
 use Rattle.v4_client.proofs.SoundAnswers.{answer_fits}
+use Rattle.v4_client.proofs.SoundClients.{held_kept}
 use Rattle.v4_client.proofs.SoundSteps.{arp_sound, begin_sound, heard_sound, off_sound, rebind_sound, release_sound, rests_sound, tick_sound, unsent_fits, unsent_held}
 
 -- those of its state, and that of the kept lease, which is the one that it holds
@@ -36,18 +37,11 @@ kept_fits Stays name fresh kept taken fits = fits
 kept_fits Clears name fresh kept taken fits = tt
 kept_fits (Takes terms) name fresh kept taken fits = taken
 
-held_kept : (before : Option Terms4) (keep : Keep4) (after : Option Terms4) (name : Name) (fresh : List ValueContent)
-    (kept : Option LeaseContent) → KeepsHeld before keep after → IsKept before kept → IsKept after (kept_after keep name fresh kept)
-held_kept before keep None name fresh kept keeps held = tt
-held_kept before Stays (Some terms) name fresh kept keeps held = subst (λ b. IsKept b kept) keeps held
-held_kept before Clears (Some terms) name fresh kept keeps held = absurd keeps
-held_kept before (Takes taken) (Some terms) name fresh kept keeps held = ap Some keeps
-
-pub moved_hosts : (c : ClientContent) (step : Step4) → HasHosts c → IsSoundStep c.state step → HasHosts (moved step c)
+pub moved_hosts : (c : ClientContent) (step : Step4) → HasHosts c → IsSoundStep (kept_terms c) c.state step → HasHosts (moved step c)
 moved_hosts c step has goes = record {
   state = goes.state;
   kept = kept_fits step.keep c.settings.site.iface.name c.fresh c.kept goes.keep has.kept;
-  held = held_kept (held_terms c.state) step.keep (held_terms step.state) c.settings.site.iface.name c.fresh c.kept goes.held has.held;
+  held = held_kept (held_terms c.state) step.keep step.state c.settings.site.iface.name c.fresh c.kept goes.held has.held;
 }
 
 -- it holds a lease where its state is one in which a lease is held
@@ -63,23 +57,23 @@ holds_so c has = by (held_terms c.state) c.kept has.held
 -- ---- steps of a client
 
 module _ (at salt : ℕ) (early : at < 10 ^ 15) (c : ClientContent) (has : HasHosts c) where
-  pub tick_steps : IsSoundStep c.state (tick_step at salt c)
+  pub tick_steps : IsSoundStep (kept_terms c) c.state (tick_step at salt c)
   tick_steps =
-      gated (IsSoundStep c.state) (is_due (due_of c.state) at) _ _ (tick_sound (turn_of at salt c) c.state early has.state)
-      (rests_sound (turn_of at salt c) c.state has.state)
+      gated (IsSoundStep (kept_terms c) c.state) (is_due (due_of c.state) at) _ _ (tick_sound (kept_terms c) (turn_of at salt c) c.state early has.state)
+      (rests_sound (kept_terms c) (turn_of at salt c) c.state has.state)
 
-  pub arp_steps : (own : List Mac) (arp : ArpView) → IsSoundStep c.state (arp_step own at salt arp c)
-  arp_steps own arp = arp_sound own (turn_of at salt c) arp c.state has.state
+  pub arp_steps : (own : List Mac) (arp : ArpView) → IsSoundStep (kept_terms c) c.state (arp_step own at salt arp c)
+  arp_steps own arp = arp_sound (kept_terms c) own (turn_of at salt c) arp c.state has.state
 
-  pub carrier_steps : (carrier : Carrier) → IsSoundStep c.state (carrier_step carrier at salt c)
-  carrier_steps Up = begin_sound (turn_of at salt c) (kept_terms c) c.state early has.kept has.state
-  carrier_steps Down = off_sound (turn_of at salt c) c.state
+  pub carrier_steps : (carrier : Carrier) → IsSoundStep (kept_terms c) c.state (carrier_step carrier at salt c)
+  carrier_steps Up = begin_sound (kept_terms c) (turn_of at salt c) c.may_stand c.state early has.kept has.state
+  carrier_steps Down = off_sound (kept_terms c) (turn_of at salt c) c.state
 
-  pub release_steps : (tell : Tell) → IsSoundStep c.state (release_step tell at salt c)
-  release_steps tell = release_sound (turn_of at salt c) tell c.state
+  pub release_steps : (tell : Tell) → IsSoundStep (kept_terms c) c.state (release_step tell at salt c)
+  release_steps tell = release_sound (kept_terms c) (turn_of at salt c) tell c.state
 
-  pub rebind_steps : IsSoundStep c.state (rebind_step at salt c)
-  rebind_steps = rebind_sound (turn_of at salt c) (kept_terms c) c.state early has.kept has.state
+  pub rebind_steps : IsSoundStep (kept_terms c) c.state (rebind_step at salt c)
+  rebind_steps = rebind_sound (kept_terms c) (turn_of at salt c) c.state early has.kept has.state
 
   pub unsent_hosts : HasHosts (unsent_step at salt c)
   unsent_hosts = record {
@@ -89,9 +83,9 @@ module _ (at salt : ℕ) (early : at < 10 ^ 15) (c : ClientContent) (has : HasHo
   }
 
 pub heard_steps : (salt : ℕ) (arrival : Arrival) (c : ClientContent) → arrival.at < 10 ^ 15 → HasHosts c
-    → IsSoundStep c.state (heard_step salt arrival c)
+    → IsSoundStep (kept_terms c) c.state (heard_step salt arrival c)
 heard_steps salt arrival c early has =
-    heard_sound (turn_of arrival.at salt c) (answer_to arrival c) c.state early has.state (answer_fits c.settings arrival c.state early has.state)
+    heard_sound (kept_terms c) (turn_of arrival.at salt c) (answer_to arrival c) c.state early has.state (answer_fits c.settings arrival c.state early has.state)
 
 pub brought_hosts : (arrival : Arrival) (c : ClientContent) → HasHosts c → HasHosts (brought arrival c)
 brought_hosts arrival c has = record { state = has.state; kept = has.kept; held = has.held }

@@ -27,7 +27,7 @@ use Rattle.script_model.specs.IfaceSets.{is_in}
 use Rattle.client_model.specs.declared.interfaces.Iface.{Iface}
 use Rattle.client_model.specs.ClientSettings.{runs_dhcp4, settings_of}
 use Rattle.client_model.specs.ClientSettings6.{runs_dhcp6, settings6_of}
-use Rattle.client_model.specs.Dhcp4Steps.{arms, arrival_at, begin_dhcp4, dhcp4_step, rebind_dhcp4}
+use Rattle.client_model.specs.Dhcp4Steps.{arms, arrival_at, begin_dhcp4, begin_local, dhcp4_step, rebind_dhcp4}
 use Rattle.client_model.specs.Dhcp6Steps.{begin_dhcp6, dhcp6_step, rebind_dhcp6}
 use Rattle.client_model.specs.IfaceSteps.{IfaceStep, silent, then_step}
 use Rattle.client_model.specs.Interfaces.{begins, carrier_at_opening, iface_due, machines_rebind, opening_told, resting}
@@ -45,7 +45,7 @@ shaped managed settings last kept fresh ll dhcp6 = record {
   managed = managed;
   up = true;
   stopped = false;
-  dhcp4 = record { settings = settings; last = last; state = state4.Off; kept = kept; fresh = fresh };
+  dhcp4 = record { settings = settings; last = last; state = state4.Off; may_stand = true; kept = kept; fresh = fresh };
   local = ll;
   dhcp6 = dhcp6;
 }
@@ -133,8 +133,8 @@ module _ (managed : Managed) (choosing : Chooses managed) (own : List Mac) (at s
 
     pub begins_stand : Stands managed (ll_armed ll at ForNothing Choose) (begins at salt here).iface
     begins_stand =
-        subst (λ i. Stands managed (ll_armed ll at ForNothing Choose) (begin_dhcp6 at salt (arms at i).iface).iface) (sym no_begin4)
-        (subst (λ l. Stands managed l (begin_dhcp6 at salt (arms at here).iface).iface) armed_is (begin6 (armed managed.conf at ll)))
+        subst (λ i. Stands managed (ll_armed ll at ForNothing Choose) (begin_dhcp6 at salt (begin_local at i).iface).iface) (sym no_begin4)
+        (subst (λ l. Stands managed l (begin_dhcp6 at salt (begin_local at here).iface).iface) armed_is (begin6 (armed managed.conf at ll)))
 
     taken : (event : Event) (bytes : List ℕ) → GoesOn managed.spec.index.number event
         → Stands managed (rearmed managed.spec.index.number at event (hearing own at salt (packet_for managed.spec.index.number event bytes) ll))

@@ -161,7 +161,7 @@ unfolding switch_at
 switch_whole true = refl
 switch_whole false = refl
 
-switch_reads : Reads carrier_text (λ up. Unit {0}) switch_at
+pub switch_reads : Reads carrier_text (λ up. Unit {0}) switch_at
 switch_reads = record { sound = λ text x e. (switch_sound text x e, tt); whole = λ x fits. switch_whole x }
 
 abbrev Switch : Type 0

@@ -109,8 +109,9 @@ pub fn salt_field_of(bytes: &[u8]) -> Option<(u64, &[u8])>
     Some((salt, rest))
 }
 
+/// Whether the carrier came, `up`, or went, `down`.
 #[tactic(auto, unfolding(crate::specs::TurnReading::switch_at))]
-fn switch_of(bytes: &[u8]) -> Option<bool>
+pub fn switch_of(bytes: &[u8]) -> Option<bool>
     ensures { result ≡ switch_at bytes.now }
 {
     if bytes == b"up".as_slice() {

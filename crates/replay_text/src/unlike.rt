@@ -63,6 +63,7 @@ impl Model for Interfaces {
 }
 
 impl Interfaces {
+    /// No interfaces.
     pub fn new(alloc: Global) -> Interfaces
         ensures { result ≡ [] }
     {
@@ -71,6 +72,14 @@ impl Interfaces {
         }
     }
 
+    /// Whether there are none.
+    pub fn is_empty(&self) -> bool
+        ensures { result ≡ none_of self.now }
+    {
+        self.specs.is_empty()
+    }
+
+    /// How many there are, at most 64.
     pub fn len(&self) -> u32
         ensures value { result ≡ length self.now }
         ensures few { result ≤ 64 }
@@ -91,6 +100,7 @@ impl Interfaces {
         }
     }
 
+    /// The interfaces as a vector.
     pub fn into_vec(self) -> Vec<IfSpec>
         ensures { result.items ≡ self }
     {

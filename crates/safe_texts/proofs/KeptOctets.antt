@@ -1,5 +1,5 @@
 -- The values of the leases that an interface keeps are bytes, in every life.
-use Rattle.std.proofs.Common.{◌≡◌, ℕ, Bool, true, false, ◌&&◌, List, [], ◌∷◌, flat_map, length, map, Option, Some, None, IfSome, refl, nat_le}
+use Rattle.std.proofs.Common.{◌≡◌, ℕ, Bool, true, false, not, ◌&&◌, List, [], ◌∷◌, flat_map, length, map, Option, Some, None, IfSome, refl, nat_le}
 use Rattle.std.specs.List.{AllByRecursion}
 use Rattle.std.specs.Option.{option_and_then, option_map}
 use Rattle.std.specs.Prelude.{bytes_eq}
@@ -34,16 +34,19 @@ use Rattle.v6_message.specs.declared.kind.ServerKind6.{ServerKind6}
 use Rattle.v6_message.specs.declared.kind.ServerKind6.TheVariants.{Advertise, Reply}
 use Rattle.v6_options.specs.declared.code.TheConstants.{DNS_SERVERS, DOMAIN_LIST}
 use Rattle.v6_client.specs.Answers.{advertise_answer, advertised, counts, fresh_of, granted, is_taken, learnt, server_of}
-use Rattle.v6_client.specs.Calls.{answer_in, carrier_step, dates_in, due_of, fresh_in, rebind_step, release_step}
-use Rattle.v6_client.specs.Clients.{ClientContent, holds, turn_of}
+use Rattle.v6_client.specs.Calls.{answer_in, carried_by, carrier_step, dates_in, due_of, fresh_in, rebind_step, release_step, stands_at}
+use Rattle.v6_client.specs.Clients.{ClientContent, holds, is_at_end, is_restarting, turn_of}
 use Rattle.v6_client.specs.Hearing.{heard_row}
 use Rattle.v6_client.specs.Inputs.{duplicate_row}
+use Rattle.v6_client.specs.Items.{pruned_ias}
 use Rattle.v6_client.specs.Moves as moves6
-use Rattle.v6_client.specs.Moves.{given_up, kept_live, lapsed, parting_at, thinned_lease}
+use Rattle.v6_client.specs.Moves.{declining_now, given_up, kept_left, lapsed, lease_with, missing, parting_at, thinned_lease}
 use Rattle.v6_client.specs.Runs.{Turned6, answered, carrier_turned, contested_turned, hears_turned, rebind_turned, release_turned, rested, stepped, tick_turned}
 use Rattle.v6_client.specs.Taking.{value_granted, values_granted}
 use Rattle.v6_client.specs.Ticks.{tick_row}
+use Rattle.v6_client.specs.declared.settings.IaAsk.{IaAsk}
 use Rattle.v6_client.specs.declared.states.Carrier6.{Carrier6}
+use Rattle.v6_client.specs.declared.states.Carrier6.TheVariants.{Up, Down}
 use Rattle.v6_client.specs.declared.states.Cause6.{Cause6}
 use Rattle.v6_client.specs.declared.states.Cause6.TheVariants.{Lapse, Duplicate}
 use Rattle.v6_client.specs.declared.states.Keep6.{Keep6}
@@ -128,16 +131,31 @@ thinned_octets : (cause : Cause6) (kept : Option Lease6Content) → IfSome kept 
 thinned_octets cause None old = tt
 thinned_octets cause (Some lease) old = old
 
+left_octets : (cause : Cause6) (parting : Parting6) (kept : Option Lease6Content) → IfSome kept Octets6 → IfSome (kept_left cause parting kept) Octets6
+left_octets cause parting kept old =
+    gated (λ (k : Option Lease6Content). IfSome k Octets6) parting.stays (option_map (thinned_lease cause) kept) kept (thinned_octets cause kept old) old
+
+pruned_octets : (at : ℕ) (asks : List IaAsk) (kept : Option Lease6Content) → IfSome kept Octets6
+    → IfSome (option_map (λ lease. lease_with (pruned_ias at lease.ias asks) lease) kept) Octets6
+pruned_octets at asks None old = tt
+pruned_octets at asks (Some lease) old = old
+
 abbrev KeepsOctets : ClientContent → Type 0
 KeepsOctets c = IfSome c.kept Octets6
 
 lapsed_octets : (at : ℕ) (parting : Parting6) (c : ClientContent) → KeepsOctets c → KeepsOctets (lapsed at parting c)
 lapsed_octets at parting c old =
-    gated KeepsOctets (holds c.state && parting.goes) _ c
-    (gated (λ (kept : Option Lease6Content). IfSome kept Octets6) parting.stays (option_map (thinned_lease (Lapse at)) c.kept) c.kept (thinned_octets (Lapse at) c.kept old) old) old
+    gated KeepsOctets (holds c.state && parting.goes && not (is_at_end at c.state)) _ c (left_octets (Lapse at) parting c.kept old) old
 
 given_octets : (address : Ip6) (parting : Parting6) (c : ClientContent) → KeepsOctets c → KeepsOctets (given_up address parting c)
-given_octets address parting c old = gated KeepsOctets (holds c.state && parting.goes) _ c (thinned_octets (Duplicate address) c.kept old) old
+given_octets address parting c old =
+    gated KeepsOctets (holds c.state && parting.goes) _ c
+    (gated KeepsOctets (is_restarting c.state) (missing address parting c) (declining_now address c) (left_octets (Duplicate address) parting c.kept old)
+    (thinned_octets (Duplicate address) c.kept old)) old
+
+carried_octets : (carrier : Carrier6) (at : ℕ) (c : ClientContent) → KeepsOctets c → KeepsOctets (carried_by carrier at c)
+carried_octets Up at c old = gated KeepsOctets (stands_at at c) _ c (pruned_octets at c.settings.asks c.kept old) old
+carried_octets Down at c old = old
 
 granted_value : (code : ℕ) (bytes : List ℕ) → AreBytes bytes → OctetValues (value_granted code bytes)
 granted_value code bytes h = gated OctetValues (is_well_formed6 code bytes) (record { code = code; bytes = bytes } ∷ []) [] (h, tt) tt
@@ -186,7 +204,7 @@ hears_octets at salt message h c old =
 
 carrier_octets : (carrier : Carrier6) (at salt : ℕ) (c : ClientContent) → KeepsOctets c → KeepsOctets (carrier_turned carrier at salt c).client
 unfolding carrier_turned
-carrier_octets carrier at salt c old = stepped_octets (carrier_step carrier at salt c) None c tt old
+carrier_octets carrier at salt c old = stepped_octets (carrier_step carrier at salt c) None (carried_by carrier at c) tt (carried_octets carrier at c old)
 
 contested_octets : (address : Ip6) (at salt : ℕ) (c : ClientContent) → KeepsOctets c → KeepsOctets (contested_turned address at salt c).client
 unfolding contested_turned

@@ -30,7 +30,7 @@ use Rattle.client_model.specs.declared.steps.News.{News}
 use Rattle.client_model.specs.declared.steps.News.TheVariants.{CarrierCame, CarrierWent, Released, Stopped}
 use Rattle.client_model.specs.ClientSettings.{runs_dhcp4}
 use Rattle.client_model.specs.ClientSettings6.{runs_dhcp6}
-use Rattle.client_model.specs.Dhcp4Steps.{arms, arrival_at, begin_dhcp4, dhcp4_packet, dhcp4_step, drop_dhcp4, followed, holds_lease, lease_news, rebind_dhcp4, stop_dhcp4, tick_dhcp4}
+use Rattle.client_model.specs.Dhcp4Steps.{arms, arrival_at, begin_dhcp4, begin_local, dhcp4_packet, dhcp4_step, drop_dhcp4, followed, holds_lease, lease_news, rebind_dhcp4, stop_dhcp4, tick_dhcp4}
 use Rattle.client_model.specs.Dhcp6Steps.{after_dhcp6, begin_dhcp6, contested, dhcp6_step, drop_dhcp6, lease6_news, rebind_dhcp6, stop_dhcp6, tell6_of, tick_dhcp6}
 use Rattle.client_model.specs.IfaceSteps.{IfaceStep, Report, index_of, silent, then_step, with_news}
 use Rattle.client_model.specs.IfaceTurns.{Turn, arp_heard, hears, hears_either, hears_message, hears_message6, hears_packet, iface_turned, input_step, taken}
@@ -106,10 +106,11 @@ module _ (Q : Iface → Type 0) where
     rebind4_has at salt f q =
         gated StepHas (runs_dhcp4 f.managed.conf) (dhcp4_step at f (rebind_step at salt f.dhcp4)) (silent f) (step4_has at f (rebind_step at salt f.dhcp4) q) (silent_has f q)
 
+    begin_local_has : (at : ℕ) (f : Iface) → Q f → StepHas (begin_local at f)
+    begin_local_has at f q = silent_has (record f { local = armed f.managed.conf at f.local }) (kept.local (armed f.managed.conf at f.local) f q)
+
     arms_has : (at : ℕ) (f : Iface) → Q f → StepHas (arms at f)
-    arms_has at f q =
-        gated StepHas (holds_lease f) (silent f) (silent (record f { local = armed f.managed.conf at f.local })) (silent_has f q)
-        (silent_has (record f { local = armed f.managed.conf at f.local }) (kept.local (armed f.managed.conf at f.local) f q))
+    arms_has at f q = gated StepHas (holds_lease f) (silent f) (begin_local at f) (silent_has f q) (begin_local_has at f q)
 
     begin6_has : (at salt : ℕ) (f : Iface) → Q f → StepHas (begin_dhcp6 at salt f)
     begin6_has at salt f q =
@@ -126,7 +127,8 @@ module _ (Q : Iface → Type 0) where
 
     begins_has : (at salt : ℕ) (f : Iface) → Q f → StepHas (begins at salt f)
     begins_has at salt f q =
-        then_has (then_step (begin_dhcp4 at salt f) (arms at)) (begin_dhcp6 at salt) (then_has (begin_dhcp4 at salt f) (arms at) (begin4_has at salt f q) (arms_has at)) (begin6_has at salt)
+        then_has (then_step (begin_dhcp4 at salt f) (begin_local at)) (begin_dhcp6 at salt)
+        (then_has (begin_dhcp4 at salt f) (begin_local at) (begin4_has at salt f q) (begin_local_has at)) (begin6_has at salt)
 
     rebinds_has : (at salt : ℕ) (f : Iface) → Q f → StepHas (machines_rebind at salt f)
     rebinds_has at salt f q =

@@ -48,6 +48,8 @@ pub struct IfConf {
     pub resolver: ResolverConf,
     /// What its hooks run.
     pub hooks: HookConf,
+    /// `persistent`: a lease that was filed stays in force while it is reconfirmed.
+    pub persistent: bool,
 }
 
 impl IfConf {
@@ -75,6 +77,7 @@ impl IfConf {
             dhcp6: self.dhcp6.to_owned(alloc)?,
             resolver: self.resolver.to_owned(alloc)?,
             hooks: self.hooks.to_owned(alloc)?,
+            persistent: self.persistent,
         })
     }
 }

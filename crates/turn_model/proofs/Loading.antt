@@ -7,7 +7,7 @@ use Rattle.net_types.proofs.CaseLaws.{gated}
 use Rattle.net_types.specs.declared.interface.IfSpec.{IfSpec}
 use Rattle.net_types.specs.declared.interface.Name.{Name}
 use Rattle.net_types.specs.NameText.{name_text}
-use Rattle.lease_text.specs.Bounds.{FitsLease}
+use Rattle.lease_text.specs.Bounds.{HasText}
 use Rattle.lease_text.specs.Leases.{LeaseContent}
 use Rattle.lease6_text.specs.Bounds.{HasText6}
 use Rattle.lease6_text.specs.Leases.{Lease6Content}
@@ -82,14 +82,14 @@ beginnings_managed duid (one ∷ all) = ap (λ (more : List Managed). one.manage
 
 -- ---- the leases that were kept
 
-own_fits : (spec : IfSpec) (lease : LeaseContent) → FitsLease lease → IfSome (own_lease spec lease) FitsLease
-own_fits spec lease fits = gated (λ (k : Option LeaseContent). IfSome k FitsLease) (is_own spec lease.name lease.origin) (Some lease) None fits tt
+own_fits : (spec : IfSpec) (lease : LeaseContent) → HasText lease → IfSome (own_lease spec lease) HasText
+own_fits spec lease fits = gated (λ (k : Option LeaseContent). IfSome k HasText) (is_own spec lease.name lease.origin) (Some lease) None fits tt
 
-spelled_fits : (spec : IfSpec) (text : List ℕ) (found : Option LeaseContent) → lease_spelled text ≡ found → IfSome (option_and_then (own_lease spec) found) FitsLease
+spelled_fits : (spec : IfSpec) (text : List ℕ) (found : Option LeaseContent) → lease_spelled text ≡ found → IfSome (option_and_then (own_lease spec) found) HasText
 spelled_fits spec text None e = tt
-spelled_fits spec text (Some lease) e = own_fits spec lease ((is_reading text lease).sound e).spells.1.fits
+spelled_fits spec text (Some lease) e = own_fits spec lease ((is_reading text lease).sound e).spells.1
 
-pub kept_fits : (spec : IfSpec) (reading : Reading) → IfSome (kept_by spec reading) FitsLease
+pub kept_fits : (spec : IfSpec) (reading : Reading) → IfSome (kept_by spec reading) HasText
 kept_fits spec (Found bytes) = spelled_fits spec bytes (lease_spelled bytes) refl
 kept_fits spec Missing = tt
 kept_fits spec Unread = tt
@@ -109,7 +109,7 @@ kept_fits6 spec Unread = tt
 -- the DUID of an interface's beginning is this one, and its leases are within the bounds
 pub record KeepsFitting (duid : List ℕ) (b : Beginning) : Type 0 where
   pub duid_is : b.duid ≡ duid
-  pub kept4 : IfSome b.kept4 FitsLease
+  pub kept4 : IfSome b.kept4 HasText
   pub kept6 : IfSome b.kept6 HasText6
 
 -- where a reading gives what fits, so does one that need not have been
@@ -121,7 +121,7 @@ if_read Fits kept fits (Some reading) = fits reading
 one_fits : (duid : List ℕ) (one : Loaded) → KeepsFitting duid (beginning_of duid one)
 one_fits duid one = record {
   duid_is = refl;
-  kept4 = if_read FitsLease (kept_by one.managed.spec) (kept_fits one.managed.spec) one.lease4;
+  kept4 = if_read HasText (kept_by one.managed.spec) (kept_fits one.managed.spec) one.lease4;
   kept6 = if_read HasText6 (kept6_by one.managed.spec) (kept_fits6 one.managed.spec) one.lease6;
 }
 

@@ -45,7 +45,7 @@ module _ (spec : IfSpec) where
   read Missing = tt
   read Unread = tt
 
-  loaded : (reading : Option Reading) → OwnOr (option_and_then (kept_by spec) reading)
+  pub loaded : (reading : Option Reading) → OwnOr (option_and_then (kept_by spec) reading)
   loaded None = tt
   loaded (Some reading) = read reading
 
@@ -66,7 +66,7 @@ module _ (spec : IfSpec) where
   read6 Missing = tt
   read6 Unread = tt
 
-  loaded6 : (reading : Option Reading) → OwnOr6 (option_and_then (kept6_by spec) reading)
+  pub loaded6 : (reading : Option Reading) → OwnOr6 (option_and_then (kept6_by spec) reading)
   loaded6 None = tt
   loaded6 (Some reading) = read6 reading
 

@@ -11,7 +11,6 @@ use Rattle.v4_client.specs.declared.states.Answer4.TheVariants as answer
 use Rattle.v4_client.specs.declared.states.Exchange4.{Exchange4}
 use Rattle.v4_client.specs.declared.states.State4.{State4}
 use Rattle.v4_client.specs.declared.states.State4.TheVariants.{Off, Init, Selecting, Requesting, Rebooting, Checking, Waiting, Bound, Renewing, Rebinding}
-use Rattle.v4_client.specs.declared.states.Step4.{Step4}
 use Rattle.v4_client.specs.declared.states.Turn4.{Turn4}
 use Rattle.v4_client.specs.Answers.{is_answer, is_blacklisted, unless_blacklisted, answering, reply_by, answer_of}
 use Rattle.v4_client.specs.Awaited.{is_awaited, is_awaited_by, awaited, may_want_memory}
@@ -33,8 +32,8 @@ nothing_rests turn Off = refl
 nothing_rests turn (Init due) = refl
 nothing_rests turn (Selecting xid began secs backoff due) = refl
 nothing_rests turn (Requesting exchange secs backoff due) = refl
-nothing_rests turn (Rebooting exchange backoff end due) = refl
-nothing_rests turn (Checking xid terms origin acd) = refl
+nothing_rests turn (Rebooting exchange backoff end due stands) = refl
+nothing_rests turn (Checking xid terms origin acd stands) = refl
 nothing_rests turn (Waiting due) = refl
 nothing_rests turn (Bound xid terms acd) = refl
 nothing_rests turn (Renewing exchange terms acd due) = refl
@@ -59,8 +58,8 @@ ignored settings arrival Off none = refl
 ignored settings arrival (Init due) none = refl
 ignored settings arrival (Selecting xid began secs backoff due) none = rw (none xid refl) refl
 ignored settings arrival (Requesting exchange secs backoff due) none = rw (none exchange.xid refl) refl
-ignored settings arrival (Rebooting exchange backoff end due) none = rw (none exchange.xid refl) refl
-ignored settings arrival (Checking xid terms origin acd) none = refl
+ignored settings arrival (Rebooting exchange backoff end due stands) none = rw (none exchange.xid refl) refl
+ignored settings arrival (Checking xid terms origin acd stands) none = refl
 ignored settings arrival (Waiting due) none = refl
 ignored settings arrival (Bound xid terms acd) none = refl
 ignored settings arrival (Renewing exchange terms acd due) none = rw (none exchange.xid refl) refl
@@ -125,8 +124,8 @@ other_server settings arrival (Requesting exchange secs backoff due) other =
 other_server settings arrival Off other = refl
 other_server settings arrival (Init due) other = refl
 other_server settings arrival (Selecting xid began secs backoff due) other = let is : None ≡ Some other.chosen = other.is in absurd cc
-other_server settings arrival (Rebooting exchange backoff end due) other = let is : None ≡ Some other.chosen = other.is in absurd cc
-other_server settings arrival (Checking xid terms origin acd) other = refl
+other_server settings arrival (Rebooting exchange backoff end due stands) other = let is : None ≡ Some other.chosen = other.is in absurd cc
+other_server settings arrival (Checking xid terms origin acd stands) other = refl
 other_server settings arrival (Waiting due) other = refl
 other_server settings arrival (Bound xid terms acd) other = refl
 other_server settings arrival (Renewing exchange terms acd due) other = let is : None ≡ Some other.chosen = other.is in absurd cc

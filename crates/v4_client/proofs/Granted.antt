@@ -1,5 +1,5 @@
--- A lease that is checked or held was granted by an acceptable ACK.
-use Rattle.std.proofs.Common.{◌≡◌, ℕ, ◌⊎◌, inl, inr, ◌||◌, List, [], ◌∷◌, Option, Some, None, refl, sym, subst, nat_le, eqb}
+-- A lease that is checked or bound was granted by an acceptable ACK.
+use Rattle.std.proofs.Common.{◌≡◌, ℕ, ◌⊎◌, inl, inr, Bool, true, false, ◌||◌, List, [], ◌∷◌, Option, Some, None, refl, sym, subst, nat_le, eqb}
 use Rattle.machine.specs.Moment.{is_due, moment_of}
 use Rattle.machine.specs.Since.{Since}
 use Rattle.net_types.proofs.CaseLaws.{gated}
@@ -25,31 +25,31 @@ use Rattle.v4_client.specs.declared.states.Tell.{Tell}
 use Rattle.v4_client.specs.declared.states.Tell.TheVariants.{Server, Nobody}
 use Rattle.v4_client.specs.declared.states.Turn4.{Turn4}
 use Rattle.v4_client.specs.Calls.{answer_to}
-use Rattle.v4_client.specs.Clients.{ClientContent, held_terms, kept_terms, turn_of}
+use Rattle.v4_client.specs.Clients.{ClientContent, bound_terms, kept_terms, turn_of}
 use Rattle.v4_client.specs.Detection.{checked, defended, with_acd}
 use Rattle.v4_client.specs.Hearing.{offered, granted, answered, renewed, heard_row, contested, arp_row}
 use Rattle.v4_client.specs.History.{Event4, Tick, Heard, HeardArp, Unsent, Carries, Release, Rebind, step_of, answer_in, client_after}
-use Rattle.v4_client.specs.Inputs.{begins, begin_row, released, release_row, rebind_row, unsent_row}
+use Rattle.v4_client.specs.Inputs.{begins, begin_row, released, released_standing, release_row, rebind_row, unsent_row}
 use Rattle.v4_client.specs.Laws.{Grants, HoldsGranted}
-use Rattle.v4_client.specs.Moments.{expiry, renewal_at, rebinding_at}
+use Rattle.v4_client.specs.Moments.{expiry, renewal_at, rebinding_at, standing_until}
 use Rattle.v4_client.specs.Steps.{rests}
 use Rattle.v4_client.specs.Ticks.{detects, tick_row}
 use Rattle.v4_client.specs.Due.{due_of}
 
--- the lease that is checked or held
+-- the lease that is checked or bound
 abbrev lease_of : State4 → Option Terms4
 lease_of Off = None
 lease_of (Init due) = None
 lease_of (Selecting xid began secs backoff due) = None
 lease_of (Requesting exchange secs backoff due) = None
-lease_of (Rebooting exchange backoff end due) = None
-lease_of (Checking xid terms origin acd) = Some terms
+lease_of (Rebooting exchange backoff end due stands) = None
+lease_of (Checking xid terms origin acd stands) = Some terms
 lease_of (Waiting due) = None
 lease_of (Bound xid terms acd) = Some terms
 lease_of (Renewing exchange terms acd due) = Some terms
 lease_of (Rebinding exchange terms acd due) = Some terms
 
--- what is checked or held was so before, or is granted now
+-- what is checked or bound was so before, or is granted now
 abbrev Follows : (before : Option Terms4) → (said : Answer4) → (after : Option Terms4) → Type 0
 Follows before said None = Unit {0}
 Follows before said (Some terms) = (before ≡ Some terms) ⊎ (said ≡ answer.Ack terms)
@@ -71,8 +71,8 @@ with_acd_lease Off acd = refl
 with_acd_lease (Init due) acd = refl
 with_acd_lease (Selecting xid began secs backoff due) acd = refl
 with_acd_lease (Requesting exchange secs backoff due) acd = refl
-with_acd_lease (Rebooting exchange backoff end due) acd = refl
-with_acd_lease (Checking xid terms origin before) acd = refl
+with_acd_lease (Rebooting exchange backoff end due stands) acd = refl
+with_acd_lease (Checking xid terms origin before stands) acd = refl
 with_acd_lease (Waiting due) acd = refl
 with_acd_lease (Bound xid terms before) acd = refl
 with_acd_lease (Renewing exchange terms before due) acd = refl
@@ -101,14 +101,14 @@ contesting own turn arp xid terms state (Some acd) said =
     defends turn state xid terms _ (detection.acd_hears own acd arp turn.at).says said
     (with_acd_lease state (detection.acd_hears own acd arp turn.at).acd)
 
-checks : (turn : Turn4) (xid : ℕ) (terms : Terms4) (origin : Origin4) (before acd : Acd) (says : AcdSays) (said : Answer4)
-    → StepFollows (Checking xid terms origin before) said (checked turn xid terms origin acd says)
-checks turn xid terms origin before acd Quiet said = inl refl
-checks turn xid terms origin before acd SayProbe said = inl refl
-checks turn xid terms origin before acd SayAnnounce said = inl refl
-checks turn xid terms origin before acd Passed said = inl refl
-checks turn xid terms origin before acd Conflict said = tt
-checks turn xid terms origin before acd GivenUp said = inl refl
+checks : (turn : Turn4) (xid : ℕ) (terms : Terms4) (origin : Origin4) (before acd : Acd) (stands : Option Terms4) (says : AcdSays) (said : Answer4)
+    → StepFollows (Checking xid terms origin before stands) said (checked turn xid terms origin acd stands says)
+checks turn xid terms origin before acd stands Quiet said = inl refl
+checks turn xid terms origin before acd stands SayProbe said = inl refl
+checks turn xid terms origin before acd stands SayAnnounce said = inl refl
+checks turn xid terms origin before acd stands Passed said = inl refl
+checks turn xid terms origin before acd stands Conflict said = tt
+checks turn xid terms origin before acd stands GivenUp said = inl refl
 
 -- ---- ticks
 
@@ -122,11 +122,14 @@ ticks turn (Requesting exchange secs Eight due) said = tt
 ticks turn (Requesting exchange secs Sixteen due) said = tt
 ticks turn (Requesting exchange secs ThirtyTwo due) said = tt
 ticks turn (Requesting exchange secs SixtyFour due) said = tt
-ticks turn (Rebooting exchange backoff end due) said =
-    gated (StepFollows (Rebooting exchange backoff end due) said) (nat_le end turn.at) _ _ tt tt
-ticks turn (Checking xid terms origin acd) said =
-    gated (StepFollows (Checking xid terms origin acd) said) (is_due (expiry terms) turn.at) _ _ tt
-    (checks turn xid terms origin acd _ (detection.acd_tick acd turn.at turn.salt).says said)
+ticks turn (Rebooting exchange backoff end due stands) said =
+    let P : Step4 → Type 0 = λ (step : Step4). StepFollows (Rebooting exchange backoff end due stands) said step in
+    gated P (is_due (standing_until stands) turn.at) _ _ tt (gated P (nat_le end turn.at) _ _ tt tt)
+ticks turn (Checking xid terms origin acd stands) said =
+    let P : Step4 → Type 0 = λ (step : Step4). StepFollows (Checking xid terms origin acd stands) said step in
+    gated P (is_due (standing_until stands) turn.at) _ _ (inl refl)
+    (gated P (is_due (expiry terms) turn.at) _ _ tt
+    (checks turn xid terms origin acd _ stands (detection.acd_tick acd turn.at turn.salt).says said))
 ticks turn (Bound xid terms acd) said =
     let P : Step4 → Type 0 = λ (step : Step4). StepFollows (Bound xid terms acd) said step in
     gated P (is_due (expiry terms) turn.at) _ _ tt
@@ -153,13 +156,13 @@ offering turn xid secs state (answer.Offer address server) none = tt
 offering turn xid secs state (answer.Ack terms) none = stays turn state (answer.Ack terms)
 offering turn xid secs state answer.Nak none = stays turn state answer.Nak
 
-answering : (turn : Turn4) (xid : ℕ) (origin : Origin4) (state : State4) (said : Answer4)
-    → StepFollows state said (answered turn xid origin state said)
-answering turn xid origin state answer.Nothing = stays turn state answer.Nothing
-answering turn xid origin state (answer.Offer address server) = stays turn state (answer.Offer address server)
-answering turn xid origin state (answer.Ack terms) =
+answering : (turn : Turn4) (xid : ℕ) (origin : Origin4) (stands : Option Terms4) (state : State4) (said : Answer4)
+    → StepFollows state said (answered turn xid origin stands state said)
+answering turn xid origin stands state answer.Nothing = stays turn state answer.Nothing
+answering turn xid origin stands state (answer.Offer address server) = stays turn state (answer.Offer address server)
+answering turn xid origin stands state (answer.Ack terms) =
     gated (StepFollows state (answer.Ack terms)) turn.site.noarp _ _ (inr refl) (inr refl)
-answering turn xid origin state answer.Nak = tt
+answering turn xid origin stands state answer.Nak = tt
 
 renewing_said : (turn : Turn4) (xid : ℕ) (news : News4) (acd : Option Acd) (state : State4) (said : Answer4)
     → StepFollows state said (renewed turn xid news acd state said)
@@ -174,9 +177,9 @@ hears turn said (Init due) = tt
 hears turn said (Selecting xid began secs backoff due) =
     offering turn xid secs (Selecting xid began secs backoff due) said refl
 hears turn said (Requesting exchange secs backoff due) =
-    answering turn exchange.xid Offered (Requesting exchange secs backoff due) said
-hears turn said (Rebooting exchange backoff end due) = answering turn exchange.xid Rebooted (Rebooting exchange backoff end due) said
-hears turn said (Checking xid terms origin acd) = inl refl
+    answering turn exchange.xid Offered None (Requesting exchange secs backoff due) said
+hears turn said (Rebooting exchange backoff end due stands) = answering turn exchange.xid Rebooted stands (Rebooting exchange backoff end due stands) said
+hears turn said (Checking xid terms origin acd stands) = inl refl
 hears turn said (Waiting due) = tt
 hears turn said (Bound xid terms acd) = inl refl
 hears turn said (Renewing exchange terms acd due) =
@@ -190,9 +193,9 @@ hears_arp own turn arp Off said = tt
 hears_arp own turn arp (Init due) said = tt
 hears_arp own turn arp (Selecting xid began secs backoff due) said = tt
 hears_arp own turn arp (Requesting exchange secs backoff due) said = tt
-hears_arp own turn arp (Rebooting exchange backoff end due) said = tt
-hears_arp own turn arp (Checking xid terms origin acd) said =
-    checks turn xid terms origin acd _ (detection.acd_hears own acd arp turn.at).says said
+hears_arp own turn arp (Rebooting exchange backoff end due stands) said = tt
+hears_arp own turn arp (Checking xid terms origin acd stands) said =
+    checks turn xid terms origin acd _ stands (detection.acd_hears own acd arp turn.at).says said
 hears_arp own turn arp (Waiting due) said = tt
 hears_arp own turn arp (Bound xid terms acd) said = contesting own turn arp xid terms (Bound xid terms acd) acd said
 hears_arp own turn arp (Renewing exchange terms acd due) said =
@@ -202,36 +205,44 @@ hears_arp own turn arp (Rebinding exchange terms acd due) said =
 
 -- ---- the other inputs
 
-begun : (turn : Turn4) (kept : Option Terms4) (before : State4) (said : Answer4) → StepFollows before said (begins turn kept)
-begun turn None before said = tt
-begun turn (Some terms) before said =
-    gated (StepFollows before said) (is_due (expiry terms) turn.at || eqb turn.site.reboot 0) _ _ tt tt
+begun : (turn : Turn4) (may_stand : Bool) (kept : Option Terms4) (before : State4) (said : Answer4)
+    → StepFollows before said (begins turn may_stand kept)
+begun turn may_stand None before said = tt
+begun turn may_stand (Some terms) before said =
+    gated (λ (step : Step4). StepFollows before said (record step { spends = true })) (is_due (expiry terms) turn.at || eqb turn.site.reboot 0) _ _
+    tt tt
 
-carries : (turn : Turn4) (kept : Option Terms4) (state : State4) (said : Answer4)
-    → StepFollows state said (begin_row turn kept state)
-carries turn kept Off said = begun turn kept Off said
-carries turn kept (Init due) said = tt
-carries turn kept (Selecting xid began secs backoff due) said = tt
-carries turn kept (Requesting exchange secs backoff due) said = tt
-carries turn kept (Rebooting exchange backoff end due) said = tt
-carries turn kept (Checking xid terms origin acd) said = inl refl
-carries turn kept (Waiting due) said = tt
-carries turn kept (Bound xid terms acd) said = inl refl
-carries turn kept (Renewing exchange terms acd due) said = inl refl
-carries turn kept (Rebinding exchange terms acd due) said = inl refl
+carries : (turn : Turn4) (may_stand : Bool) (kept : Option Terms4) (state : State4) (said : Answer4)
+    → StepFollows state said (begin_row turn may_stand kept state)
+carries turn may_stand kept Off said = begun turn may_stand kept Off said
+carries turn may_stand kept (Init due) said = tt
+carries turn may_stand kept (Selecting xid began secs backoff due) said = tt
+carries turn may_stand kept (Requesting exchange secs backoff due) said = tt
+carries turn may_stand kept (Rebooting exchange backoff end due stands) said = tt
+carries turn may_stand kept (Checking xid terms origin acd stands) said = inl refl
+carries turn may_stand kept (Waiting due) said = tt
+carries turn may_stand kept (Bound xid terms acd) said = inl refl
+carries turn may_stand kept (Renewing exchange terms acd due) said = inl refl
+carries turn may_stand kept (Rebinding exchange terms acd due) said = inl refl
 
 let_go : (turn : Turn4) (tell : Tell) (terms : Terms4) (before : State4) (said : Answer4)
     → StepFollows before said (released turn tell terms)
 let_go turn Server terms before said = tt
 let_go turn Nobody terms before said = tt
 
+let_stand : (turn : Turn4) (tell : Tell) (stands : Option Terms4) (before : State4) (said : Answer4)
+    → StepFollows before said (released_standing turn tell stands)
+let_stand turn tell None before said = tt
+let_stand turn tell (Some terms) before said = let_go turn tell terms before said
+
 releases : (turn : Turn4) (tell : Tell) (state : State4) (said : Answer4) → StepFollows state said (release_row turn tell state)
 releases turn tell Off said = tt
 releases turn tell (Init due) said = tt
 releases turn tell (Selecting xid began secs backoff due) said = tt
 releases turn tell (Requesting exchange secs backoff due) said = tt
-releases turn tell (Rebooting exchange backoff end due) said = tt
-releases turn tell (Checking xid terms origin acd) said = tt
+releases turn tell (Rebooting exchange backoff end due stands) said =
+    let_stand turn tell stands (Rebooting exchange backoff end due stands) said
+releases turn tell (Checking xid terms origin acd stands) said = let_stand turn tell stands (Checking xid terms origin acd stands) said
 releases turn tell (Waiting due) said = tt
 releases turn tell (Bound xid terms acd) said = let_go turn tell terms (Bound xid terms acd) said
 releases turn tell (Renewing exchange terms acd due) said = let_go turn tell terms (Renewing exchange terms acd due) said
@@ -239,12 +250,12 @@ releases turn tell (Rebinding exchange terms acd due) said = let_go turn tell te
 
 rebinds : (turn : Turn4) (kept : Option Terms4) (state : State4) (said : Answer4)
     → StepFollows state said (rebind_row turn kept state)
-rebinds turn kept Off said = begun turn kept Off said
+rebinds turn kept Off said = begun turn false kept Off said
 rebinds turn kept (Init due) said = tt
 rebinds turn kept (Selecting xid began secs backoff due) said = tt
 rebinds turn kept (Requesting exchange secs backoff due) said = tt
-rebinds turn kept (Rebooting exchange backoff end due) said = tt
-rebinds turn kept (Checking xid terms origin acd) said = inl refl
+rebinds turn kept (Rebooting exchange backoff end due stands) said = tt
+rebinds turn kept (Checking xid terms origin acd stands) said = inl refl
 rebinds turn kept (Waiting due) said = tt
 rebinds turn kept (Bound xid terms acd) said = inl refl
 rebinds turn kept (Renewing exchange terms acd due) said = inl refl
@@ -255,8 +266,8 @@ unsends turn Off said = tt
 unsends turn (Init due) said = tt
 unsends turn (Selecting xid began secs backoff due) said = tt
 unsends turn (Requesting exchange secs backoff due) said = tt
-unsends turn (Rebooting exchange backoff end due) said = tt
-unsends turn (Checking xid terms origin acd) said = inl refl
+unsends turn (Rebooting exchange backoff end due stands) said = tt
+unsends turn (Checking xid terms origin acd stands) said = inl refl
 unsends turn (Waiting due) said = tt
 unsends turn (Bound xid terms acd) said = inl refl
 unsends turn (Renewing exchange terms acd due) said = inl refl
@@ -271,7 +282,7 @@ event_follows (Tick at salt) c =
 event_follows (Heard arrival salt) c = hears (turn_of arrival.at salt c) (answer_to arrival c) c.state
 event_follows (HeardArp own arp at salt) c = hears_arp own (turn_of (moment_of at) salt c) arp c.state answer.Nothing
 event_follows (Unsent at salt) c = unsends (turn_of (moment_of at) salt c) c.state answer.Nothing
-event_follows (Carries Up at salt) c = carries (turn_of (moment_of at) salt c) (kept_terms c) c.state answer.Nothing
+event_follows (Carries Up at salt) c = carries (turn_of (moment_of at) salt c) c.may_stand (kept_terms c) c.state answer.Nothing
 event_follows (Carries Down at salt) c = tt
 event_follows (Release tell at salt) c = releases (turn_of (moment_of at) salt c) tell c.state answer.Nothing
 event_follows (Rebind at salt) c = rebinds (turn_of (moment_of at) salt c) (kept_terms c) c.state answer.Nothing
@@ -295,19 +306,19 @@ all_granted start (event ∷ past) off =
     follow start event past (lease_of (client_after start past).state) (lease_of (step_of event (client_after start past)).state)
     (event_follows event (client_after start past)) (all_granted start past off)
 
-held_lease : (state : State4) (terms : Terms4) → held_terms state ≡ Some terms → lease_of state ≡ Some terms
-held_lease Off terms e = absurd cc
-held_lease (Init due) terms e = absurd cc
-held_lease (Selecting xid began secs backoff due) terms e = absurd cc
-held_lease (Requesting exchange secs backoff due) terms e = absurd cc
-held_lease (Rebooting exchange backoff end due) terms e = absurd cc
-held_lease (Checking xid other origin acd) terms e = absurd cc
-held_lease (Waiting due) terms e = absurd cc
-held_lease (Bound xid other acd) terms e = e
-held_lease (Renewing exchange other acd due) terms e = e
-held_lease (Rebinding exchange other acd due) terms e = e
+bound_lease : (state : State4) (terms : Terms4) → bound_terms state ≡ Some terms → lease_of state ≡ Some terms
+bound_lease Off terms e = absurd cc
+bound_lease (Init due) terms e = absurd cc
+bound_lease (Selecting xid began secs backoff due) terms e = absurd cc
+bound_lease (Requesting exchange secs backoff due) terms e = absurd cc
+bound_lease (Rebooting exchange backoff end due stands) terms e = absurd cc
+bound_lease (Checking xid other origin acd stands) terms e = absurd cc
+bound_lease (Waiting due) terms e = absurd cc
+bound_lease (Bound xid other acd) terms e = e
+bound_lease (Renewing exchange other acd due) terms e = e
+bound_lease (Rebinding exchange other acd due) terms e = e
 
 pub holds_granted : HoldsGranted
 holds_granted start past terms off held =
-    subst (λ (t : Option Terms4). IsGranted start past t) (held_lease (client_after start past).state terms held)
+    subst (λ (t : Option Terms4). IsGranted start past t) (bound_lease (client_after start past).state terms held)
     (all_granted start past off)

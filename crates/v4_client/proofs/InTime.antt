@@ -20,13 +20,13 @@ use Rattle.v4_client.specs.declared.states.State4.{State4}
 use Rattle.v4_client.specs.declared.states.State4.TheVariants.{Off, Init, Selecting, Requesting, Rebooting, Checking, Waiting, Bound, Renewing, Rebinding}
 use Rattle.v4_client.specs.declared.states.Step4.{Step4}
 use Rattle.v4_client.specs.declared.states.Turn4.{Turn4}
-use Rattle.v4_client.specs.Clients.{ClientContent, turn_of}
+use Rattle.v4_client.specs.Clients.{ClientContent, held_terms, turn_of}
 use Rattle.v4_client.specs.Detection.{checked, defended, with_acd}
 use Rattle.v4_client.specs.Due.{acd_due, due_of}
 use Rattle.v4_client.specs.History.{Tick, tick_step}
-use Rattle.v4_client.specs.InTime.{IsWoken, WakesInTime, has_row}
+use Rattle.v4_client.specs.InTime.{WakesInTime, has_row}
 use Rattle.v4_client.specs.Laws.{ChangesNothing}
-use Rattle.v4_client.specs.Moments.{earlier, expiry, renewal_at, rebinding_at}
+use Rattle.v4_client.specs.Moments.{earlier, expiry, renewal_at, rebinding_at, standing_until}
 use Rattle.v4_client.specs.Moves.{IsQuiet, moved, told}
 use Rattle.v4_client.specs.Sound.{FitsState}
 use Rattle.v4_client.specs.Steps.{rests}
@@ -52,6 +52,14 @@ either : (one other : Option ℕ) (at : ℕ) → is_due (earlier one other) at �
 either None other at = refl
 either (Some one) None at = alone (nat_le one at)
 either (Some one) (Some other) at = grind (arith, nat_tests)
+
+rotated : (a b c : Bool) → ((a || b) || c) ≡ (b || (c || a))
+rotated true true c = refl
+rotated true false true = refl
+rotated true false false = refl
+rotated false true c = refl
+rotated false false true = refl
+rotated false false false = refl
 
 swapped : (a b : Bool) → (a || b) ≡ (b || a)
 swapped true true = refl
@@ -110,10 +118,14 @@ first (Init due) at fits = alone (nat_le due at)
 first (Waiting due) at fits = alone (nat_le due at)
 first (Selecting xid began secs backoff due) at fits = alone (nat_le due at)
 first (Requesting exchange secs backoff due) at fits = alone (nat_le due at)
-first (Rebooting exchange backoff end due) at fits =
-    alone (nat_le due at) ∙ absorbed (nat_le due at) (nat_le end at) false (comes due end at fits.wakes)
-first (Checking xid terms origin acd) at fits =
-    either (detection.due_of acd.phase) (expiry terms) at ∙ swapped (is_due (detection.due_of acd.phase) at) (is_due (expiry terms) at)
+first (Rebooting exchange backoff end due stands) at fits =
+    either (Some due) (standing_until stands) at
+    ∙ (absorbed (nat_le due at) (nat_le end at) (is_due (standing_until stands) at) (comes due end at fits.wakes)
+    ∙ ap (λ (b : Bool). nat_le due at || (nat_le end at || b)) (alone (is_due (standing_until stands) at)))
+first (Checking xid terms origin acd stands) at fits =
+    either (earlier (detection.due_of acd.phase) (expiry terms)) (standing_until stands) at
+    ∙ (ap (λ (b : Bool). b || is_due (standing_until stands) at) (either (detection.due_of acd.phase) (expiry terms) at)
+    ∙ rotated (is_due (detection.due_of acd.phase) at) (is_due (expiry terms) at) (is_due (standing_until stands) at))
 first (Bound xid terms None) at fits = bound_first terms None at fits
 first (Bound xid terms (Some acd)) at fits = bound_first terms (detection.due_of acd.phase) at fits
 first (Renewing exchange terms None due) at fits = renewing_first terms due None at fits.renewal.holds fits.wakes
@@ -135,8 +147,8 @@ rank Off = 0
 rank (Init due) = 1
 rank (Selecting xid began secs backoff due) = 2
 rank (Requesting exchange secs backoff due) = 3
-rank (Rebooting exchange backoff end due) = 4
-rank (Checking xid terms origin acd) = 5
+rank (Rebooting exchange backoff end due stands) = 4
+rank (Checking xid terms origin acd stands) = 5
 rank (Waiting due) = 6
 rank (Bound xid terms acd) = 7
 rank (Renewing exchange terms acd due) = 8
@@ -175,7 +187,7 @@ acd_moves acd at salt come =
     rw come (λ e. phase_moves acd acd.phase at salt come (ap (λ (a : Acd). a.phase) e))
 
 abbrev acd_in : State4 → Option Acd
-acd_in (Checking xid terms origin acd) = Some acd
+acd_in (Checking xid terms origin acd stands) = Some acd
 acd_in (Bound xid terms acd) = acd
 acd_in (Renewing exchange terms acd due) = acd
 acd_in (Rebinding exchange terms acd due) = acd
@@ -184,18 +196,18 @@ acd_in _ = None
 same_acd : (here state : State4) (acd next : Acd) → acd_in here ≡ Some acd → acd_in state ≡ Some next → state ≡ here → next ≡ acd
 same_acd here state acd next is was e = let same : Some next ≡ Some acd = sym was ∙ (ap acd_in e ∙ is) in cc
 
-checks : (turn : Turn4) (xid : ℕ) (terms : Terms4) (origin : Origin4) (acd next : Acd) (says : AcdSays) → (next ≡ acd → ⊥)
-    → IsIdle (Checking xid terms origin acd) (checked turn xid terms origin next says) → ⊥
-checks turn xid terms origin acd next Quiet moves idle =
-    moves (same_acd (Checking xid terms origin acd) (Checking xid terms origin next) acd next refl refl idle.same)
-checks turn xid terms origin acd next SayProbe moves idle =
-    moves (same_acd (Checking xid terms origin acd) (Checking xid terms origin next) acd next refl refl idle.same)
-checks turn xid terms origin acd next SayAnnounce moves idle =
-    moves (same_acd (Checking xid terms origin acd) (Checking xid terms origin next) acd next refl refl idle.same)
-checks turn xid terms origin acd next GivenUp moves idle =
-    moves (same_acd (Checking xid terms origin acd) (Checking xid terms origin next) acd next refl refl idle.same)
-checks turn xid terms origin acd next Passed moves idle = unlike _ _ (ap rank idle.same) refl
-checks turn xid terms origin acd next Conflict moves idle = unlike _ _ (ap rank idle.same) refl
+checks : (turn : Turn4) (xid : ℕ) (terms : Terms4) (origin : Origin4) (acd next : Acd) (stands : Option Terms4) (says : AcdSays) → (next ≡ acd → ⊥)
+    → IsIdle (Checking xid terms origin acd stands) (checked turn xid terms origin next stands says) → ⊥
+checks turn xid terms origin acd next stands Quiet moves idle =
+    moves (same_acd (Checking xid terms origin acd stands) (Checking xid terms origin next stands) acd next refl refl idle.same)
+checks turn xid terms origin acd next stands SayProbe moves idle =
+    moves (same_acd (Checking xid terms origin acd stands) (Checking xid terms origin next stands) acd next refl refl idle.same)
+checks turn xid terms origin acd next stands SayAnnounce moves idle =
+    moves (same_acd (Checking xid terms origin acd stands) (Checking xid terms origin next stands) acd next refl refl idle.same)
+checks turn xid terms origin acd next stands GivenUp moves idle =
+    moves (same_acd (Checking xid terms origin acd stands) (Checking xid terms origin next stands) acd next refl refl idle.same)
+checks turn xid terms origin acd next stands Passed moves idle = unlike _ _ (ap rank idle.same) refl
+checks turn xid terms origin acd next stands Conflict moves idle = unlike _ _ (ap rank idle.same) refl
 
 defends : (turn : Turn4) (xid : ℕ) (terms : Terms4) (here state : State4) (acd next : Acd) (says : AcdSays) → acd_in here ≡ Some acd
     → acd_in state ≡ Some next → (next ≡ acd → ⊥) → eqb 6 (rank here) ≡ false → IsIdle here (defended turn xid terms state says) → ⊥
@@ -227,13 +239,23 @@ sooner : (one other : Option ℕ) (at : ℕ) → is_due (earlier one other) at �
 sooner one other at come early =
     or_right (is_due other at) (is_due one at) (swapped (is_due other at) (is_due one at) ∙ (sym (either one other at) ∙ come)) early
 
-busy_checking : (turn : Turn4) (xid : ℕ) (terms : Terms4) (origin : Origin4) (acd : Acd)
-    → is_due (earlier (detection.due_of acd.phase) (expiry terms)) turn.at ≡ true
-    → IsIdle (Checking xid terms origin acd) (checking_tick turn xid terms origin acd) → ⊥
-busy_checking turn xid terms origin acd come =
-    split (is_due (expiry terms) turn.at) (λ e. rw e (λ idle. unlike _ _ (ap rank idle.same) refl))
-    (λ e. rw e (checks turn xid terms origin acd (detection.acd_tick acd turn.at turn.salt).acd (detection.acd_tick acd turn.at turn.salt).says
-    (acd_moves acd turn.at turn.salt (sooner (detection.due_of acd.phase) (expiry terms) turn.at come e))))
+-- a client that stands on its kept lease doesn't stand on none
+fallen : (stands : Option Terms4) (at : ℕ) → is_due (standing_until stands) at ≡ true → None ≡ stands → ⊥
+fallen None at come e = not_due come
+fallen (Some terms) at come e = cc
+
+busy_checking : (turn : Turn4) (xid : ℕ) (terms : Terms4) (origin : Origin4) (acd : Acd) (stands : Option Terms4)
+    → is_due (earlier (earlier (detection.due_of acd.phase) (expiry terms)) (standing_until stands)) turn.at ≡ true
+    → IsIdle (Checking xid terms origin acd stands) (checking_tick turn xid terms origin acd stands) → ⊥
+busy_checking turn xid terms origin acd stands come =
+    let probes : Option ℕ = detection.due_of acd.phase in
+    split (is_due (standing_until stands) turn.at)
+    (λ e. rw e (λ idle. fallen stands turn.at e (ap held_terms idle.same)))
+    (λ e. rw e (split (is_due (expiry terms) turn.at) (λ f. rw f (λ idle. unlike _ _ (ap rank idle.same) refl))
+    (λ f. rw f (checks turn xid terms origin acd (detection.acd_tick acd turn.at turn.salt).acd stands
+    (detection.acd_tick acd turn.at turn.salt).says
+    (acd_moves acd turn.at turn.salt
+    (sooner probes (expiry terms) turn.at (sooner (earlier probes (expiry terms)) (standing_until stands) turn.at come e) f))))))
 
 busy_bound : (turn : Turn4) (xid : ℕ) (terms : Terms4) (acd : Option Acd) → is_due (earlier (renewal_at terms) (acd_due acd)) turn.at ≡ true
     → IsIdle (Bound xid terms acd) (bound_tick turn xid terms acd) → ⊥
@@ -272,10 +294,11 @@ busy turn (Requesting exchange secs Eight due) come idle = spoken _ idle.silent
 busy turn (Requesting exchange secs Sixteen due) come idle = spoken _ idle.silent
 busy turn (Requesting exchange secs ThirtyTwo due) come idle = spoken _ idle.silent
 busy turn (Requesting exchange secs SixtyFour due) come idle = unlike _ _ (ap rank idle.same) refl
-busy turn (Rebooting exchange backoff end due) come idle =
-    gated (λ (step : Step4). IsIdle (Rebooting exchange backoff end due) step → ⊥) (nat_le end turn.at) _ _
-    (λ over. unlike _ _ (ap rank over.same) refl) (λ again. spoken _ again.silent) idle
-busy turn (Checking xid terms origin acd) come idle = busy_checking turn xid terms origin acd come idle
+busy turn (Rebooting exchange backoff end due stands) come idle =
+    let P : Step4 → Type 0 = λ (step : Step4). (IsIdle (Rebooting exchange backoff end due stands) step → ⊥) in
+    gated P (is_due (standing_until stands) turn.at) _ _ (λ over. unlike _ _ (ap rank over.same) refl)
+    (gated P (nat_le end turn.at) _ _ (λ over. unlike _ _ (ap rank over.same) refl) (λ again. spoken _ again.silent)) idle
+busy turn (Checking xid terms origin acd stands) come idle = busy_checking turn xid terms origin acd stands come idle
 busy turn (Bound xid terms acd) come idle = busy_bound turn xid terms acd come idle
 busy turn (Renewing exchange terms acd due) come idle = busy_renewing turn exchange terms acd due come idle
 busy turn (Rebinding exchange terms acd due) come idle = busy_rebinding turn exchange terms acd due come idle

@@ -6,6 +6,7 @@ pub mod SoundRuns
 pub mod Foreign
 pub mod Granted
 pub mod Origins
+pub mod Standing
 pub mod Probed
 pub mod Expiring
 pub mod InTime

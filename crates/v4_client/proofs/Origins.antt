@@ -1,6 +1,5 @@
 -- A kept lease has the origin that it was read with, or that the ACK gave it.
 use Rattle.std.proofs.Common.{◌≡◌, ℕ, ◌⊎◌, inl, inr, List, [], ◌∷◌, Option, Some, None, refl, sym, ap, ◌∙◌, subst}
-use Rattle.std.specs.List.{AllByRecursion}
 use Rattle.machine.specs.Since.{Since}
 use Rattle.net_types.proofs.CaseLaws.{gated}
 use Rattle.net_types.proofs.ReadsLaws.{some_same}
@@ -10,8 +9,7 @@ use Rattle.v4_options.specs.declared.code.TheConstants.{LEASE_TIME}
 use Rattle.v4_message.specs.declared.kind.MessageKind.{MessageKind}
 use Rattle.v4_message.specs.declared.kind.MessageKind.TheVariants as kind
 use Rattle.lease_text.specs.declared.lease.Origin.{Origin}
-use Rattle.lease_text.specs.declared.lease.Terms4.{Terms4}
-use Rattle.lease_text.specs.Leases.{ValueContent, LeaseContent, lease_with, terms_of}
+use Rattle.lease_text.specs.Leases.{ValueContent, LeaseContent, terms_of}
 use Rattle.v4_client.specs.declared.states.Answer4.{Answer4}
 use Rattle.v4_client.specs.declared.states.Answer4.TheVariants as answer
 use Rattle.v4_client.specs.declared.states.Exchange4.{Exchange4}
@@ -21,14 +19,14 @@ use Rattle.v4_client.specs.declared.states.State4.{State4}
 use Rattle.v4_client.specs.declared.states.State4.TheVariants.{Off, Init, Selecting, Requesting, Rebooting, Checking, Waiting, Bound, Renewing, Rebinding}
 use Rattle.v4_client.specs.declared.states.Step4.{Step4}
 use Rattle.v4_client.specs.Answers.{answering, is_good_offer, offer_of, offer_by, is_chosen, is_good_ack, ack_by, reply_of, reply_by, answer_of}
-use Rattle.v4_client.specs.Clients.{ClientContent, held_terms}
+use Rattle.v4_client.specs.Clients.{ClientContent, held_terms, kept_terms}
 use Rattle.v4_client.specs.History.{Event4, Tick, Heard, HeardArp, Unsent, Carries, Release, Rebind, after_event, brought_in, client_after, step_of}
-use Rattle.v4_client.specs.Laws.{Grants, IsTimely}
+use Rattle.v4_client.specs.Laws.{Grants}
 use Rattle.v4_client.specs.Messages.{Arrival, number_at}
 use Rattle.v4_client.specs.Moves.{kept_after}
 use Rattle.v4_client.specs.Origins.{Confirms, KeepsOrigins}
 use Rattle.v4_client.specs.Settings.{SettingsContent}
-use Rattle.v4_client.specs.Sound.{IsSound, KeepsHeld}
+use Rattle.v4_client.specs.Sound.{KeepsHeld}
 use Rattle.v4_client.proofs.Granted.{holds_granted}
 use Rattle.v4_client.proofs.SoundRuns.{stays_sound, step_sound}
 
@@ -82,8 +80,8 @@ module _ (settings : SettingsContent) (arrival : Arrival) where
   tells_origin (Init due) = tt
   tells_origin (Selecting xid began secs backoff due) = offers_by (answering settings xid arrival)
   tells_origin (Requesting exchange secs backoff due) = replies_by exchange (answering settings exchange.xid arrival)
-  tells_origin (Rebooting exchange backoff end due) = replies_by exchange (answering settings exchange.xid arrival)
-  tells_origin (Checking xid terms origin acd) = tt
+  tells_origin (Rebooting exchange backoff end due stands) = replies_by exchange (answering settings exchange.xid arrival)
+  tells_origin (Checking xid terms origin acd stands) = tt
   tells_origin (Waiting due) = tt
   tells_origin (Bound xid terms acd) = tt
   tells_origin (Renewing exchange terms acd due) = replies_by exchange (answering settings exchange.xid arrival)
@@ -91,7 +89,7 @@ module _ (settings : SettingsContent) (arrival : Arrival) where
 
 -- ---- what an event leaves as it is
 
-brought_kept : (event : Event4) (c : ClientContent) → (brought_in event c).kept ≡ c.kept
+pub brought_kept : (event : Event4) (c : ClientContent) → (brought_in event c).kept ≡ c.kept
 brought_kept (Tick at salt) c = refl
 brought_kept (Heard arrival salt) c = refl
 brought_kept (HeardArp own arp at salt) c = refl
@@ -109,7 +107,7 @@ settings_stay (Carries carrier at salt) c = refl
 settings_stay (Release tell at salt) c = refl
 settings_stay (Rebind at salt) c = refl
 
-its_settings : (start : ClientContent) (past : List Event4) → (client_after start past).settings ≡ start.settings
+pub its_settings : (start : ClientContent) (past : List Event4) → (client_after start past).settings ≡ start.settings
 its_settings start [] = refl
 its_settings start (event ∷ past) = settings_stay event (client_after start past) ∙ its_settings start past
 
@@ -142,10 +140,6 @@ since_confirmed start lease (event ∷ past) (inl granted) = inl (confirms start
 since_confirmed start lease (event ∷ past) (inr since) = inr (tt, since_confirmed start lease past since.1)
 
 -- ---- the kept lease
-
-takes_held : (before : Option Terms4) (taken : Terms4) (after : Option Terms4) → KeepsHeld before (Takes taken) after → after ≡ Some taken
-takes_held before taken None keeps = absurd keeps
-takes_held before taken (Some terms) keeps = ap Some (sym keeps)
 
 -- the lease was kept before, or is taken
 by_keep : (keep : Keep4) (name : Name) (fresh : List ValueContent) (kept : Option LeaseContent) (lease : LeaseContent)
@@ -182,6 +176,5 @@ keeps_origins start (event ∷ past) lease off sound timely kept =
     by (inl was) before = later start lease event past (before (sym (brought_kept event c) ∙ was))
     by (inr takes) before =
         let goes = step_sound event c timely.0 (stays_sound start past sound timely.1) in
-        let keeps = subst (λ keep. KeepsHeld (held_terms c.state) keep (held_terms step.state)) takes goes.held in
-        let held = takes_held (held_terms c.state) (terms_of lease) (held_terms step.state) keeps in
-        inr (since_confirmed start lease (event ∷ past) (holds_granted start (event ∷ past) (terms_of lease) off held))
+        let bound = subst (λ keep. KeepsHeld (kept_terms c) (held_terms c.state) keep step.state) takes goes.held in
+        inr (since_confirmed start lease (event ∷ past) (holds_granted start (event ∷ past) (terms_of lease) off bound))

@@ -1,7 +1,8 @@
 -- No step that a message leads to copies the lease that was held.
-use Rattle.std.proofs.Common.{◌≡◌, ℕ, Bool, true, false, Option, refl}
+use Rattle.std.proofs.Common.{◌≡◌, ℕ, Bool, false, Option, None, refl}
 use Rattle.net_types.proofs.CaseLaws.{gated}
 use Rattle.arp_acd.specs.declared.detection.Acd.{Acd}
+use Rattle.lease_text.specs.declared.lease.Terms4.{Terms4}
 use Rattle.v4_client.specs.declared.states.Answer4.{Answer4}
 use Rattle.v4_client.specs.declared.states.Answer4.TheVariants as answer
 use Rattle.v4_client.specs.declared.states.News4.{News4}
@@ -22,13 +23,13 @@ offered_room turn xid secs state (answer.Offer address server) held = refl
 offered_room turn xid secs state (answer.Ack terms) held = refl
 offered_room turn xid secs state answer.Nak held = refl
 
-answered_room : (turn : Turn4) (xid : ℕ) (origin : Origin4) (state : State4) (said : Answer4) (held : Bool)
-    → is_copied (answered turn xid origin state said) held ≡ false
-answered_room turn xid origin state answer.Nothing held = refl
-answered_room turn xid origin state (answer.Offer address server) held = refl
-answered_room turn xid origin state (answer.Ack terms) held =
+answered_room : (turn : Turn4) (xid : ℕ) (origin : Origin4) (stands : Option Terms4) (state : State4) (said : Answer4) (held : Bool)
+    → is_copied (answered turn xid origin stands state said) held ≡ false
+answered_room turn xid origin stands state answer.Nothing held = refl
+answered_room turn xid origin stands state (answer.Offer address server) held = refl
+answered_room turn xid origin stands state (answer.Ack terms) held =
     gated (λ (step : Step4). is_copied step held ≡ false) turn.site.noarp _ _ refl refl
-answered_room turn xid origin state answer.Nak held = refl
+answered_room turn xid origin stands state answer.Nak held = refl
 
 renewed_room : (turn : Turn4) (xid : ℕ) (news : News4) (acd : Option Acd) (state : State4) (said : Answer4) (held : Bool)
     → is_copied (renewed turn xid news acd state said) held ≡ false
@@ -43,10 +44,10 @@ heard_room turn said (Init due) held = refl
 heard_room turn said (Selecting xid began secs backoff due) held =
     offered_room turn xid secs (Selecting xid began secs backoff due) said held
 heard_room turn said (Requesting exchange secs backoff due) held =
-    answered_room turn exchange.xid Offered (Requesting exchange secs backoff due) said held
-heard_room turn said (Rebooting exchange backoff end due) held =
-    answered_room turn exchange.xid Rebooted (Rebooting exchange backoff end due) said held
-heard_room turn said (Checking xid terms origin acd) held = refl
+    answered_room turn exchange.xid Offered None (Requesting exchange secs backoff due) said held
+heard_room turn said (Rebooting exchange backoff end due stands) held =
+    answered_room turn exchange.xid Rebooted stands (Rebooting exchange backoff end due stands) said held
+heard_room turn said (Checking xid terms origin acd stands) held = refl
 heard_room turn said (Waiting due) held = refl
 heard_room turn said (Bound xid terms acd) held = refl
 heard_room turn said (Renewing exchange terms acd due) held =

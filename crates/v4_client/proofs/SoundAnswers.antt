@@ -1,5 +1,5 @@
 -- What an acceptable message offers or grants is within the bounds.
-use Rattle.std.proofs.Common.{◌≡◌, ℕ, ◌≤◌, Bool, true, false, ◌&&◌, not, List, Option, Some, None, refl, if◌then◌else◌, arith, nat_lt, eqb}
+use Rattle.std.proofs.Common.{◌≡◌, ℕ, ◌≤◌, Bool, true, false, ◌&&◌, not, Option, Some, None, refl, if◌then◌else◌, arith, nat_lt, eqb}
 use Rattle.std.specs.Option.{is_some}
 use Rattle.std.proofs.lemmas.Bool.{eqb-true}
 use Rattle.std.proofs.lemmas.Bool.Decides.{nat_tests}
@@ -158,9 +158,9 @@ answer_fits settings arrival (Selecting xid began secs backoff due) early fits =
     offer_fits settings arrival (answering settings xid arrival)
 answer_fits settings arrival (Requesting exchange secs backoff due) early fits =
     reply_fits settings exchange arrival (answering settings exchange.xid arrival) early fits
-answer_fits settings arrival (Rebooting exchange backoff end due) early fits =
+answer_fits settings arrival (Rebooting exchange backoff end due stands) early fits =
     reply_fits settings exchange arrival (answering settings exchange.xid arrival) early fits.asks
-answer_fits settings arrival (Checking xid terms origin acd) early fits = tt
+answer_fits settings arrival (Checking xid terms origin acd stands) early fits = tt
 answer_fits settings arrival (Waiting due) early fits = tt
 answer_fits settings arrival (Bound xid terms acd) early fits = tt
 answer_fits settings arrival (Renewing exchange terms acd due) early fits =

@@ -1,5 +1,5 @@
 -- A sound step of a sound client gives a sound client, and the values that a message brings are within the bounds.
-use Rattle.std.proofs.Common.{◌≡◌, ℕ, ◌<◌, Bool, true, false, ◌&&◌, List, [], ◌∷◌, ◌++◌, length, Option, Some, None, IfSome, option_map, refl, ap, subst, arith, nat_le, lit<}
+use Rattle.std.proofs.Common.{◌≡◌, ℕ, inl, inr, ◌<◌, Bool, true, false, ◌&&◌, List, [], ◌∷◌, ◌++◌, length, Option, Some, None, IfSome, option_map, refl, sym, ap, subst, arith, nat_le, lit<}
 use Rattle.std.specs.List.{AllByRecursion, flat_map}
 use Rattle.std.proofs.lemmas.Bool.Decides.{nat_tests}
 use Rattle.net_types.specs.Moments.{IsMoment}
@@ -14,18 +14,20 @@ use Rattle.lease_text.specs.declared.form.TheConstants.{KEPT_CODES}
 use Rattle.lease_text.specs.declared.lease.TheConstants.{VALUE_LIMIT}
 use Rattle.lease_text.specs.declared.lease.Terms4.{Terms4}
 use Rattle.lease_text.specs.Bounds.{FitsValue, FitsValues, FitsLease, IsRising}
-use Rattle.lease_text.specs.Leases.{ValueContent, LeaseContent, terms_of}
+use Rattle.lease_text.specs.Leases.{ValueContent, LeaseContent, lease_with, terms_of}
 use Rattle.lease_text.specs.ValueForms.{is_kept, is_well_formed}
 use Rattle.v4_client.specs.declared.states.Answer4.{Answer4}
 use Rattle.v4_client.specs.declared.states.Answer4.TheVariants as answer
 use Rattle.v4_client.specs.declared.states.Keep4.{Keep4}
 use Rattle.v4_client.specs.declared.states.Keep4.TheVariants.{Stays, Clears, Takes}
+use Rattle.v4_client.specs.declared.states.State4.{State4}
+use Rattle.v4_client.specs.declared.states.State4.TheVariants.{Off, Init, Selecting, Requesting, Rebooting, Checking, Waiting, Bound, Renewing, Rebinding}
 use Rattle.v4_client.specs.declared.states.Step4.{Step4}
 use Rattle.v4_client.specs.declared.states.Turn4.{Turn4}
-use Rattle.v4_client.specs.Clients.{ClientContent, held_terms, turn_of}
+use Rattle.v4_client.specs.Clients.{ClientContent, bound_terms, held_terms, kept_terms, turn_of}
 use Rattle.v4_client.specs.Moves.{moved, kept_after, fresh_after, fresh_with, with_values}
 use Rattle.v4_client.specs.Granting.{kept_value, kept_values, unless_refused}
-use Rattle.v4_client.specs.Sound.{FitsBegin, FitsKeep, IsKept, IsSound, IsSoundStep, KeepsHeld}
+use Rattle.v4_client.specs.Sound.{FitsBegin, FitsKeep, IsKept, IsSound, IsSoundStep, KeepsHeld, StaysHeld}
 
 -- ---- a step
 
@@ -40,23 +42,45 @@ fresh_fits Stays fresh values = values
 fresh_fits Clears fresh values = values
 fresh_fits (Takes terms) fresh values = record { each = tt; rising = tt }
 
-held_kept : (before : Option Terms4) (keep : Keep4) (after : Option Terms4) (name : Name) (fresh : List ValueContent)
-    (kept : Option LeaseContent) → KeepsHeld before keep after → IsKept before kept
-    → IsKept after (kept_after keep name fresh kept)
-held_kept before keep None name fresh kept keeps held = tt
-held_kept before Stays (Some terms) name fresh kept keeps held = subst (λ b. IsKept b kept) keeps held
-held_kept before Clears (Some terms) name fresh kept keeps held = absurd keeps
-held_kept before (Takes taken) (Some terms) name fresh kept keeps held = ap Some keeps
+still_kept : (kept : Option LeaseContent) (before after : Option Terms4) → StaysHeld (option_map terms_of kept) before after
+    → IsKept before kept → IsKept after kept
+still_kept kept before None stays held = tt
+still_kept kept before (Some terms) (inl was) held = subst (λ b. IsKept b kept) was held
+still_kept kept before (Some terms) (inr was) held = was
 
-pub moved_sound : (c : ClientContent) (step : Step4) → IsSound c → IsSoundStep c.state step → IsSound (moved step c)
-moved_sound c step sound goes = record {
+pub bound_held : (state : State4) (terms : Terms4) → bound_terms state ≡ Some terms → held_terms state ≡ Some terms
+bound_held Off terms e = absurd cc
+bound_held (Init due) terms e = absurd cc
+bound_held (Selecting xid began secs backoff due) terms e = absurd cc
+bound_held (Requesting exchange secs backoff due) terms e = absurd cc
+bound_held (Rebooting exchange backoff end due stands) terms e = absurd cc
+bound_held (Checking xid other origin acd stands) terms e = absurd cc
+bound_held (Waiting due) terms e = absurd cc
+bound_held (Bound xid other acd) terms e = e
+bound_held (Renewing exchange other acd due) terms e = e
+bound_held (Rebinding exchange other acd due) terms e = e
+
+pub held_kept : (before : Option Terms4) (keep : Keep4) (after : State4) (name : Name) (fresh : List ValueContent)
+    (kept : Option LeaseContent) → KeepsHeld (option_map terms_of kept) before keep after → IsKept before kept
+    → IsKept (held_terms after) (kept_after keep name fresh kept)
+held_kept before Stays after name fresh kept keeps held = still_kept kept before (held_terms after) keeps held
+held_kept before Clears after name fresh kept keeps held = subst (λ terms. IsKept terms None) (sym keeps) tt
+held_kept before (Takes taken) after name fresh kept keeps held =
+    subst (λ terms. IsKept terms (Some (lease_with name taken fresh))) (sym (bound_held after taken keeps)) refl
+
+pub went_sound : (c : ClientContent) (step : Step4) (may_stand : Bool) → IsSound c → IsSoundStep (kept_terms c) c.state step
+    → IsSound (record (moved step c) { may_stand = may_stand })
+went_sound c step may_stand sound goes = record {
   name = sound.name;
   ask = sound.ask;
   state = goes.state;
   kept = kept_fits step.keep c.settings.site.iface.name c.fresh c.kept sound.name goes.keep sound.fresh sound.kept;
-  held = held_kept (held_terms c.state) step.keep (held_terms step.state) c.settings.site.iface.name c.fresh c.kept goes.held sound.held;
+  held = held_kept (held_terms c.state) step.keep step.state c.settings.site.iface.name c.fresh c.kept goes.held sound.held;
   fresh = fresh_fits step.keep c.fresh sound.fresh;
 }
+
+pub moved_sound : (c : ClientContent) (step : Step4) → IsSound c → IsSoundStep (kept_terms c) c.state step → IsSound (moved step c)
+moved_sound c step sound goes = went_sound c step (moved step c).may_stand sound goes
 
 -- ---- the values of a message
 

@@ -18,22 +18,22 @@ use Rattle.v4_client.proofs.SoundSteps.{arp_sound, begin_sound, heard_sound, off
 within : (at : ℕ) → IsMoment (moment_of at)
 within at = omega arith
 
-pub step_sound : (event : Event4) (c : ClientContent) → IsTimely event → IsSound c → IsSoundStep c.state (step_of event c)
+pub step_sound : (event : Event4) (c : ClientContent) → IsTimely event → IsSound c → IsSoundStep (kept_terms c) c.state (step_of event c)
 step_sound (Tick at salt) c timely sound =
-    gated (IsSoundStep c.state) (is_due (due_of c.state) (moment_of at)) _ _
-    (tick_sound (turn_of (moment_of at) salt c) c.state (within at) sound.state)
-    (rests_sound (turn_of (moment_of at) salt c) c.state sound.state)
+    gated (IsSoundStep (kept_terms c) c.state) (is_due (due_of c.state) (moment_of at)) _ _
+    (tick_sound (kept_terms c) (turn_of (moment_of at) salt c) c.state (within at) sound.state)
+    (rests_sound (kept_terms c) (turn_of (moment_of at) salt c) c.state sound.state)
 step_sound (Heard arrival salt) c timely sound =
-    heard_sound (turn_of arrival.at salt c) (answer_to arrival c) c.state timely sound.state
+    heard_sound (kept_terms c) (turn_of arrival.at salt c) (answer_to arrival c) c.state timely sound.state
     (answer_fits c.settings arrival c.state timely sound.state)
-step_sound (HeardArp own arp at salt) c timely sound = arp_sound own (turn_of (moment_of at) salt c) arp c.state sound.state
-step_sound (Unsent at salt) c timely sound = unsent_sound (turn_of (moment_of at) salt c) c.state sound.state
+step_sound (HeardArp own arp at salt) c timely sound = arp_sound (kept_terms c) own (turn_of (moment_of at) salt c) arp c.state sound.state
+step_sound (Unsent at salt) c timely sound = unsent_sound (kept_terms c) (turn_of (moment_of at) salt c) c.state sound.state
 step_sound (Carries Up at salt) c timely sound =
-    begin_sound (turn_of (moment_of at) salt c) (kept_terms c) c.state (within at) (begin_fits c.kept sound.kept) sound.state
-step_sound (Carries Down at salt) c timely sound = off_sound (turn_of (moment_of at) salt c) c.state
-step_sound (Release tell at salt) c timely sound = release_sound (turn_of (moment_of at) salt c) tell c.state
+    begin_sound (kept_terms c) (turn_of (moment_of at) salt c) c.may_stand c.state (within at) (begin_fits c.kept sound.kept) sound.state
+step_sound (Carries Down at salt) c timely sound = off_sound (kept_terms c) (turn_of (moment_of at) salt c) c.state
+step_sound (Release tell at salt) c timely sound = release_sound (kept_terms c) (turn_of (moment_of at) salt c) tell c.state
 step_sound (Rebind at salt) c timely sound =
-    rebind_sound (turn_of (moment_of at) salt c) (kept_terms c) c.state (within at) (begin_fits c.kept sound.kept) sound.state
+    rebind_sound (kept_terms c) (turn_of (moment_of at) salt c) c.state (within at) (begin_fits c.kept sound.kept) sound.state
 
 event_sound : (event : Event4) (c : ClientContent) → IsTimely event → IsSound c → IsSound (after_event event c)
 event_sound (Tick at salt) c timely sound = moved_sound c (step_of (Tick at salt) c) sound (step_sound (Tick at salt) c timely sound)

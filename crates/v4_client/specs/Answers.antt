@@ -116,8 +116,8 @@ answer_of settings arrival (Init due) = Nothing
 answer_of settings arrival (Selecting xid began secs backoff due) =
     offer_by settings arrival (answering settings xid arrival)
 answer_of settings arrival (Requesting exchange secs backoff due) = reply_in settings arrival exchange
-answer_of settings arrival (Rebooting exchange backoff end due) = reply_in settings arrival exchange
-answer_of settings arrival (Checking xid terms origin acd) = Nothing
+answer_of settings arrival (Rebooting exchange backoff end due stands) = reply_in settings arrival exchange
+answer_of settings arrival (Checking xid terms origin acd stands) = Nothing
 answer_of settings arrival (Waiting due) = Nothing
 answer_of settings arrival (Bound xid terms acd) = Nothing
 answer_of settings arrival (Renewing exchange terms acd due) = reply_in settings arrival exchange

@@ -34,7 +34,7 @@ abbrev pub arp_step : (own : List Mac) → (at salt : ℕ) → ArpView → Clien
 arp_step own at salt arp c = arp_row own (turn_of at salt c) arp c.state
 
 abbrev pub carrier_step : Carrier → (at salt : ℕ) → ClientContent → Step4
-carrier_step Up at salt c = begin_row (turn_of at salt c) (kept_terms c) c.state
+carrier_step Up at salt c = begin_row (turn_of at salt c) c.may_stand (kept_terms c) c.state
 carrier_step Down at salt c = off_row (turn_of at salt c)
 
 abbrev pub release_step : Tell → (at salt : ℕ) → ClientContent → Step4

@@ -27,19 +27,19 @@ offered turn xid secs state answer.Nothing = rests turn state
 offered turn xid secs state (answer.Ack terms) = rests turn state
 offered turn xid secs state answer.Nak = rests turn state
 
--- The address is bound at once, or checked first.
-abbrev pub granted : Turn4 → (xid : ℕ) → Terms4 → Origin4 → Step4
-granted turn xid terms origin =
+-- The address is bound at once, or checked first, while the client stands on its kept lease or not.
+abbrev pub granted : Turn4 → (xid : ℕ) → Terms4 → Origin4 → (stands : Option Terms4) → Step4
+granted turn xid terms origin stands =
     if turn.site.noarp
     then binds turn xid terms (bound_news origin) None
-    else rests turn (Checking xid terms origin (detection.acd_begun turn.site.iface.index terms.net.ip turn.at turn.salt))
+    else rests turn (Checking xid terms origin (detection.acd_begun turn.site.iface.index terms.net.ip turn.at turn.salt) stands)
 
 -- Requesting and Rebooting: an acceptable ACK, or NAK.
-abbrev pub answered : Turn4 → (xid : ℕ) → Origin4 → State4 → Answer4 → Step4
-answered turn xid origin state (answer.Ack terms) = granted turn xid terms origin
-answered turn xid origin state answer.Nak = refused turn
-answered turn xid origin state answer.Nothing = rests turn state
-answered turn xid origin state (answer.Offer address server) = rests turn state
+abbrev pub answered : Turn4 → (xid : ℕ) → Origin4 → (stands : Option Terms4) → State4 → Answer4 → Step4
+answered turn xid origin stands state (answer.Ack terms) = granted turn xid terms origin stands
+answered turn xid origin stands state answer.Nak = refused turn
+answered turn xid origin stands state answer.Nothing = rests turn state
+answered turn xid origin stands state (answer.Offer address server) = rests turn state
 
 -- Renewing and Rebinding: an acceptable ACK replaces the lease; an acceptable NAK ends it.
 abbrev pub renewed : Turn4 → (xid : ℕ) → News4 → Option Acd → State4 → Answer4 → Step4
@@ -56,10 +56,10 @@ heard_row turn answer (Init due) = rests turn (Init due)
 heard_row turn answer (Selecting xid began secs backoff due) =
     offered turn xid secs (Selecting xid began secs backoff due) answer
 heard_row turn answer (Requesting exchange secs backoff due) =
-    answered turn exchange.xid Offered (Requesting exchange secs backoff due) answer
-heard_row turn answer (Rebooting exchange backoff end due) =
-    answered turn exchange.xid Rebooted (Rebooting exchange backoff end due) answer
-heard_row turn answer (Checking xid terms origin acd) = rests turn (Checking xid terms origin acd)
+    answered turn exchange.xid Offered None (Requesting exchange secs backoff due) answer
+heard_row turn answer (Rebooting exchange backoff end due stands) =
+    answered turn exchange.xid Rebooted stands (Rebooting exchange backoff end due stands) answer
+heard_row turn answer (Checking xid terms origin acd stands) = rests turn (Checking xid terms origin acd stands)
 heard_row turn answer (Waiting due) = rests turn (Waiting due)
 heard_row turn answer (Bound xid terms acd) = rests turn (Bound xid terms acd)
 heard_row turn answer (Renewing exchange terms acd due) =
@@ -81,9 +81,9 @@ arp_row own turn arp Off = rests turn Off
 arp_row own turn arp (Init due) = rests turn (Init due)
 arp_row own turn arp (Selecting xid began secs backoff due) = rests turn (Selecting xid began secs backoff due)
 arp_row own turn arp (Requesting exchange secs backoff due) = rests turn (Requesting exchange secs backoff due)
-arp_row own turn arp (Rebooting exchange backoff end due) = rests turn (Rebooting exchange backoff end due)
-arp_row own turn arp (Checking xid terms origin acd) =
-    checked turn xid terms origin (detection.acd_hears own acd arp turn.at).acd (detection.acd_hears own acd arp turn.at).says
+arp_row own turn arp (Rebooting exchange backoff end due stands) = rests turn (Rebooting exchange backoff end due stands)
+arp_row own turn arp (Checking xid terms origin acd stands) =
+    checked turn xid terms origin (detection.acd_hears own acd arp turn.at).acd stands (detection.acd_hears own acd arp turn.at).says
 arp_row own turn arp (Waiting due) = rests turn (Waiting due)
 arp_row own turn arp (Bound xid terms acd) = contested own turn arp xid terms (Bound xid terms acd) acd
 arp_row own turn arp (Renewing exchange terms acd due) =

@@ -9,7 +9,7 @@ use Rattle.v4_client.specs.Clients.{ClientContent}
 use Rattle.v4_client.specs.Due.{due_of}
 use Rattle.v4_client.specs.History.{Tick}
 use Rattle.v4_client.specs.Laws.{ChangesNothing}
-use Rattle.v4_client.specs.Moments.{expiry, renewal_at, rebinding_at}
+use Rattle.v4_client.specs.Moments.{expiry, renewal_at, rebinding_at, standing_until}
 use Rattle.v4_client.specs.Sound.{IsSound}
 
 -- ---- the timed rows: from which moment on each of them fits, where the state has one
@@ -20,14 +20,14 @@ says_from (Init due) = Some due
 says_from (Waiting due) = Some due
 says_from (Selecting xid began secs backoff due) = Some due
 says_from (Requesting exchange secs backoff due) = Some due
-says_from (Rebooting exchange backoff end due) = Some due
+says_from (Rebooting exchange backoff end due stands) = Some due
 says_from (Renewing exchange terms acd due) = Some due
 says_from (Rebinding exchange terms acd due) = Some due
 says_from _ = None
 
 -- the kept lease isn't asked for any more
 abbrev pub gives_up_from : State4 → Option ℕ
-gives_up_from (Rebooting exchange backoff end due) = Some end
+gives_up_from (Rebooting exchange backoff end due stands) = Some end
 gives_up_from _ = None
 
 -- T1: a lease is renewed
@@ -43,15 +43,21 @@ rebinds_from _ = None
 
 -- the end of a lease that is checked or held
 abbrev pub ends_from : State4 → Option ℕ
-ends_from (Checking xid terms origin acd) = expiry terms
+ends_from (Checking xid terms origin acd stands) = expiry terms
 ends_from (Bound xid terms acd) = expiry terms
 ends_from (Renewing exchange terms acd due) = expiry terms
 ends_from (Rebinding exchange terms acd due) = expiry terms
 ends_from _ = None
 
+-- the end of the kept lease on which a client stands
+abbrev pub stands_until : State4 → Option ℕ
+stands_until (Rebooting exchange backoff end due stands) = standing_until stands
+stands_until (Checking xid terms origin acd stands) = standing_until stands
+stands_until _ = None
+
 -- a probe of a checked address, its passing, and an announcement of a held one
 abbrev pub detects_from : State4 → Option ℕ
-detects_from (Checking xid terms origin acd) = detection.due_of acd.phase
+detects_from (Checking xid terms origin acd stands) = detection.due_of acd.phase
 detects_from (Bound xid terms (Some acd)) = detection.due_of acd.phase
 detects_from (Renewing exchange terms (Some acd) due) = detection.due_of acd.phase
 detects_from (Rebinding exchange terms (Some acd) due) = detection.due_of acd.phase
@@ -63,7 +69,8 @@ has_row state at =
     is_due (says_from state) at
     || (is_due (gives_up_from state) at
     || (is_due (renews_from state) at
-    || (is_due (rebinds_from state) at || (is_due (ends_from state) at || is_due (detects_from state) at))))
+    || (is_due (rebinds_from state) at
+    || (is_due (ends_from state) at || (is_due (stands_until state) at || is_due (detects_from state) at)))))
 
 -- ---- the law
 

@@ -1,20 +1,22 @@
 -- What holds of a client: of each event in each state, and over every list of events.
-use Rattle.std.specs.Prelude.{◌≡◌, ◌≢◌, ℕ, ◌⊎◌, true, false, List, Option, Some, None, bytes_eq}
+use Rattle.std.specs.Prelude.{◌≡◌, ◌≢◌, ℕ, ◌⊎◌, true, false, List, ◌∷◌, Option, Some, None, bytes_eq}
 use Rattle.std.specs.List.{AllByRecursion}
+use Rattle.std.specs.Option.{is_some}
 use Rattle.net_types.specs.Moments.{IsMoment}
 use Rattle.machine.specs.Moment.{is_due, moment_of}
-use Rattle.machine.specs.Since.{Since}
+use Rattle.machine.specs.Since.{Always, Since}
 use Rattle.net_types.specs.declared.address.Ip4.{Ip4}
 use Rattle.v4_options.specs.declared.code.TheConstants.{SERVER_IDENTIFIER}
 use Rattle.lease_text.specs.declared.lease.Terms4.{Terms4}
 use Rattle.v4_client.specs.declared.states.Answer4.TheVariants as answer
+use Rattle.v4_client.specs.declared.states.Carrier.TheVariants.{Down}
 use Rattle.v4_client.specs.declared.states.News4.TheVariants as news
 use Rattle.v4_client.specs.declared.states.State4.{State4}
 use Rattle.v4_client.specs.declared.states.State4.TheVariants.{Off, Requesting}
 use Rattle.v4_client.specs.Awaited.{awaited}
-use Rattle.v4_client.specs.Clients.{ClientContent, held_terms}
+use Rattle.v4_client.specs.Clients.{ClientContent, bound_terms, held_terms, kept_terms}
 use Rattle.v4_client.specs.Moves.{IsQuiet, told}
-use Rattle.v4_client.specs.History.{Event4, Tick, Heard, step_of, answer_in, brought_in, after_event, client_after}
+use Rattle.v4_client.specs.History.{Event4, Tick, Heard, Carries, Release, step_of, answer_in, brought_in, after_event, client_after}
 use Rattle.v4_message.specs.Messages.{address_at}
 use Rattle.v4_client.specs.Messages.{Arrival}
 use Rattle.v4_client.specs.Moments.{expiry}
@@ -60,17 +62,43 @@ abbrev pub EndsAtExpiry : Type 0
 EndsAtExpiry = (c : ClientContent) (terms : Terms4) (at salt : ℕ) → IsSound c → held_terms c.state ≡ Some terms
     → is_due (expiry terms) (moment_of at) ≡ true → Ends (Tick at salt) c
 
--- ---- what is held was granted
+-- ---- what is held was granted, or stands since the start
 
 -- the event is a message that was acceptable in the exchange that it met, and granted these terms
 abbrev pub Grants : (start : ClientContent) → Terms4 → Event4 → List Event4 → Type 0
 Grants start terms event earlier = answer_in event (client_after start earlier) ≡ answer.Ack terms
 
--- Where a client that was off holds a lease, an acceptable ACK has granted it.
+-- Where a client that was off is bound to a lease, an acceptable ACK has granted it.
 abbrev pub HoldsGranted : Type 0
 HoldsGranted = (start : ClientContent) (past : List Event4) (terms : Terms4) → start.state ≡ Off
-    → held_terms (client_after start past).state ≡ Some terms
+    → bound_terms (client_after start past).state ≡ Some terms
     → Since (λ event earlier. Unit {0}) (Grants start terms) past
+
+-- neither the carrier went nor was the lease released
+abbrev pub GoesOn : Event4 → Type 0
+GoesOn (Carries Down at salt) = ⊥
+GoesOn (Release tell at salt) = ⊥
+GoesOn _ = Unit {0}
+
+-- the client goes on after the event, and is bound to no lease
+pub record Stands (start : ClientContent) (event : Event4) (earlier : List Event4) : Type 0 where
+  pub goes_on : GoesOn event
+  pub unbound : bound_terms (client_after start (event ∷ earlier)).state ≡ None
+
+-- It stands on the lease with which it was made, which an ACK of this interface has confirmed, as it is to, and did nothing else
+-- since then than to ask for it and to check what it was granted.
+pub record StandsOnKept (start : ClientContent) (past : List Event4) (terms : Terms4) : Type 0 where
+  pub persistent : start.settings.site.persistent ≡ true
+  pub kept : kept_terms start ≡ Some terms
+  pub confirmed : is_some terms.origin ≡ true
+  pub still_kept : (client_after start past).kept ≡ start.kept
+  pub stands : Always (Stands start) past
+
+-- Where a client that was off holds a lease to which it isn't bound, it stands on the one with which it was made.
+abbrev pub StandsAlone : Type 0
+StandsAlone = (start : ClientContent) (past : List Event4) (terms : Terms4) → start.state ≡ Off
+    → held_terms (client_after start past).state ≡ Some terms → bound_terms (client_after start past).state ≡ None
+    → StandsOnKept start past terms
 
 -- ---- bounds
 

@@ -49,6 +49,11 @@ renewal_at terms = moment_in terms terms.t1
 abbrev pub rebinding_at : Terms4 → Option ℕ
 rebinding_at terms = moment_in terms terms.t2
 
+-- the end of the kept lease, where a client stands on it
+abbrev pub standing_until : (stands : Option Terms4) → Option ℕ
+standing_until None = None
+standing_until (Some terms) = expiry terms
+
 -- half of what is left until the end, a minute at least, and not after the end (section 4.4.5)
 abbrev pub again_at : (end : Option ℕ) → (at : ℕ) → ℕ
 again_at None at = at + LEAST_RENEWAL_WAIT

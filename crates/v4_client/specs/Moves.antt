@@ -51,6 +51,7 @@ moved step c =
     record c {
       last = step.last;
       state = step.state;
+      may_stand = if step.spends then false else c.may_stand;
       kept = kept_after step.keep c.settings.site.iface.name c.fresh c.kept;
       fresh = fresh_after step.keep c.fresh;
     }

@@ -19,6 +19,7 @@ site_of set = record {
   noarp = set.noarp;
   broadcast = set.broadcast;
   reboot = set.reboot;
+  persistent = set.persistent;
 }
 
 abbrev pub settings_content : Set4 → SettingsContent

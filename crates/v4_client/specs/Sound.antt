@@ -1,5 +1,5 @@
 -- What holds of every client: its leases are within the bounds of their texts, and the lease that it holds is the kept one.
-use Rattle.std.specs.Prelude.{◌≡◌, ℕ, ◌≤◌, true, Option, Some, None, option_map, IfSome}
+use Rattle.std.specs.Prelude.{◌≡◌, ℕ, ◌≤◌, ◌⊎◌, true, Option, Some, None, option_map, IfSome}
 use Rattle.net_types.specs.Moments.{IsMoment}
 use Rattle.net_types.specs.NameText.{FitsName}
 use Rattle.v4_message.specs.Requests.{AskFits}
@@ -14,7 +14,7 @@ use Rattle.v4_client.specs.declared.states.Keep4.TheVariants.{Stays, Clears, Tak
 use Rattle.v4_client.specs.declared.states.State4.{State4}
 use Rattle.v4_client.specs.declared.states.State4.TheVariants.{Off, Init, Selecting, Requesting, Rebooting, Checking, Waiting, Bound, Renewing, Rebinding}
 use Rattle.v4_client.specs.declared.states.Step4.{Step4}
-use Rattle.v4_client.specs.Clients.{ClientContent, held_terms}
+use Rattle.v4_client.specs.Clients.{ClientContent, bound_terms, held_terms}
 use Rattle.v4_client.specs.Moments.{expiry, rebinding_at}
 
 -- an exchange asks for an address that a host may have
@@ -34,17 +34,23 @@ pub record FitsRenewing (exchange : Exchange4) (terms : Terms4) (end : Option �
   pub wakes : IfSome end (λ last. due ≤ last)
 
 -- one for the kept lease says its REQUEST again by its end
-pub record FitsRebooting (exchange : Exchange4) (end due : ℕ) : Type 0 where
+pub record FitsRebooting (exchange : Exchange4) (end due : ℕ) (stands : Option Terms4) : Type 0 where
   pub asks : FitsExchange exchange
   pub wakes : due ≤ end
+  pub holds : IfSome stands FitsTerms
+
+-- the lease that is checked, and the one that is held meanwhile
+pub record FitsChecking (terms : Terms4) (stands : Option Terms4) : Type 0 where
+  pub checks : FitsTerms terms
+  pub holds : IfSome stands FitsTerms
 
 abbrev pub FitsState : State4 → Type 0
 FitsState Off = Unit {0}
 FitsState (Init due) = Unit {0}
 FitsState (Selecting xid began secs backoff due) = Unit {0}
 FitsState (Requesting exchange secs backoff due) = FitsExchange exchange
-FitsState (Rebooting exchange backoff end due) = FitsRebooting exchange end due
-FitsState (Checking xid terms origin acd) = FitsTerms terms
+FitsState (Rebooting exchange backoff end due stands) = FitsRebooting exchange end due stands
+FitsState (Checking xid terms origin acd stands) = FitsChecking terms stands
 FitsState (Waiting due) = Unit {0}
 FitsState (Bound xid terms acd) = FitsTerms terms
 FitsState (Renewing exchange terms acd due) = FitsRenewing exchange terms (rebinding_at terms) due
@@ -70,19 +76,22 @@ FitsKeep Stays = Unit {0}
 FitsKeep Clears = Unit {0}
 FitsKeep (Takes terms) = FitsTerms terms
 
--- the terms that are held after a step are those that were held before, or that are taken; what is taken is held
-abbrev pub KeepsHeld : (before : Option Terms4) → Keep4 → (after : Option Terms4) → Type 0
-KeepsHeld before Stays None = Unit {0}
-KeepsHeld before Clears None = Unit {0}
-KeepsHeld before (Takes taken) None = ⊥
-KeepsHeld before Stays (Some terms) = before ≡ Some terms
-KeepsHeld before Clears (Some terms) = ⊥
-KeepsHeld before (Takes taken) (Some terms) = taken ≡ terms
+-- the terms that are held after a step were held or kept before it
+abbrev pub StaysHeld : (kept before after : Option Terms4) → Type 0
+StaysHeld kept before None = Unit {0}
+StaysHeld kept before (Some terms) = (before ≡ Some terms) ⊎ (kept ≡ Some terms)
 
-pub record IsSoundStep (before : State4) (step : Step4) : Type 0 where
+-- where the kept lease is cleared none is held, and the client is bound to one that is taken
+abbrev pub KeepsHeld : (kept before : Option Terms4) → Keep4 → (after : State4) → Type 0
+KeepsHeld kept before Stays after = StaysHeld kept before (held_terms after)
+KeepsHeld kept before Clears after = held_terms after ≡ None
+KeepsHeld kept before (Takes taken) after = bound_terms after ≡ Some taken
+
+-- the step of a client that keeps a lease on these terms
+pub record IsSoundStep (kept : Option Terms4) (before : State4) (step : Step4) : Type 0 where
   pub state : FitsState step.state
   pub keep : FitsKeep step.keep
-  pub held : KeepsHeld (held_terms before) step.keep (held_terms step.state)
+  pub held : KeepsHeld kept (held_terms before) step.keep step.state
 
 -- ---- what a step is taken for
 

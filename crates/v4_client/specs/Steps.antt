@@ -1,5 +1,5 @@
 -- The steps that the rows of the table are made of: where a client goes, and what it says on the way.
-use Rattle.std.specs.Prelude.{ℕ, ◌+◌, min, Option, Some, None}
+use Rattle.std.specs.Prelude.{ℕ, ◌+◌, true, false, min, Option, Some, None}
 use Rattle.machine.specs.Draw.{draw_xid_of}
 use Rattle.net_types.specs.declared.address.Ip4.{Ip4}
 use Rattle.arp_acd.specs.declared.detection.Acd.{Acd}
@@ -14,7 +14,7 @@ use Rattle.v4_client.specs.declared.states.News4.TheVariants as news
 use Rattle.v4_client.specs.declared.states.Origin4.{Origin4}
 use Rattle.v4_client.specs.declared.states.Origin4.TheVariants.{Offered, Rebooted}
 use Rattle.v4_client.specs.declared.states.State4.{State4}
-use Rattle.v4_client.specs.declared.states.State4.TheVariants.{Init, Selecting, Requesting, Rebooting, Waiting, Bound, Renewing, Rebinding}
+use Rattle.v4_client.specs.declared.states.State4.TheVariants.{Off, Init, Selecting, Requesting, Rebooting, Waiting, Bound, Renewing, Rebinding}
 use Rattle.v4_client.specs.declared.states.Step4.{Step4}
 use Rattle.v4_client.specs.declared.states.Turn4.{Turn4}
 use Rattle.v4_client.specs.Moments.{wait, first_delay, secs_since, expiry, rebinding_at, again_at}
@@ -22,10 +22,14 @@ use Rattle.v4_client.specs.Saying.{discover, request, renewing_request, rebindin
 
 -- the client stands so, and nothing is said
 abbrev pub goes_to : State4 → (last : Option ℕ) → Step4
-goes_to state last = record { state = state; last = last; keep = Stays; say = None; arp = None; news = news.Nothing }
+goes_to state last = record { state = state; last = last; keep = Stays; say = None; arp = None; news = news.Nothing; spends = false }
 
 abbrev pub rests : Turn4 → State4 → Step4
 rests turn state = goes_to state turn.last
+
+-- the client is off, and stands on no lease any more
+abbrev pub stops : Turn4 → Step4
+stops turn = record (rests turn Off) { spends = true }
 
 -- Init, due after the first delay
 abbrev pub to_init : Turn4 → Step4
@@ -53,10 +57,11 @@ requesting turn exchange secs backoff =
       say = Some (request turn.site exchange secs);
     }
 
--- REQUEST for the address of the kept lease; Rebooting, due after the wait, and not after its end
-abbrev pub rebooting : Turn4 → Exchange4 → Backoff → (end : ℕ) → Step4
-rebooting turn exchange backoff end =
-    record (goes_to (Rebooting exchange backoff end (min end (turn.at + wait turn.site turn.salt backoff))) (Some exchange.xid)) {
+-- REQUEST for the address of the kept lease, on which the client stands or not; Rebooting, due after the wait, and not after
+-- its end
+abbrev pub rebooting : Turn4 → Exchange4 → Backoff → (end : ℕ) → (stands : Option Terms4) → Step4
+rebooting turn exchange backoff end stands =
+    record (goes_to (Rebooting exchange backoff end (min end (turn.at + wait turn.site turn.salt backoff)) stands) (Some exchange.xid)) {
       say = Some (request turn.site exchange 0);
     }
 
@@ -90,6 +95,11 @@ binds turn xid terms news acd = record (rests turn (Bound xid terms acd)) { keep
 abbrev pub expires : Turn4 → Step4
 expires turn = record (to_init turn) { keep = Clears; news = news.Expire }
 
+-- the news where a client doesn't stand on its kept lease any more
+abbrev pub standing_news : (stands : Option Terms4) → News4
+standing_news None = news.Nothing
+standing_news (Some terms) = news.Expire
+
 -- none is kept, and Waiting follows
 abbrev pub to_waiting : Turn4 → Step4
 to_waiting turn = record (rests turn (Waiting (turn.at + REFUSED_WAIT))) { keep = Clears }
@@ -99,9 +109,9 @@ abbrev pub refused : Turn4 → Step4
 refused turn = record (to_waiting turn) { news = news.Nak }
 
 -- another host has the granted address: DECLINE
-abbrev pub declines : Turn4 → (xid : ℕ) → Terms4 → Step4
-declines turn xid terms = record (to_waiting turn) { say = Some (decline turn.site terms xid) }
+abbrev pub declines : Turn4 → (xid : ℕ) → Terms4 → News4 → Step4
+declines turn xid terms news = record (to_waiting turn) { say = Some (decline turn.site terms xid); news = news }
 
 -- another host contests the held address, which is given up: DECLINE
 abbrev pub gives_up : Turn4 → (xid : ℕ) → Terms4 → Step4
-gives_up turn xid terms = record (declines turn xid terms) { news = news.Expire }
+gives_up turn xid terms = declines turn xid terms news.Expire

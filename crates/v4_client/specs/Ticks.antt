@@ -7,14 +7,16 @@ use Rattle.lease_text.specs.declared.lease.Terms4.{Terms4}
 use Rattle.v4_client.specs.declared.moments.Backoff.{Backoff}
 use Rattle.v4_client.specs.declared.moments.Backoff.TheVariants.{Four, Eight, Sixteen, ThirtyTwo, SixtyFour}
 use Rattle.v4_client.specs.declared.states.Exchange4.{Exchange4}
+use Rattle.v4_client.specs.declared.states.Keep4.TheVariants.{Clears}
+use Rattle.v4_client.specs.declared.states.News4.TheVariants as news
 use Rattle.v4_client.specs.declared.states.Origin4.{Origin4}
 use Rattle.v4_client.specs.declared.states.State4.{State4}
 use Rattle.v4_client.specs.declared.states.State4.TheVariants.{Off, Init, Selecting, Requesting, Rebooting, Checking, Waiting, Bound, Renewing, Rebinding}
 use Rattle.v4_client.specs.declared.states.Step4.{Step4}
 use Rattle.v4_client.specs.declared.states.Turn4.{Turn4}
 use Rattle.v4_client.specs.Detection.{checked, defended, with_acd}
-use Rattle.v4_client.specs.Moments.{doubled, expiry, renewal_at, rebinding_at}
-use Rattle.v4_client.specs.Steps.{rests, to_init, selecting, discovers, requesting, rebooting, new_exchange, renewing, rebinding, expires}
+use Rattle.v4_client.specs.Moments.{doubled, expiry, renewal_at, rebinding_at, standing_until}
+use Rattle.v4_client.specs.Steps.{rests, to_init, selecting, discovers, requesting, rebooting, new_exchange, renewing, rebinding, expires, standing_news}
 
 -- the longest wait for an answer
 abbrev pub is_longest : Backoff → Bool
@@ -35,15 +37,22 @@ abbrev pub requesting_tick : Turn4 → Exchange4 → (secs : ℕ) → Backoff �
 requesting_tick turn exchange secs backoff =
     if is_longest backoff then to_init turn else requesting turn exchange secs (doubled backoff)
 
-abbrev pub rebooting_tick : Turn4 → Exchange4 → Backoff → (end : ℕ) → Step4
-rebooting_tick turn exchange backoff end =
-    if nat_le end turn.at then discovers turn else rebooting turn exchange (doubled backoff) end
+abbrev pub rebooting_tick : Turn4 → Exchange4 → Backoff → (end : ℕ) → (stands : Option Terms4) → Step4
+rebooting_tick turn exchange backoff end stands =
+    if is_due (standing_until stands) turn.at then expires turn
+    else if nat_le end turn.at then record (discovers turn) { news = standing_news stands }
+    else rebooting turn exchange (doubled backoff) end stands
 
-abbrev pub checking_tick : Turn4 → (xid : ℕ) → Terms4 → Origin4 → Acd → Step4
-checking_tick turn xid terms origin acd =
-    if is_due (expiry terms) turn.at
-    then to_init turn
-    else checked turn xid terms origin (detection.acd_tick acd turn.at turn.salt).acd
+-- the kept lease is over on which the client stands, and the check goes on
+abbrev pub falls : Turn4 → State4 → Step4
+falls turn state = record (rests turn state) { keep = Clears; news = news.Expire }
+
+abbrev pub checking_tick : Turn4 → (xid : ℕ) → Terms4 → Origin4 → Acd → (stands : Option Terms4) → Step4
+checking_tick turn xid terms origin acd stands =
+    if is_due (standing_until stands) turn.at
+    then falls turn (Checking xid terms origin acd None)
+    else if is_due (expiry terms) turn.at then record (to_init turn) { news = standing_news stands }
+    else checked turn xid terms origin (detection.acd_tick acd turn.at turn.salt).acd stands
     (detection.acd_tick acd turn.at turn.salt).says
 
 abbrev pub bound_tick : Turn4 → (xid : ℕ) → Terms4 → Option Acd → Step4
@@ -75,10 +84,11 @@ tick_row turn (Waiting due) = discovers turn
 tick_row turn (Selecting xid began secs backoff due) = selecting turn xid began (doubled backoff)
 -- Requesting: REQUEST again; after the longest wait Init.
 tick_row turn (Requesting exchange secs backoff due) = requesting_tick turn exchange secs backoff
--- Rebooting: REQUEST again; at its end a new xid and DISCOVER.
-tick_row turn (Rebooting exchange backoff end due) = rebooting_tick turn exchange backoff end
--- Checking: the lease ends before it is held; else what conflict detection says.
-tick_row turn (Checking xid terms origin acd) = checking_tick turn xid terms origin acd
+-- Rebooting: the kept lease ends on which the client stands; else REQUEST again; at its end a new xid and DISCOVER.
+tick_row turn (Rebooting exchange backoff end due stands) = rebooting_tick turn exchange backoff end stands
+-- Checking: the kept lease ends on which the client stands, and the check goes on; the lease ends before it is held; else what
+-- conflict detection says.
+tick_row turn (Checking xid terms origin acd stands) = checking_tick turn xid terms origin acd stands
 -- A held lease: its expiry, then T2, then T1, then the REQUEST again; else what conflict detection says.
 tick_row turn (Bound xid terms acd) = bound_tick turn xid terms acd
 tick_row turn (Renewing exchange terms acd due) = renewing_tick turn exchange terms acd due

@@ -59,6 +59,8 @@ pub struct Client4 {
     /// The transaction id of the last exchange.
     last: Option<u32>,
     state: State4,
+    /// Whether it may still stand on the lease with which it was made: it didn't begin yet, nor was it released.
+    may_stand: bool,
     leases: Leases4,
 }
 
@@ -68,9 +70,9 @@ impl Model for Client4 {
 
     ghost Value = { ClientContent };
 
-    ghost view = { λ c. client_content c.set c.last c.state c.leases.kept c.leases.fresh.items };
+    ghost view = { λ c. client_content c.set c.last c.state c.may_stand c.leases.kept c.leases.fresh.items };
 
-    ghost invariant = { λ c. IsSound (client_content c.set c.last c.state c.leases.kept c.leases.fresh.items) };
+    ghost invariant = { λ c. IsSound (client_content c.set c.last c.state c.may_stand c.leases.kept c.leases.fresh.items) };
 }
 
 impl Client4 {
@@ -85,6 +87,7 @@ impl Client4 {
                 noarp: self.set.noarp,
                 broadcast: self.set.broadcast,
                 reboot: self.set.reboot,
+                persistent: self.set.persistent,
             },
             last: self.last,
             at,
@@ -105,7 +108,7 @@ impl Client4 {
 
     /// Goes a step of the table.
     fn go(&mut self, step: Step4) -> Result<Out4, NoMemory>
-        requires { IsSoundStep self.old.state step }
+        requires { IsSoundStep (kept_terms self.old) self.old.state step }
         ensures memory { OnErr result (takes_room step self.old ≡ true) }
         ensures step { IfOk result (λ out. IsStep4 step self.old self.new (out_content out)) }
     {
@@ -114,6 +117,9 @@ impl Client4 {
             .keep(self.alloc, self.set.iface.name, self.state, &step)?;
         self.state = step.state;
         self.last = step.last;
+        if step.spends {
+            self.may_stand = false;
+        }
         Ok(Out4 {
             say: step.say,
             arp: step.arp,
@@ -158,6 +164,7 @@ pub fn client4_new(alloc: Global, set: Set4, kept: Option<Lease4>) -> Client4
         set,
         last: None,
         state: State4::Off,
+        may_stand: true,
         leases: Leases4 {
             kept,
             fresh: Vec::new(alloc),
@@ -245,7 +252,7 @@ pub fn carrier4(c: &mut Client4, carrier: Carrier, at: u64, salt: u64) -> Result
 {
     let turn = c.turn(clamp_moment(at), salt);
     let step = match carrier {
-        Carrier::Up => begin_row(turn, c.kept_terms(), c.state),
+        Carrier::Up => begin_row(turn, c.may_stand, c.kept_terms(), c.state),
         Carrier::Down => off_row(turn),
     };
     c.go(step)

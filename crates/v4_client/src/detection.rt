@@ -5,7 +5,7 @@ ghost use Rattle.net_types.specs.Moments.{IsMoment};
 ghost use Rattle.v4_client.specs.Detection as detection;
 
 use crate::states::{Origin4, State4, Step4, Turn4};
-use crate::steps::{binds, bound_news, declines, gives_up, rests};
+use crate::steps::{binds, bound_news, declines, gives_up, rests, standing_news};
 use arp_acd::{Acd, AcdSays, ArpSay};
 use lease_text::Terms4;
 
@@ -16,10 +16,11 @@ pub(crate) fn checked(
     terms: Terms4,
     origin: Origin4,
     acd: Acd,
+    stands: Option<Terms4>,
     says: AcdSays,
 ) -> Step4
     requires { IsMoment turn.at }
-    ensures { result ≡ detection.checked turn xid terms origin acd says }
+    ensures { result ≡ detection.checked turn xid terms origin acd stands says }
 {
     let stays = rests(
         turn,
@@ -28,6 +29,7 @@ pub(crate) fn checked(
             terms,
             origin,
             acd,
+            stands,
         },
     );
     match says {
@@ -42,7 +44,7 @@ pub(crate) fn checked(
             ..binds(turn, xid, terms, bound_news(origin), Some(acd))
         },
         // another host has it
-        AcdSays::Conflict => declines(turn, xid, terms),
+        AcdSays::Conflict => declines(turn, xid, terms, standing_news(stands)),
         AcdSays::Quiet | AcdSays::SayAnnounce | AcdSays::GivenUp => stays,
     }
 }

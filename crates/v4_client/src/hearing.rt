@@ -33,10 +33,10 @@ fn offered(turn: Turn4, xid: u32, secs: u16, state: State4, answer: Answer4) -> 
     }
 }
 
-/// A granted address is bound at once, or checked first.
-fn granted(turn: Turn4, xid: u32, terms: Terms4, origin: Origin4) -> Step4
+/// A granted address is bound at once, or checked first, while the client stands on its kept lease or not.
+fn granted(turn: Turn4, xid: u32, terms: Terms4, origin: Origin4, stands: Option<Terms4>) -> Step4
     requires { IsMoment turn.at }
-    ensures { result ≡ hearing.granted turn xid terms origin }
+    ensures { result ≡ hearing.granted turn xid terms origin stands }
 {
     if turn.site.noarp {
         return binds(turn, xid, terms, bound_news(origin), None);
@@ -49,18 +49,26 @@ fn granted(turn: Turn4, xid: u32, terms: Terms4, origin: Origin4) -> Step4
             terms,
             origin,
             acd,
+            stands,
         },
     )
 }
 
 /// In Requesting and Rebooting.
-fn answered(turn: Turn4, xid: u32, origin: Origin4, state: State4, answer: Answer4) -> Step4
+fn answered(
+    turn: Turn4,
+    xid: u32,
+    origin: Origin4,
+    stands: Option<Terms4>,
+    state: State4,
+    answer: Answer4,
+) -> Step4
     requires { IsMoment turn.at }
-    ensures { result ≡ hearing.answered turn xid origin state answer }
+    ensures { result ≡ hearing.answered turn xid origin stands state answer }
 {
     match answer {
         // the lease is bound, or its address checked
-        Answer4::Ack(terms) => granted(turn, xid, terms, origin),
+        Answer4::Ack(terms) => granted(turn, xid, terms, origin, stands),
         Answer4::Nak => refused(turn),
         Answer4::Nothing | Answer4::Offer { .. } => rests(turn, state),
     }
@@ -96,11 +104,13 @@ pub(crate) fn heard_row(turn: Turn4, answer: Answer4, state: State4) -> Step4
         State4::Selecting { xid, secs, .. } => offered(turn, xid, secs, state, answer),
         // an ACK or a NAK
         State4::Requesting { exchange, .. } => {
-            answered(turn, exchange.xid, Origin4::Offered, state, answer)
+            answered(turn, exchange.xid, Origin4::Offered, None, state, answer)
         }
-        State4::Rebooting { exchange, .. } => {
-            answered(turn, exchange.xid, Origin4::Rebooted, state, answer)
-        }
+        State4::Rebooting {
+            exchange,
+            stands,
+            ..
+        } => answered(turn, exchange.xid, Origin4::Rebooted, stands, state, answer),
         // an ACK replaces the lease; a NAK ends it
         State4::Renewing { exchange, acd, .. } => {
             renewed(turn, exchange.xid, News4::Renew, acd, state, answer)
@@ -148,9 +158,10 @@ pub(crate) fn arp_row(own: &[Mac], turn: Turn4, arp: &ArpView, state: State4) ->
             terms,
             origin,
             mut acd,
+            stands,
         } => {
             let says = acd_heard(&mut acd, arp, turn.at, own);
-            checked(turn, xid, terms, origin, acd, says)
+            checked(turn, xid, terms, origin, acd, stands, says)
         }
         State4::Bound { xid, terms, acd } => contested(own, turn, arp, xid, terms, state, acd),
         State4::Renewing {

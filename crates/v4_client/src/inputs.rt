@@ -8,16 +8,27 @@ ghost use Rattle.v4_client.specs.Sound.{FitsState};
 use crate::moments::{Backoff, SECOND, expiry};
 use crate::saying::release;
 use crate::states::{Keep4, News4, State4, Step4, Tell, Turn4};
-use crate::steps::{goes_to, new_exchange, new_xid, rebinding, rebooting, rests, to_init};
+use crate::steps::{goes_to, new_exchange, new_xid, rebinding, rebooting, rests, stops, to_init};
 use arp_acd::acd_unsent;
 use lease_text::Terms4;
 use machine::has_come;
 
-/// The client begins, with the terms of the kept lease.
-fn begins(turn: Turn4, kept: Option<Terms4>) -> Step4
+/// The terms of the kept lease, where the client stands on it from now on.
+fn stood(turn: Turn4, may_stand: bool, terms: Terms4) -> Option<Terms4>
+    ensures { result ≡ inputs.stood turn may_stand terms }
+{
+    if turn.site.persistent && may_stand && terms.origin.is_some() {
+        Some(terms)
+    } else {
+        None
+    }
+}
+
+/// Where the client goes as it begins, with the terms of the kept lease.
+fn entered(turn: Turn4, may_stand: bool, kept: Option<Terms4>) -> Step4
     requires at { IsMoment turn.at }
     requires first { IfSome kept (λ terms. IsMoment terms.first) }
-    ensures { result ≡ inputs.begins turn kept }
+    ensures { result ≡ inputs.entered turn may_stand kept }
 {
     let Some(terms) = kept else {
         return to_init(turn);
@@ -28,17 +39,35 @@ fn begins(turn: Turn4, kept: Option<Terms4>) -> Step4
     }
     // REQUEST for its address
     let end = turn.at + SECOND * u64::from(turn.site.reboot);
-    rebooting(turn, new_exchange(turn, terms.net.ip), Backoff::Four, end)
+    rebooting(
+        turn,
+        new_exchange(turn, terms.net.ip),
+        Backoff::Four,
+        end,
+        stood(turn, may_stand, terms),
+    )
+}
+
+/// The client begins, with the terms of the kept lease. At the first one alone it may stand on that.
+fn begins(turn: Turn4, may_stand: bool, kept: Option<Terms4>) -> Step4
+    requires at { IsMoment turn.at }
+    requires first { IfSome kept (λ terms. IsMoment terms.first) }
+    ensures { result ≡ inputs.begins turn may_stand kept }
+{
+    Step4 {
+        spends: true,
+        ..entered(turn, may_stand, kept)
+    }
 }
 
 /// The carrier comes.
-pub(crate) fn begin_row(turn: Turn4, kept: Option<Terms4>, state: State4) -> Step4
+pub(crate) fn begin_row(turn: Turn4, may_stand: bool, kept: Option<Terms4>, state: State4) -> Step4
     requires at { IsMoment turn.at }
     requires first { IfSome kept (λ terms. IsMoment terms.first) }
-    ensures { result ≡ inputs.begin_row turn kept state }
+    ensures { result ≡ inputs.begin_row turn may_stand kept state }
 {
     match state {
-        State4::Off => begins(turn, kept),
+        State4::Off => begins(turn, may_stand, kept),
         State4::Init { .. }
         | State4::Selecting { .. }
         | State4::Requesting { .. }
@@ -55,7 +84,7 @@ pub(crate) fn begin_row(turn: Turn4, kept: Option<Terms4>, state: State4) -> Ste
 pub(crate) fn off_row(turn: Turn4) -> Step4
     ensures { result ≡ inputs.off_row turn }
 {
-    rests(turn, State4::Off)
+    stops(turn)
 }
 
 /// The lease that is held isn't held any more.
@@ -70,13 +99,24 @@ fn released(turn: Turn4, tell: Tell, terms: Terms4) -> Step4
                 keep: Keep4::Clears,
                 say: Some(release(turn.site, terms, xid)),
                 news: News4::Stop,
+                spends: true,
                 ..goes_to(State4::Off, Some(xid))
             }
         }
         Tell::Nobody => Step4 {
             news: News4::Stop,
-            ..rests(turn, State4::Off)
+            ..stops(turn)
         },
+    }
+}
+
+/// The kept lease on which the client stands isn't held any more.
+fn released_standing(turn: Turn4, tell: Tell, stands: Option<Terms4>) -> Step4
+    ensures { result ≡ inputs.released_standing turn tell stands }
+{
+    match stands {
+        Some(terms) => released(turn, tell, terms),
+        None => stops(turn),
     }
 }
 
@@ -89,13 +129,15 @@ pub(crate) fn release_row(turn: Turn4, tell: Tell, state: State4) -> Step4
         State4::Bound { terms, .. }
         | State4::Renewing { terms, .. }
         | State4::Rebinding { terms, .. } => released(turn, tell, terms),
+        // the kept one may be held meanwhile
+        State4::Rebooting { stands, .. } | State4::Checking { stands, .. } => {
+            released_standing(turn, tell, stands)
+        }
         State4::Off
         | State4::Init { .. }
         | State4::Selecting { .. }
         | State4::Requesting { .. }
-        | State4::Rebooting { .. }
-        | State4::Checking { .. }
-        | State4::Waiting { .. } => rests(turn, State4::Off),
+        | State4::Waiting { .. } => stops(turn),
     }
 }
 
@@ -107,8 +149,8 @@ pub(crate) fn rebind_row(turn: Turn4, kept: Option<Terms4>, state: State4) -> St
     ensures { result ≡ inputs.rebind_row turn kept state }
 {
     match state {
-        // the client begins
-        State4::Off => begins(turn, kept),
+        // the client begins; it was released before, so that it stands on no lease
+        State4::Off => begins(turn, false, kept),
         // REQUEST to everyone
         State4::Bound { terms, acd, .. } | State4::Renewing { terms, acd, .. } => {
             rebinding(turn, new_exchange(turn, terms.net.ip), terms, acd)
@@ -134,6 +176,7 @@ pub(crate) fn unsent_row(turn: Turn4, state: State4) -> State4
             terms,
             origin,
             mut acd,
+            stands,
         } => {
             acd_unsent(&mut acd, turn.at, turn.salt);
             State4::Checking {
@@ -141,6 +184,7 @@ pub(crate) fn unsent_row(turn: Turn4, state: State4) -> State4
                 terms,
                 origin,
                 acd,
+                stands,
             }
         }
         State4::Off

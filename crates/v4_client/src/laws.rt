@@ -1,6 +1,6 @@
 //! What is true of every client. These functions do nothing: their contracts are the laws.
 
-ghost use Rattle.v4_client.specs.Laws.{EndsAtExpiry, HoldsGranted, IgnoresForeign, StaysSound};
+ghost use Rattle.v4_client.specs.Laws.{EndsAtExpiry, HoldsGranted, IgnoresForeign, StandsAlone, StaysSound};
 ghost use Rattle.v4_client.specs.InTime.{WakesInTime};
 ghost use Rattle.v4_client.specs.Origins.{KeepsOrigins};
 ghost use Rattle.v4_client.specs.Probes.{ProbesFirst};
@@ -17,14 +17,20 @@ pub fn ends_at_expiry()
     ensures { EndsAtExpiry }
 {}
 
-/// Law: where a client that was off holds a lease, an ACK that was acceptable in its own exchange has granted it (RFC 2131,
-/// section 4.4).
+/// Law: where a client that was off is bound to a lease, an ACK that was acceptable in its own exchange has granted it
+/// (RFC 2131, section 4.4).
 pub fn holds_granted()
     ensures { HoldsGranted }
 {}
 
-/// Law: where addresses are probed, a lease is held only after three probes for its address, said since the ACK that granted
-/// it and since the last send that failed (RFC 2131, section 4.4.1; RFC 5227, section 2.1.1).
+/// Law: where a client that was off holds a lease to which it isn't bound, that is the one with which it was made: an ACK of
+/// its interface has confirmed it, it is to stay in force, and since then it was neither released nor did the carrier go.
+pub fn stands_alone()
+    ensures { StandsAlone }
+{}
+
+/// Law: where addresses are probed, a client is bound to a lease only after three probes for its address, said since the ACK
+/// that granted it and since the last send that failed (RFC 2131, section 4.4.1; RFC 5227, section 2.1.1).
 pub fn probes_first()
     ensures { ProbesFirst }
 {}

@@ -13,7 +13,7 @@ use std::mem;
 
 #[derive(Drop)]
 pub(crate) struct Leases4 {
-    /// The lease that is kept for the next start; in Bound, Renewing and Rebinding it is the one that is held.
+    /// The lease that is kept for the next start; where one is held it is that one.
     pub kept: Option<Lease4>,
     /// The values of the lease that is checked.
     pub fresh: Vec<Value>,
@@ -25,12 +25,11 @@ pub(crate) fn is_held(state: State4) -> bool
 {
     match state {
         State4::Bound { .. } | State4::Renewing { .. } | State4::Rebinding { .. } => true,
+        State4::Rebooting { stands, .. } | State4::Checking { stands, .. } => stands.is_some(),
         State4::Off
         | State4::Init { .. }
         | State4::Selecting { .. }
         | State4::Requesting { .. }
-        | State4::Rebooting { .. }
-        | State4::Checking { .. }
         | State4::Waiting { .. } => false,
     }
 }

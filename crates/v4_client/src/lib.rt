@@ -24,8 +24,8 @@ pub use client::{
 };
 pub use constants::times_are_those_of_rfc_2131;
 pub use laws::{
-    ends_at_expiry, holds_granted, ignores_foreign, keeps_origins, probes_first, stays_sound,
-    wakes_in_time,
+    ends_at_expiry, holds_granted, ignores_foreign, keeps_origins, probes_first, stands_alone,
+    stays_sound, wakes_in_time,
 };
 pub use moments::Backoff;
 pub use settings::{Set4, Site4};

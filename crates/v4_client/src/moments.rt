@@ -1,8 +1,8 @@
 //! When a client acts. Moments are in milliseconds since 1970.
 
-ghost use Rattle.std.specs.Prelude.{◌≡◌, ◌≤◌};
+ghost use Rattle.std.specs.Prelude.{◌≡◌, ◌≤◌, IfSome};
 ghost use Rattle.net_types.specs.Moments.{IsMoment};
-ghost use Rattle.v4_client.specs.Moments.{again_at, doubled, earlier, expiry, first_delay, moment_in, rebinding_at, renewal_at, seconds, secs_since, wait};
+ghost use Rattle.v4_client.specs.Moments.{again_at, doubled, earlier, expiry, first_delay, moment_in, rebinding_at, renewal_at, seconds, secs_since, standing_until, wait};
 
 use crate::settings::Site4;
 use lease_text::{INFINITE_LEASE, Terms4};
@@ -125,6 +125,17 @@ pub(crate) fn rebinding_at(terms: Terms4) -> Option<u64>
     ensures { result ≡ rebinding_at terms }
 {
     moment_in(terms, terms.t2)
+}
+
+/// When the kept lease ends on which a client stands.
+pub(crate) fn standing_until(stands: Option<Terms4>) -> Option<u64>
+    requires { IfSome stands (λ terms. IsMoment terms.first) }
+    ensures { result ≡ standing_until stands }
+{
+    match stands {
+        Some(terms) => expiry(terms),
+        None => None,
+    }
 }
 
 /// When a REQUEST that renews is said again, where that has time until `end`.

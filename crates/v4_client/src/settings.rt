@@ -26,6 +26,8 @@ pub struct Set4 {
     pub refused: Vec<u8>,
     /// The networks of the servers that aren't listened to.
     pub blacklist: Vec<Net4>,
+    /// Whether a kept lease stays in force while it is asked for again at the start.
+    pub persistent: bool,
 }
 
 /// The settings that the table of states looks at: those of `Set4` that are plain values.
@@ -36,4 +38,5 @@ pub struct Site4 {
     pub noarp: bool,
     pub broadcast: bool,
     pub reboot: u32,
+    pub persistent: bool,
 }

@@ -55,19 +55,22 @@ pub enum State4 {
         backoff: Backoff,
         due: u64,
     },
-    /// The address of the kept lease is asked for, until `end`.
+    /// The address of the kept lease is asked for, until `end`. `stands` are the terms of the kept lease where it is held
+    /// meanwhile.
     Rebooting {
         exchange: Exchange4,
         backoff: Backoff,
         end: u64,
         due: u64,
+        stands: Option<Terms4>,
     },
-    /// The granted address is probed.
+    /// The granted address is probed. `stands` are the terms of the kept lease where that is held still.
     Checking {
         xid: u32,
         terms: Terms4,
         origin: Origin4,
         acd: Acd,
+        stands: Option<Terms4>,
     },
     /// After a NAK or a DECLINE: the next DISCOVER waits.
     Waiting {
@@ -165,6 +168,8 @@ pub struct Step4 {
     pub say: Option<Say4>,
     pub arp: Option<ArpSay>,
     pub news: News4,
+    /// Whether the client can't stand on the lease any more with which it was made.
+    pub spends: bool,
 }
 
 /// Whether the server is told that a lease isn't used any more.

@@ -25,6 +25,7 @@ pub(crate) fn goes_to(state: State4, last: Option<u32>) -> Step4
         say: None,
         arp: None,
         news: News4::Nothing,
+        spends: false,
     }
 }
 
@@ -32,6 +33,16 @@ pub(crate) fn rests(turn: Turn4, state: State4) -> Step4
     ensures { result ≡ steps.rests turn state }
 {
     goes_to(state, turn.last)
+}
+
+/// The client is off, and stands on no lease any more.
+pub(crate) fn stops(turn: Turn4) -> Step4
+    ensures { result ≡ steps.stops turn }
+{
+    Step4 {
+        spends: true,
+        ..rests(turn, State4::Off)
+    }
 }
 
 /// To Init.
@@ -95,10 +106,16 @@ pub(crate) fn requesting(turn: Turn4, exchange: Exchange4, secs: u16, backoff: B
     }
 }
 
-/// A REQUEST for the address of the kept lease.
-pub(crate) fn rebooting(turn: Turn4, exchange: Exchange4, backoff: Backoff, end: u64) -> Step4
+/// A REQUEST for the address of the kept lease, on which the client stands or not.
+pub(crate) fn rebooting(
+    turn: Turn4,
+    exchange: Exchange4,
+    backoff: Backoff,
+    end: u64,
+    stands: Option<Terms4>,
+) -> Step4
     requires { IsMoment turn.at }
-    ensures { result ≡ steps.rebooting turn exchange backoff end }
+    ensures { result ≡ steps.rebooting turn exchange backoff end stands }
 {
     let due = end.min(turn.at + wait(turn.site, turn.salt, backoff));
     let state = State4::Rebooting {
@@ -106,6 +123,7 @@ pub(crate) fn rebooting(turn: Turn4, exchange: Exchange4, backoff: Backoff, end:
         backoff,
         end,
         due,
+        stands,
     };
     Step4 {
         say: Some(request(turn.site, exchange, 0)),
@@ -193,6 +211,16 @@ pub(crate) fn expires(turn: Turn4) -> Step4
     }
 }
 
+/// The news where a client doesn't stand on its kept lease any more.
+pub(crate) fn standing_news(stands: Option<Terms4>) -> News4
+    ensures { result ≡ steps.standing_news stands }
+{
+    match stands {
+        Some(_) => News4::Expire,
+        None => News4::Nothing,
+    }
+}
+
 /// To Waiting, without a kept lease.
 pub(crate) fn to_waiting(turn: Turn4) -> Step4
     requires { IsMoment turn.at }
@@ -217,12 +245,13 @@ pub(crate) fn refused(turn: Turn4) -> Step4
 }
 
 /// Another host has the granted address.
-pub(crate) fn declines(turn: Turn4, xid: u32, terms: Terms4) -> Step4
+pub(crate) fn declines(turn: Turn4, xid: u32, terms: Terms4, news: News4) -> Step4
     requires { IsMoment turn.at }
-    ensures { result ≡ steps.declines turn xid terms }
+    ensures { result ≡ steps.declines turn xid terms news }
 {
     Step4 {
         say: Some(decline(turn.site, terms, xid)),
+        news,
         ..to_waiting(turn)
     }
 }
@@ -232,8 +261,5 @@ pub(crate) fn gives_up(turn: Turn4, xid: u32, terms: Terms4) -> Step4
     requires { IsMoment turn.at }
     ensures { result ≡ steps.gives_up turn xid terms }
 {
-    Step4 {
-        news: News4::Expire,
-        ..declines(turn, xid, terms)
-    }
+    declines(turn, xid, terms, News4::Expire)
 }

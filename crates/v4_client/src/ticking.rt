@@ -1,18 +1,18 @@
 //! What a client does when its moment has come.
 
-ghost use Rattle.std.specs.Prelude.{◌≡◌, true};
+ghost use Rattle.std.specs.Prelude.{◌≡◌, true, IfSome};
 ghost use Rattle.net_types.specs.Moments.{IsMoment};
-ghost use Rattle.v4_client.specs.Clients.{is_held};
+ghost use Rattle.v4_client.specs.Clients.{is_bound};
 ghost use Rattle.v4_client.specs.Due as moments;
 ghost use Rattle.v4_client.specs.Sound.{FitsState};
 ghost use Rattle.v4_client.specs.Ticks as ticks;
 
 use crate::detection::{checked, defended, with_acd};
-use crate::moments::{Backoff, earlier, expiry, rebinding_at, renewal_at};
-use crate::states::{Exchange4, Origin4, State4, Step4, Turn4};
+use crate::moments::{Backoff, earlier, expiry, rebinding_at, renewal_at, standing_until};
+use crate::states::{Exchange4, Keep4, News4, Origin4, State4, Step4, Turn4};
 use crate::steps::{
     discovers, expires, new_exchange, rebinding, rebooting, renewing, requesting, rests, selecting,
-    to_init,
+    standing_news, to_init,
 };
 use arp_acd::Acd;
 use lease_text::Terms4;
@@ -37,9 +37,14 @@ pub(crate) fn due_of(state: State4) -> Option<u64>
         State4::Init { due }
         | State4::Selecting { due, .. }
         | State4::Requesting { due, .. }
-        | State4::Rebooting { due, .. }
         | State4::Waiting { due } => Some(due),
-        State4::Checking { terms, acd, .. } => earlier(acd.due(), expiry(terms)),
+        State4::Rebooting { due, stands, .. } => earlier(Some(due), standing_until(stands)),
+        State4::Checking {
+            terms,
+            acd,
+            stands,
+            ..
+        } => earlier(earlier(acd.due(), expiry(terms)), standing_until(stands)),
         State4::Bound { terms, acd, .. } => earlier(renewal_at(terms), acd_due(acd)),
         State4::Renewing { acd, due, .. } | State4::Rebinding { acd, due, .. } => {
             earlier(Some(due), acd_due(acd))
@@ -160,37 +165,84 @@ fn requesting_tick(turn: Turn4, exchange: Exchange4, secs: u16, backoff: Backoff
     requesting(turn, exchange, secs, backoff.doubled())
 }
 
-fn rebooting_tick(turn: Turn4, exchange: Exchange4, backoff: Backoff, end: u64) -> Step4
-    requires { IsMoment turn.at }
-    ensures { result ≡ ticks.rebooting_tick turn exchange backoff end }
+fn rebooting_tick(
+    turn: Turn4,
+    exchange: Exchange4,
+    backoff: Backoff,
+    end: u64,
+    stands: Option<Terms4>,
+) -> Step4
+    requires at { IsMoment turn.at }
+    requires first { IfSome stands (λ terms. IsMoment terms.first) }
+    ensures { result ≡ ticks.rebooting_tick turn exchange backoff end stands }
 {
+    // the lease is over on which the client stands
+    if has_come(standing_until(stands), turn.at) {
+        return expires(turn);
+    }
     // no answer came
     if end <= turn.at {
-        return discovers(turn);
+        return Step4 {
+            news: standing_news(stands),
+            ..discovers(turn)
+        };
     }
     // the REQUEST again
-    rebooting(turn, exchange, backoff.doubled(), end)
+    rebooting(turn, exchange, backoff.doubled(), end, stands)
 }
 
-fn checking_tick(turn: Turn4, xid: u32, terms: Terms4, origin: Origin4, acd: Acd) -> Step4
+/// The client doesn't stand on its kept lease any more, which is over, and goes on in the state.
+fn falls(turn: Turn4, state: State4) -> Step4
+    ensures { result ≡ ticks.falls turn state }
+{
+    Step4 {
+        keep: Keep4::Clears,
+        news: News4::Expire,
+        ..rests(turn, state)
+    }
+}
+
+fn checking_tick(
+    turn: Turn4,
+    xid: u32,
+    terms: Terms4,
+    origin: Origin4,
+    acd: Acd,
+    stands: Option<Terms4>,
+) -> Step4
     requires at { IsMoment turn.at }
     requires first { IsMoment terms.first }
-    ensures { result ≡ ticks.checking_tick turn xid terms origin acd }
+    requires held { IfSome stands (λ terms. IsMoment terms.first) }
+    ensures { result ≡ ticks.checking_tick turn xid terms origin acd stands }
 {
+    // the lease is over on which the client stands; the check goes on
+    if has_come(standing_until(stands), turn.at) {
+        let state = State4::Checking {
+            xid,
+            terms,
+            origin,
+            acd,
+            stands: None,
+        };
+        return falls(turn, state);
+    }
     // the lease is over before it is held
     if has_come(expiry(terms), turn.at) {
-        return to_init(turn);
+        return Step4 {
+            news: standing_news(stands),
+            ..to_init(turn)
+        };
     }
     let mut acd = acd;
     let says = acd.tick(turn.at, turn.salt);
-    checked(turn, xid, terms, origin, acd, says)
+    checked(turn, xid, terms, origin, acd, stands, says)
 }
 
-/// A tick of a state in which a lease is held.
-fn held_tick(turn: Turn4, state: State4) -> Step4
+/// A tick of a state in which the client is bound to a lease.
+fn bound_to_tick(turn: Turn4, state: State4) -> Step4
     requires at { IsMoment turn.at }
     requires fits { FitsState state }
-    ensures { is_held state ≡ true → result ≡ ticks.tick_row turn state }
+    ensures { is_bound state ≡ true → result ≡ ticks.tick_row turn state }
 {
     match state {
         State4::Bound { xid, terms, acd } => bound_tick(turn, xid, terms, acd),
@@ -240,23 +292,25 @@ pub(crate) fn tick_row(turn: Turn4, state: State4) -> Step4
             backoff,
             ..
         } => requesting_tick(turn, exchange, secs, backoff),
-        // REQUEST again; at the end a new xid and DISCOVER
+        // the end of the kept lease; REQUEST again; at the end of that a new xid and DISCOVER
         State4::Rebooting {
             exchange,
             backoff,
             end,
+            stands,
             ..
-        } => rebooting_tick(turn, exchange, backoff, end),
-        // the address is probed
+        } => rebooting_tick(turn, exchange, backoff, end, stands),
+        // the end of the kept lease; the address is probed
         State4::Checking {
             xid,
             terms,
             origin,
             acd,
-        } => checking_tick(turn, xid, terms, origin, acd),
-        // a lease is held
+            stands,
+        } => checking_tick(turn, xid, terms, origin, acd, stands),
+        // a lease is bound
         State4::Bound { .. } | State4::Renewing { .. } | State4::Rebinding { .. } => {
-            held_tick(turn, state)
+            bound_to_tick(turn, state)
         }
     }
 }

@@ -7,7 +7,7 @@ use Rattle.v6_message.specs.declared.kind.ServerKind6.TheVariants.{Advertise, Re
 use Rattle.v6_message.specs.Replies.{Content6}
 use Rattle.v6_client.specs.declared.states.Cause6.TheVariants.{Lapse}
 use Rattle.v6_client.specs.Answers.{counts, learnt}
-use Rattle.v6_client.specs.Calls.{IsAnswered, IsTicked, carrier_step, dates_in, due_of, rebind_step, release_step}
+use Rattle.v6_client.specs.Calls.{IsAnswered, IsTicked, carried_by, carrier_step, dates_in, due_of, rebind_step, release_step}
 use Rattle.v6_client.specs.Clients.{ClientContent, turn_of}
 use Rattle.v6_client.specs.Moves.{IsQuiet, OutContent, lapsed, out_content, parting_at}
 use Rattle.v6_client.specs.RunLaws.{CarriersRun, DuplicatesRun, MessagesRun, RebindsRun, ReleasesRun, StepsRun, TicksRun, TicksWait, turned}
@@ -73,7 +73,7 @@ hears_runs old new message at salt out hears =
 
 pub carrier_runs : CarriersRun
 unfolding carrier_turned
-carrier_runs old new carrier at salt out goes = step_runs (carrier_step carrier at salt old) None old new out goes
+carrier_runs old new carrier at salt out goes = step_runs (carrier_step carrier at salt old) None (carried_by carrier at old) new out goes
 
 pub contested_runs : DuplicatesRun
 unfolding contested_turned

@@ -1,5 +1,5 @@
 -- A message that is foreign changes nothing, and a lease comes by a Reply that is taken alone.
-use Rattle.std.proofs.Common.{◌≡◌, ℕ, ◌⊎◌, inl, inr, Bool, true, false, cond, ◌&&◌, List, Option, Some, None, option_map, refl, sym, ap, ◌∙◌}
+use Rattle.std.proofs.Common.{◌≡◌, ℕ, ◌⊎◌, inl, inr, Bool, true, false, not, cond, ◌&&◌, List, Option, Some, None, option_map, refl, sym, ap, ◌∙◌}
 use Rattle.std.proofs.lemmas.Bool.{and_parts, eqb-true}
 use Rattle.std.proofs.lemmas.Slice.Eq.{bytes_eq-Decides}
 use Rattle.net_types.proofs.CaseLaws.{split}
@@ -7,6 +7,7 @@ use Rattle.v6_message.specs.declared.kind.ServerKind6.{ServerKind6}
 use Rattle.v6_message.specs.declared.kind.ServerKind6.TheVariants.{Advertise, Reply}
 use Rattle.v6_message.specs.Replies.{Content6}
 use Rattle.lease6_text.specs.Leases.{Lease6Content}
+use Rattle.v6_client.specs.declared.states.Carrier6.TheVariants.{Up, Down}
 use Rattle.v6_client.specs.declared.states.Cause6.{Cause6}
 use Rattle.v6_client.specs.declared.states.Cause6.TheVariants.{Lapse}
 use Rattle.v6_client.specs.declared.states.Keep6.{Keep6}
@@ -14,10 +15,10 @@ use Rattle.v6_client.specs.declared.states.Keep6.TheVariants.{Stays, Clears, Tak
 use Rattle.v6_client.specs.declared.states.Parting6.{Parting6}
 use Rattle.v6_client.specs.declared.states.Step6.{Step6}
 use Rattle.v6_client.specs.Answers.{advertise_answer, advertised, awaited, chosen, counts, has_bytes, is_awaited, is_from, is_taken, learnt}
-use Rattle.v6_client.specs.Calls.{IsAnswered, fresh_in}
-use Rattle.v6_client.specs.Clients.{ClientContent, holds}
+use Rattle.v6_client.specs.Calls.{IsAnswered, fresh_in, pruned, pruned_lease, stands_at}
+use Rattle.v6_client.specs.Clients.{ClientContent, holds, is_at_end}
 use Rattle.v6_client.specs.Hearing.{is_kept_offer}
-use Rattle.v6_client.specs.Laws.{BringsNothing, CameFrom, IgnoresForeign, IsForeign, IsGranting, KeepsGranted, TicksBringNothing}
+use Rattle.v6_client.specs.Laws.{BeginsBringNothing, BringsNothing, CameFrom, IgnoresForeign, IsForeign, IsGranting, KeepsGranted, TicksBringNothing}
 use Rattle.v6_client.specs.Moves.{IsStep6, OutContent, kept_after, lapsed, parting_at, thinned_lease}
 use Rattle.v6_client.specs.Saying.{lease_server, plea_server}
 
@@ -122,5 +123,17 @@ lapse_from false at stays c d lease same e = inl e
 pub ticks_bring_nothing : TicksBringNothing
 ticks_bring_nothing c new at salt out lease goes e =
     let parting : Parting6 = parting_at (Lapse at) c in
-    lapse_from (holds c.state && parting.goes) at parting.stays c _ lease refl
+    lapse_from (holds c.state && parting.goes && not (is_at_end at c.state)) at parting.stays c _ lease refl
     (brings_nothing _ (lapsed at parting c) new out lease goes e)
+
+-- ---- a begin
+
+prune_from : (at : ℕ) (stands : Bool) (c : ClientContent) (lease : Lease6Content) → (pruned at stands c).kept ≡ Some lease
+    → (c.kept ≡ Some lease) ⊎ (option_map (pruned_lease at c.settings.asks) c.kept ≡ Some lease)
+prune_from at true c lease e = inr e
+prune_from at false c lease e = inl e
+
+pub begins_bring_nothing : BeginsBringNothing
+begins_bring_nothing c new Up at salt out lease goes e =
+    prune_from at (stands_at at c) c lease (brings_nothing _ (pruned at (stands_at at c) c) new out lease goes e)
+begins_bring_nothing c new Down at salt out lease goes e = inl (brings_nothing _ c new out lease goes e)

@@ -1,5 +1,5 @@
 -- Which origin the kept lease has after each call.
-use Rattle.std.proofs.Common.{◌≡◌, ◌⊎◌, inl, inr, ℕ, ◌&&◌, List, Option, Some, None, IfSome, option_map, refl}
+use Rattle.std.proofs.Common.{◌≡◌, ◌⊎◌, inl, inr, ℕ, Bool, not, ◌&&◌, List, Option, Some, None, IfSome, option_map, refl}
 use Rattle.std.specs.Option.{option_and_then}
 use Rattle.machine.specs.Moment.{is_due}
 use Rattle.net_types.proofs.CaseLaws.{gated}
@@ -9,20 +9,20 @@ use Rattle.v6_message.specs.declared.kind.ServerKind6.TheVariants.{Advertise, Re
 use Rattle.v6_message.specs.Replies.{Content6}
 use Rattle.lease6_text.specs.Leases.{Lease6Content}
 use Rattle.v6_client.specs.declared.states.Carrier6.{Carrier6}
+use Rattle.v6_client.specs.declared.states.Carrier6.TheVariants.{Up, Down}
 use Rattle.v6_client.specs.declared.states.Cause6.{Cause6}
 use Rattle.v6_client.specs.declared.states.Cause6.TheVariants.{Lapse, Duplicate}
 use Rattle.v6_client.specs.declared.states.Keep6.{Keep6}
 use Rattle.v6_client.specs.declared.states.Keep6.TheVariants.{Stays, Clears, Takes}
 use Rattle.v6_client.specs.declared.states.Parting6.{Parting6}
-use Rattle.v6_client.specs.declared.states.Step6.{Step6}
 use Rattle.v6_client.specs.declared.states.Tell6.{Tell6}
-use Rattle.v6_client.specs.Answers.{advertise_answer, advertised, counts, granted, is_taken, learnt, meeting_of, server_of}
-use Rattle.v6_client.specs.Calls.{answer_in, carrier_step, dates_in, due_of, fresh_in, rebind_step, release_step}
-use Rattle.v6_client.specs.Clients.{ClientContent, holds, turn_of}
+use Rattle.v6_client.specs.Answers.{advertise_answer, counts, granted, is_taken, learnt, meeting_of, server_of}
+use Rattle.v6_client.specs.Calls.{answer_in, carried_by, carrier_step, dates_in, due_of, fresh_in, pruned, pruned_lease, rebind_step, release_step, stands_at}
+use Rattle.v6_client.specs.Clients.{ClientContent, holds, is_at_end, is_restarting, turn_of}
 use Rattle.v6_client.specs.Hearing.{heard_row, is_kept_offer}
 use Rattle.v6_client.specs.Inputs.{duplicate_row}
 use Rattle.v6_client.specs.Items.{is_nonempty}
-use Rattle.v6_client.specs.Moves.{given_up, kept_after, kept_live, lapsed, moved, parting_at, thinned_lease}
+use Rattle.v6_client.specs.Moves.{declining_now, given_up, kept_after, kept_left, lapsed, missing, parting_at, thinned_lease}
 use Rattle.v6_client.specs.Origins.{GrantsOrigin, HadOrigin, KeepsOrTakesOrigin, KeepsOrigin, OriginsStay, origin_at}
 use Rattle.v6_client.specs.Runs.{Turned6, answered, carrier_turned, contested_turned, hears_turned, rebind_turned, release_turned, tick_turned}
 use Rattle.v6_client.specs.Taking.{ias_granted}
@@ -56,15 +56,31 @@ thinned_had cause (Some lease) = record { before = lease; was = refl; same = ref
 abbrev Had : ClientContent → ClientContent → Type 0
 Had c d = IfSome d.kept (HadOrigin c.kept)
 
+left_had : (cause : Cause6) (parting : Parting6) (kept : Option Lease6Content) → IfSome (kept_left cause parting kept) (HadOrigin kept)
+left_had cause parting kept =
+    gated (λ (left : Option Lease6Content). IfSome left (HadOrigin kept)) parting.stays (option_map (thinned_lease cause) kept) kept
+    (thinned_had cause kept) (had_self kept)
+
 lapsed_had : (at : ℕ) (parting : Parting6) (c : ClientContent) → Had c (lapsed at parting c)
 lapsed_had at parting c =
-    gated (Had c) (holds c.state && parting.goes) _ c
-    (gated (λ (kept : Option Lease6Content). IfSome kept (HadOrigin c.kept)) parting.stays (option_map (thinned_lease (Lapse at)) c.kept) c.kept
-    (thinned_had (Lapse at) c.kept) (had_self c.kept)) (had_self c.kept)
+    gated (Had c) (holds c.state && parting.goes && not (is_at_end at c.state)) _ c (left_had (Lapse at) parting c.kept) (had_self c.kept)
 
 given_up_had : (address : Ip6) (parting : Parting6) (c : ClientContent) → Had c (given_up address parting c)
 given_up_had address parting c =
-    gated (Had c) (holds c.state && parting.goes) _ c (thinned_had (Duplicate address) c.kept) (had_self c.kept)
+    gated (Had c) (holds c.state && parting.goes) _ c
+    (gated (Had c) (is_restarting c.state) (missing address parting c) (declining_now address c)
+    (left_had (Duplicate address) parting c.kept) (thinned_had (Duplicate address) c.kept)) (had_self c.kept)
+
+pruned_had : (at : ℕ) (stands : Bool) (c : ClientContent) → Had c (pruned at stands c)
+pruned_had at stands c = gated (Had c) stands _ c (of_kept c.kept) (had_self c.kept)
+  where
+    of_kept : (kept : Option Lease6Content) → IfSome (option_map (pruned_lease at c.settings.asks) kept) (HadOrigin kept)
+    of_kept None = tt
+    of_kept (Some lease) = record { before = lease; was = refl; same = refl }
+
+carried_had : (carrier : Carrier6) (at : ℕ) (c : ClientContent) → Had c (carried_by carrier at c)
+carried_had Up at c = pruned_had at (stands_at at c) c
+carried_had Down at c = had_self c.kept
 
 -- a step that no Reply brings about
 brings_none : (keep : Keep6) (before kept : Option Lease6Content) → IfSome kept (HadOrigin before)
@@ -89,7 +105,8 @@ duplicate_origin c address at salt =
 
 carrier_origin : (c : ClientContent) (carrier : Carrier6) (at salt : ℕ) → KeepsOrigin c (carrier_turned carrier at salt c).client
 unfolding carrier_turned
-carrier_origin c carrier at salt = brings_none (carrier_step carrier at salt c).keep c.kept c.kept (had_self c.kept)
+carrier_origin c carrier at salt =
+    brings_none (carrier_step carrier at salt c).keep c.kept (carried_by carrier at c).kept (carried_had carrier at c)
 
 release_origin : (c : ClientContent) (tell : Tell6) (at salt : ℕ) → KeepsOrigin c (release_turned tell at salt c).client
 unfolding release_turned

@@ -23,14 +23,14 @@ use Rattle.v6_client.specs.declared.states.State6.TheVariants.{Off, Waiting, Sol
 use Rattle.v6_client.specs.declared.states.Step6.{Step6}
 use Rattle.v6_client.specs.declared.turn.Turn6.{Turn6}
 use Rattle.v6_client.specs.Calls.{IsTicked, dates_in, due_of}
-use Rattle.v6_client.specs.Clients.{ClientContent, holds, is_all, scope_of, turn_of}
+use Rattle.v6_client.specs.Clients.{ClientContent, holds, is_all, is_at_end, scope_of, turn_of}
 use Rattle.v6_client.specs.Due.{due_row}
 use Rattle.v6_client.specs.Items.{asked_at, dates_of, goes_of, is_in, ia_with, ias_of, is_live, items_at, lapse_of, staying, thinned, without}
 use Rattle.v6_client.specs.Laws.{HoldsNothingOver, is_over_at}
 use Rattle.v6_client.specs.Moves.{OutContent, kept_after, lapsed, out_content, parting_at, thinned_lease}
 use Rattle.v6_client.specs.Ticks.{tick_row}
 use Rattle.v6_client.specs.Times.{earlier}
-use Rattle.v6_client.proofs.RowFacts.{tick_facts}
+use Rattle.v6_client.proofs.RowFacts.{tick_facts, ticks_before_end}
 
 -- ---- what is left isn't over
 
@@ -107,9 +107,12 @@ all_scope scope.Nothing e = absurd cc
 all_scope scope.All e = refl
 all_scope (scope.Since at) e = absurd cc
 
-both_true : (b : Bool) → b ≡ true → (g : Bool) → (b && g) ≡ g
-both_true true e g = refl
-both_true false e g = absurd cc
+-- what holds before the end of a restart
+held_goes : (b g end : Bool) → b ≡ true → end ≡ false → (b && g && not end) ≡ g
+held_goes true true false h e = refl
+held_goes true false false h e = refl
+held_goes true g true h e = absurd cc
+held_goes false g end h e = absurd cc
 
 asks_of : (b : Bool) (c d : ClientContent) → d.settings ≡ c.settings → (cond b d c).settings ≡ c.settings
 asks_of true c d e = e
@@ -128,12 +131,13 @@ ticked c new at salt out goes held =
     let same : list_any (goes_of (Lapse at) scope.All (ias_of c.kept)) c.settings.asks ≡ p.goes =
     ap (λ s. list_any (goes_of (Lapse at) s (ias_of c.kept)) c.settings.asks) (sym whole) in
     let lapsed_kept : (lapsed at p c).kept ≡ cond p.goes (cond p.stays (option_map (thinned_lease (Lapse at)) c.kept) c.kept) c.kept =
-    kept_of (holds c.state && p.goes) c _
-    ∙ ap (λ b. cond b (cond p.stays (option_map (thinned_lease (Lapse at)) c.kept) c.kept) c.kept) (both_true (holds c.state) h p.goes) in
+    kept_of (holds c.state && p.goes && not (is_at_end at c.state)) c _
+    ∙ ap (λ b. cond b (cond p.stays (option_map (thinned_lease (Lapse at)) c.kept) c.kept) c.kept)
+    (held_goes (holds c.state) p.goes (is_at_end at c.state) h (ticks_before_end turn (dates_in c) p c.state holds_step)) in
     let kept : new.kept ≡ kept_after step.keep None (cond p.goes (cond p.stays (option_map (thinned_lease (Lapse at)) c.kept) c.kept) c.kept) =
     ap (λ (n : ClientContent). n.kept) goes.goes_on ∙ ap (kept_after step.keep None) lapsed_kept in
     let settings : new.settings ≡ c.settings =
-    ap (λ (n : ClientContent). n.settings) goes.goes_on ∙ asks_of (holds c.state && p.goes) c _ refl in
+    ap (λ (n : ClientContent). n.settings) goes.goes_on ∙ asks_of (holds c.state && p.goes && not (is_at_end at c.state)) c _ refl in
     (λ i. list_any (goes_of (Lapse at) scope.All (ias_of (kept i))) (settings i).asks)
     ∙ after_step at c.settings.asks c.kept step.keep p.goes p.stays same
     (λ g s. (tick_facts turn (dates_in c) c.kept p c.state).ends (and_from p.goes (not p.stays) g (not_from_false p.stays s)) holds_step))
@@ -188,7 +192,8 @@ lapse_awaited dates Bound at h e =
 lapse_awaited dates (Renewing exchange) at h e =
     (earlier_not dates.t2 dates.lapse at (earlier_not (Some exchange.due) (earlier dates.t2 dates.lapse) at e).1).1
 lapse_awaited dates (Rebinding exchange) at h e = (earlier_not (Some exchange.due) dates.lapse at e).1
-lapse_awaited dates (Restarting exchange end since) at h e = absurd cc
+lapse_awaited dates (Restarting exchange end since true) at h e = (earlier_not (Some (min exchange.due end)) dates.lapse at e).1
+lapse_awaited dates (Restarting exchange end since false) at h e = absurd cc
 lapse_awaited dates (Declining exchange) at h e = (earlier_not (Some exchange.due) dates.lapse at e).1
 
 kept_rest : (at : ℕ) (kept : Option Lease6Content) (asks : List IaAsk) → is_due (dates_of scope.All kept asks).lapse at ≡ false

@@ -1,5 +1,6 @@
 -- The items that are held are of IAs that are asked for.
-use Rattle.std.proofs.Common.{◌≡◌, ℕ, Bool, true, false, cond, ◌&&◌, ◌||◌, List, [], ◌∷◌, Option, Some, None, option_map, refl, sym, subst}
+use Rattle.std.proofs.Common.{◌≡◌, ℕ, Bool, true, false, not, cond, ◌&&◌, ◌||◌, List, [], ◌∷◌, Option, Some, None, option_map, refl, sym, subst}
+use Rattle.std.specs.List.{flat_map}
 use Rattle.std.specs.Option.{option_and_then}
 use Rattle.net_types.proofs.AllLaws.{all_join, all_map}
 use Rattle.net_types.proofs.CaseLaws.{gated, split}
@@ -25,14 +26,14 @@ use Rattle.v6_client.specs.declared.states.Step6.{Step6}
 use Rattle.v6_client.specs.declared.turn.Turn6.{Turn6}
 use Rattle.v6_client.specs.Answers.{advertise_answer, counts, granted, is_taken, learnt, meeting_of, server_of}
 use Rattle.v6_client.specs.Bounds.{ask_key}
-use Rattle.v6_client.specs.Calls.{IsAnswered, answer_in, dates_in, fresh_in, parting_begun}
-use Rattle.v6_client.specs.Clients.{ClientContent, holds, turn_of}
+use Rattle.v6_client.specs.Calls.{IsAnswered, answer_in, dates_in, fresh_in, parting_begun, pruned, pruned_lease, stands_at}
+use Rattle.v6_client.specs.Clients.{ClientContent, holds, is_at_end, is_restarting, turn_of}
 use Rattle.v6_client.specs.Hearing.{heard_row, is_kept_offer}
-use Rattle.v6_client.specs.Inputs.{duplicate_row, off_row}
-use Rattle.v6_client.specs.Items.{ia_with, ias_of, is_nonempty, staying, thinned, without}
-use Rattle.v6_client.specs.Moves.{IsStep6, OutContent, given_up, kept_after, kept_live, lapsed, moved, parting_at, thinned_lease}
+use Rattle.v6_client.specs.Inputs.{begin_row, duplicate_row, off_row}
+use Rattle.v6_client.specs.Items.{asked_at, ia_with, ias_of, is_nonempty, staying, thinned, without}
+use Rattle.v6_client.specs.Moves.{IsStep6, OutContent, given_up, kept_after, kept_left, lapsed, moved, parting_at, thinned_lease}
 use Rattle.v6_client.specs.OwnLeases.{AreAsked, CarriersOwn, DuplicatesOwn, GrantsOwn, HeldOwn, MadeOwn, MessagesOwn, OwnIas, RebindsOwn, ReleasesOwn, TicksOwn, is_asked}
-use Rattle.v6_client.specs.Taking.{Meeting, ia_granted, ias_granted, taken_by}
+use Rattle.v6_client.specs.Taking.{Meeting, ias_granted, taken_by}
 use Rattle.v6_client.specs.Ticks.{tick_row}
 use Rattle.v6_client.proofs.Lapsing.{start_row}
 use Rattle.v6_client.proofs.RowFacts.{begin_facts, duplicate_facts, heard_facts, rebind_facts, release_facts}
@@ -55,12 +56,12 @@ thinned_asked : (asks : List IaAsk) (cause : Cause6) (kept : Option Lease6Conten
 thinned_asked asks cause None all = tt
 thinned_asked asks cause (Some lease) all = without_asked asks cause lease.ias all
 
-live_asked : (asks : List IaAsk) (at : ℕ) (parting : Parting6) (kept : Option Lease6Content) → AreAsked asks (ias_of kept)
-    → AreAsked asks (ias_of (kept_live at parting kept))
-live_asked asks at parting kept all =
-    gated (λ lease. AreAsked asks (ias_of lease)) parting.stays _ _ (thinned_asked asks (Lapse at) kept all) all
+left_asked : (asks : List IaAsk) (cause : Cause6) (parting : Parting6) (kept : Option Lease6Content) → AreAsked asks (ias_of kept)
+    → AreAsked asks (ias_of (kept_left cause parting kept))
+left_asked asks cause parting kept all =
+    gated (λ lease. AreAsked asks (ias_of lease)) parting.stays _ _ (thinned_asked asks cause kept all) all
 
--- ---- the lease that a Reply grants
+-- ---- the lease that a Reply grants, or that a client stands on
 
 same_kind : (kind : IaKind) → is_same_kind kind kind ≡ true
 same_kind Na = refl
@@ -80,13 +81,24 @@ its_own ask asks [] = tt
 its_own ask asks (item ∷ items) =
     (first_true _ _ (and_from _ _ (same_kind ask.kind) (eq-eqb ask.iaid ask.iaid refl)), tt)
 
-granted_asked : (m : Meeting) (asks : List IaAsk) → AreAsked asks (ias_granted m asks)
-granted_asked m [] = tt
-granted_asked m (ask ∷ asks) =
-    all_join (λ ia. is_asked (ask ∷ asks) ia ≡ true) (ia_granted m ask) (ias_granted m asks)
-    (its_own ask asks (taken_by m ask).items)
+-- IAs of what is asked for, whatever their items
+abbrev with_items : (IaAsk → List Item6) → IaAsk → List IaLeaseContent
+with_items items ask = ia_with ask.kind ask.iaid (items ask)
+
+each_asked : (items : IaAsk → List Item6) (asks : List IaAsk) → AreAsked asks (flat_map (with_items items) asks)
+each_asked items [] = tt
+each_asked items (ask ∷ asks) =
+    all_join (λ ia. is_asked (ask ∷ asks) ia ≡ true) (with_items items ask) (flat_map (with_items items) asks)
+    (its_own ask asks (items ask))
     (all_map (λ ia. is_asked asks ia ≡ true) (λ ia. is_asked (ask ∷ asks) ia ≡ true)
-    (λ ia e. other_true (is_ia (ask_key ask) ia) (is_asked asks ia) e) (ias_granted m asks) (granted_asked m asks))
+    (λ ia e. other_true (is_ia (ask_key ask) ia) (is_asked asks ia) e) (flat_map (with_items items) asks) (each_asked items asks))
+
+granted_asked : (m : Meeting) (asks : List IaAsk) → AreAsked asks (ias_granted m asks)
+granted_asked m asks = each_asked (λ ask. (taken_by m ask).items) asks
+
+pruned_asked : (at : ℕ) (asks : List IaAsk) (kept : Option Lease6Content) → AreAsked asks (ias_of (option_map (pruned_lease at asks) kept))
+pruned_asked at asks None = tt
+pruned_asked at asks (Some lease) = each_asked (λ ask. staying (Lapse at) ask.kind (asked_at ask lease.ias)) asks
 
 from_server : (at : ℕ) (c : ClientContent) (message : Content6) (server : Option (List ℕ))
     → AreAsked c.settings.asks (ias_of (option_and_then (granted at c message) server))
@@ -155,8 +167,8 @@ ticks_own c new at salt out own goes =
     let step : Step6 = tick_row (turn_of at salt c) (dates_in c) p c.state in
     let row : Starts c.state step = tick_starts (turn_of at salt c) (dates_in c) p c.state in
     go_own step (lapsed at p c) new out
-    (gated (IsStart step) (holds c.state && p.goes) _ _
-    (record { starts = row; own = λ h. live_asked c.settings.asks at p c.kept (own h) }) (record { starts = row; own = own })) goes
+    (gated (IsStart step) (holds c.state && p.goes && not (is_at_end at c.state)) _ _
+    (record { starts = row; own = λ h. left_asked c.settings.asks (Lapse at) p c.kept (own h) }) (record { starts = row; own = own })) goes
 
 pub duplicates_own : DuplicatesOwn
 duplicates_own c new address at salt out own goes =
@@ -165,7 +177,9 @@ duplicates_own c new address at salt out own goes =
     let row : Starts c.state step = (duplicate_facts (turn_of at salt c) p c.kept c.state).row.starts in
     go_own step (given_up address p c) new out
     (gated (IsStart step) (holds c.state && p.goes) _ _
-    (record { starts = row; own = λ h. thinned_asked c.settings.asks (Duplicate address) c.kept (own h) })
+    (gated (IsStart step) (is_restarting c.state) _ _
+    (record { starts = row; own = λ h. left_asked c.settings.asks (Duplicate address) p c.kept (own h) })
+    (record { starts = row; own = λ h. thinned_asked c.settings.asks (Duplicate address) c.kept (own h) }))
     (record { starts = row; own = own })) goes
 
 pub answers_own : (kind : ServerKind6) (c new : ClientContent) (message : Content6) (at salt : ℕ) (out : OutContent) → OwnIas c
@@ -186,9 +200,22 @@ messages_own c new message at salt out own hears =
     (λ counted. answers_own message.kind (learnt message.sol_max c) new message at salt out own (hears.goes counted))
     (λ ignored. subst (λ (n : ClientContent). OwnIas n) (sym (hears.ignores ignored).0) own)
 
+-- what a client stands on is asked for
+begun_own : (stands : Bool) (step : Step6) (c new : ClientContent) (at : ℕ) (out : OutContent)
+    → (stands ≡ false → Starts c.state step) → OwnIas c → IsStep6 step None (pruned at stands c) new out → OwnIas new
+begun_own true step c new at out starts own goes =
+    let after : OwnIas (moved step None (pruned at true c)) =
+    λ h. kept_own c.settings.asks step.keep None (option_map (pruned_lease at c.settings.asks) c.kept) tt
+    (λ k. pruned_asked at c.settings.asks c.kept) in
+    subst (λ (n : ClientContent). OwnIas n) (sym goes.goes_on) after
+begun_own false step c new at out starts own goes = step_own step None c new out tt (starts refl) own goes
+
 pub carriers_own : CarriersOwn
 carriers_own c new Up at salt out own goes =
-    step_own _ None c new out tt (begin_facts (turn_of at salt c) (parting_begun at c) c.kept c.state).starts own goes
+    let turn : Turn6 = turn_of at salt c in
+    let p : Parting6 = parting_begun at c in
+    begun_own (stands_at at c) (begin_row turn (stands_at at c) p c.state) c new at out
+    (λ e. subst (λ stands. Starts c.state (begin_row turn stands p c.state)) (sym e) (begin_facts turn p c.kept c.state).starts) own goes
 carriers_own c new Down at salt out own goes = step_own (off_row (turn_of at salt c)) None c new out tt (λ h k. absurd cc) own goes
 
 pub releases_own : ReleasesOwn

@@ -1,5 +1,6 @@
 -- Where a call has no news, the leases of the client are as before.
-use Rattle.std.proofs.Common.{◌≡◌, ℕ, Bool, true, false, cond, ◌&&◌, Option, None, refl, sym, ap, ◌∙◌}
+use Rattle.std.proofs.Common.{◌≡◌, ℕ, Bool, true, false, not, cond, ◌&&◌, Option, None, refl, sym, ap, ◌∙◌}
+use Rattle.std.proofs.lemmas.Bool.{and_parts}
 use Rattle.machine.specs.Moment.{is_due}
 use Rattle.net_types.proofs.CaseLaws.{gated, split}
 use Rattle.net_types.specs.declared.address.Ip6.{Ip6}
@@ -17,15 +18,15 @@ use Rattle.v6_client.specs.declared.states.Step6.{Step6}
 use Rattle.v6_client.specs.declared.states.Tell6.{Tell6}
 use Rattle.v6_client.specs.declared.turn.Turn6.{Turn6}
 use Rattle.v6_client.specs.Answers.{advertise_answer, counts, learnt}
-use Rattle.v6_client.specs.Calls.{IsAnswered, answer_in, dates_in, due_of, fresh_in, parting_begun}
-use Rattle.v6_client.specs.Clients.{ClientContent, held_of, holds, turn_of}
+use Rattle.v6_client.specs.Calls.{IsAnswered, answer_in, dates_in, due_of, fresh_in, has_origin, parting_begun, pruned, stands_at}
+use Rattle.v6_client.specs.Clients.{ClientContent, held_of, holds, is_at_end, is_off, turn_of}
 use Rattle.v6_client.specs.Hearing.{heard_row, is_kept_offer}
-use Rattle.v6_client.specs.Inputs.{duplicate_row}
+use Rattle.v6_client.specs.Inputs.{begin_row, duplicate_row}
 use Rattle.v6_client.specs.Moves.{IsStep6, OutContent, given_up, kept_after, lapsed, parting_at}
 use Rattle.v6_client.specs.QuietLaws.{AllRunsTell, BeginsTell, DuplicatesTell, KeepsLeases, MessagesTell, RebindsTell, ReleasesTell, RunTells, TellsChange, TicksTell}
 use Rattle.v6_client.specs.Runs.{answered, carrier_turned, contested_turned, hears_turned, rebind_turned, release_turned, rested, tick_turned}
 use Rattle.v6_client.specs.Ticks.{tick_row}
-use Rattle.v6_client.proofs.RowFacts.{GivingFacts, Leaves, TickFacts, begin_facts, duplicate_facts, heard_facts, held_in, rebind_facts, release_facts, tick_facts}
+use Rattle.v6_client.proofs.RowFacts.{GivingFacts, Leaves, TickFacts, begin_facts, duplicate_facts, heard_facts, held_in, rebind_facts, release_facts, stood_tells, tick_facts}
 
 -- ---- calls
 
@@ -47,6 +48,10 @@ unless : (b : Bool) (step : Step6) (c d new : ClientContent) (out : OutContent) 
 unless true step c d new out e goes = absurd cc
 unless false step c d new out e goes = goes
 
+neither : (one other : Bool) → one ≡ false → (one && other) ≡ false
+neither true other e = absurd cc
+neither false other e = refl
+
 news_of : (step : Step6) (c new : ClientContent) (out : OutContent) → IsStep6 step None c new out → out.news ≡ news.Nothing
     → step.news ≡ news.Nothing
 news_of step c new out goes none = sym (ap (λ (o : OutContent). o.news) goes.answers) ∙ none
@@ -59,7 +64,8 @@ ticks_tell c new at salt out goes none =
     let facts : TickFacts p c.kept c.state step = tick_facts turn (dates_in c) c.kept p c.state in
     split (holds c.state && p.goes)
     (λ e. absurd (facts.told e (news_of step (lapsed at p c) new out goes none)))
-    (λ e. step_tells step None c new out (unless (holds c.state && p.goes) step c _ new out e goes) (facts.quiet e) none)
+    (λ e. step_tells step None c new out
+    (unless (holds c.state && p.goes && not (is_at_end at c.state)) step c _ new out (neither _ _ e) goes) (facts.quiet e) none)
 
 pub duplicates_tell : DuplicatesTell
 duplicates_tell c new address at salt out goes none =
@@ -100,9 +106,21 @@ messages_tell c new message at salt out hears none =
     let same : new ≡ c = (hears.ignores ignored).0 in
     (ap (λ (n : ClientContent). n.kept) same, ap held_of same))
 
+-- a client that stands tells so, and another one changes no lease
+begun_tells : (stands : Bool) (c new : ClientContent) (at salt : ℕ) (out : OutContent) → stands_at at c ≡ stands
+    → IsStep6 (begin_row (turn_of at salt c) stands (parting_begun at c) c.state) None (pruned at stands c) new out → TellsChange c new out
+begun_tells true c new at salt out e goes none =
+    let p : Parting6 = parting_begun at c in
+    let origin = and_parts (is_off c.state && c.fresh && c.settings.site.persistent && has_origin c.kept) p.stays e in
+    let wish = and_parts (is_off c.state && c.fresh && c.settings.site.persistent) (has_origin c.kept) origin.0 in
+    let first = and_parts (is_off c.state && c.fresh) c.settings.site.persistent wish.0 in
+    let off = and_parts (is_off c.state) c.fresh first.0 in
+    absurd (stood_tells (turn_of at salt c) p c.state off.0 origin.1 (news_of _ (pruned at true c) new out goes none))
+begun_tells false c new at salt out e goes none =
+    step_tells _ None c new out goes (begin_facts (turn_of at salt c) (parting_begun at c) c.kept c.state).quiet none
+
 pub begins_tell : BeginsTell
-begins_tell c new at salt out goes =
-    step_tells _ None c new out goes (begin_facts (turn_of at salt c) (parting_begun at c) c.kept c.state).quiet
+begins_tell c new at salt out goes = begun_tells (stands_at at c) c new at salt out refl goes
 
 pub rebinds_tell : RebindsTell
 rebinds_tell c new at salt out goes =

@@ -2,7 +2,7 @@
 -- follows from it.
 use Rattle.std.proofs.Common.{◌≡◌, ℕ, Bool, true, false, cond, ◌&&◌, Option, Some, None, is_some, refl, sym, ap, ◌∙◌, leb}
 use Rattle.machine.specs.Moment.{is_due}
-use Rattle.net_types.proofs.CaseLaws.{gated}
+use Rattle.net_types.proofs.CaseLaws.{gated, split}
 use Rattle.v6_retrans.specs.declared.parameters.TheConstants.{REQUEST, DECLINE}
 use Rattle.lease6_text.specs.Leases.{Lease6Content}
 use Rattle.v6_client.specs.declared.exchange.Exchange6.{Exchange6}
@@ -19,12 +19,12 @@ use Rattle.v6_client.specs.declared.states.Step6.{Step6}
 use Rattle.v6_client.specs.declared.states.Tell6.{Tell6}
 use Rattle.v6_client.specs.declared.states.Tell6.TheVariants.{Server, Nobody}
 use Rattle.v6_client.specs.declared.turn.Turn6.{Turn6}
-use Rattle.v6_client.specs.Clients.{holds}
+use Rattle.v6_client.specs.Clients.{holds, is_at_end, is_off}
 use Rattle.v6_client.specs.Exchanges.{is_again_due, is_used_up}
 use Rattle.v6_client.specs.Hearing.{declined, heard_row, is_better, is_taken_at_once, replied, solicited}
 use Rattle.v6_client.specs.Inputs.{begin_row, duplicate_row, rebind_row, release_row}
-use Rattle.v6_client.specs.Steps.{expires, is_last, loses, news_or_changed, tells_parting, to_waiting}
-use Rattle.v6_client.specs.Ticks.{tick_row}
+use Rattle.v6_client.specs.Steps.{emptied, expires, is_last, news_or_changed, tells_parting, to_waiting, unanswered}
+use Rattle.v6_client.specs.Ticks.{restarting_tick, tick_row}
 
 abbrev pub held_in : State6 → Option Lease6Content → Option Lease6Content
 held_in state kept = cond (holds state) kept None
@@ -114,6 +114,10 @@ declined_facts turn exchange kept answer.Keeps = stays refl refl (λ h. h)
 declined_facts turn exchange kept answer.Nothing = stays refl refl (λ h. h)
 declined_facts turn exchange kept (answer.Offer preference) = stays refl refl (λ h. h)
 
+-- no item of a restart is left
+emptied_facts : (turn : Turn6) (stands : Bool) (kept : Option Lease6Content) (state : State6) → RowFacts kept state (emptied turn stands)
+emptied_facts turn stands kept state = gated (RowFacts kept state) stands _ _ (ends (λ e. cc) refl) (ends (λ e. cc) refl)
+
 pub heard_facts : (turn : Turn6) (a : Answer6) (kept : Option Lease6Content) (state : State6) → RowFacts kept state (heard_row turn a state)
 heard_facts turn a kept Off = stays refl refl (λ h. h)
 heard_facts turn a kept (Waiting due) = stays refl refl (λ h. h)
@@ -125,8 +129,9 @@ heard_facts turn a kept (Renewing exchange) =
     replied_facts turn news.Renew (expires turn) kept (Renewing exchange) a (λ e. cc) (ends (λ e. cc) refl)
 heard_facts turn a kept (Rebinding exchange) =
     replied_facts turn news.Rebind (expires turn) kept (Rebinding exchange) a (λ e. cc) (ends (λ e. cc) refl)
-heard_facts turn a kept (Restarting exchange end since) =
-    replied_facts turn news.Reboot (loses turn) kept (Restarting exchange end since) a (λ e. cc) (ends (λ e. cc) refl)
+heard_facts turn a kept (Restarting exchange end since stands) =
+    replied_facts turn news.Reboot (emptied turn stands) kept (Restarting exchange end since stands) a (λ e. cc)
+    (emptied_facts turn stands kept (Restarting exchange end since stands))
 heard_facts turn a kept (Declining exchange) = declined_facts turn exchange kept a
 
 -- ---- the other inputs
@@ -153,7 +158,10 @@ duplicate_by turn true stay kept (Renewing exchange) = record { told = λ both e
 duplicate_by turn false stay kept (Renewing exchange) = gives_none refl (stays refl refl (λ h. h))
 duplicate_by turn true stay kept (Rebinding exchange) = record { told = λ both e. cc; row = tells (λ e. cc) (λ h. refl) }
 duplicate_by turn false stay kept (Rebinding exchange) = gives_none refl (stays refl refl (λ h. h))
-duplicate_by turn goes stay kept (Restarting exchange end since) = gives_none refl (stays refl refl (λ h. h))
+duplicate_by turn true true kept (Restarting exchange end since true) = record { told = λ both e. cc; row = tells (λ e. cc) (λ h. refl) }
+duplicate_by turn true false kept (Restarting exchange end since true) = record { told = λ both e. cc; row = ends (λ e. cc) refl }
+duplicate_by turn false stay kept (Restarting exchange end since true) = gives_none refl (stays refl refl (λ h. h))
+duplicate_by turn goes stay kept (Restarting exchange end since false) = gives_none refl (stays refl refl (λ h. h))
 duplicate_by turn true stay kept (Declining exchange) = record { told = λ both e. cc; row = tells (λ e. cc) (λ h. refl) }
 duplicate_by turn false stay kept (Declining exchange) = gives_none refl (stays refl refl (λ h. h))
 
@@ -161,28 +169,50 @@ pub duplicate_facts : (turn : Turn6) (parting : Parting6) (kept : Option Lease6C
     → GivingFacts parting kept state (duplicate_row turn parting state)
 duplicate_facts turn parting kept state = duplicate_by turn parting.goes parting.stays kept state
 
+-- a client that doesn't stand on its lease
+abbrev Spent : Option Lease6Content → Step6 → Type 0
+Spent kept step = RowFacts kept Off (record step { spends = true })
+
 pub begin_facts : (turn : Turn6) (parting : Parting6) (kept : Option Lease6Content) (state : State6)
-    → RowFacts kept state (begin_row turn parting state)
-begin_facts turn parting kept Off = gated (RowFacts kept Off) parting.stays _ _ (stays refl refl (λ h. h)) (stays refl refl (λ h. h))
+    → RowFacts kept state (begin_row turn false parting state)
+begin_facts turn parting kept Off = gated (Spent kept) parting.stays _ _ (stays refl refl (λ h. h)) (stays refl refl (λ h. h))
 begin_facts turn parting kept (Waiting due) = stays refl refl (λ h. h)
 begin_facts turn parting kept (Soliciting exchange offer) = stays refl refl (λ h. h)
 begin_facts turn parting kept (Requesting exchange) = stays refl refl (λ h. h)
 begin_facts turn parting kept Bound = stays refl refl (λ h. h)
 begin_facts turn parting kept (Renewing exchange) = stays refl refl (λ h. h)
 begin_facts turn parting kept (Rebinding exchange) = stays refl refl (λ h. h)
-begin_facts turn parting kept (Restarting exchange end since) = stays refl refl (λ h. h)
+begin_facts turn parting kept (Restarting exchange end since stands) = stays refl refl (λ h. h)
 begin_facts turn parting kept (Declining exchange) = stays refl refl (λ h. h)
+
+-- a client that stands on it tells so
+stood_by : (turn : Turn6) (goes stay : Bool) (state : State6) → is_off state ≡ true → stay ≡ true
+    → IsTold (begin_row turn true (record { goes = goes; stays = stay }) state)
+stood_by turn goes true Off off e = λ n. cc
+stood_by turn goes false Off off e = absurd cc
+stood_by turn goes stay (Waiting due) off e = absurd cc
+stood_by turn goes stay (Soliciting exchange offer) off e = absurd cc
+stood_by turn goes stay (Requesting exchange) off e = absurd cc
+stood_by turn goes stay Bound off e = absurd cc
+stood_by turn goes stay (Renewing exchange) off e = absurd cc
+stood_by turn goes stay (Rebinding exchange) off e = absurd cc
+stood_by turn goes stay (Restarting exchange end since stands) off e = absurd cc
+stood_by turn goes stay (Declining exchange) off e = absurd cc
+
+pub stood_tells : (turn : Turn6) (parting : Parting6) (state : State6) → is_off state ≡ true → parting.stays ≡ true
+    → IsTold (begin_row turn true parting state)
+stood_tells turn parting state off e = stood_by turn parting.goes parting.stays state off e
 
 pub rebind_facts : (turn : Turn6) (parting : Parting6) (kept : Option Lease6Content) (state : State6)
     → RowFacts kept state (rebind_row turn parting state)
-rebind_facts turn parting kept Off = gated (RowFacts kept Off) parting.stays _ _ (stays refl refl (λ h. h)) (stays refl refl (λ h. h))
+rebind_facts turn parting kept Off = gated (Spent kept) parting.stays _ _ (stays refl refl (λ h. h)) (stays refl refl (λ h. h))
 rebind_facts turn parting kept (Waiting due) = stays refl refl (λ h. h)
 rebind_facts turn parting kept (Soliciting exchange offer) = stays refl refl (λ h. h)
 rebind_facts turn parting kept (Requesting exchange) = stays refl refl (λ h. h)
 rebind_facts turn parting kept Bound = stays refl refl (λ h. h)
 rebind_facts turn parting kept (Renewing exchange) = stays refl refl (λ h. h)
 rebind_facts turn parting kept (Rebinding exchange) = stays refl refl (λ h. h)
-rebind_facts turn parting kept (Restarting exchange end since) = stays refl refl (λ h. h)
+rebind_facts turn parting kept (Restarting exchange end since stands) = stays refl refl (λ h. h)
 rebind_facts turn parting kept (Declining exchange) = stays refl refl (λ h. h)
 
 -- where none is kept none is held in any state
@@ -201,7 +231,9 @@ release_facts turn tell kept (Requesting exchange) = stays refl refl (λ h. absu
 release_facts turn tell kept Bound = released_facts turn tell kept Bound refl
 release_facts turn tell kept (Renewing exchange) = released_facts turn tell kept (Renewing exchange) refl
 release_facts turn tell kept (Rebinding exchange) = released_facts turn tell kept (Rebinding exchange) refl
-release_facts turn tell kept (Restarting exchange end since) = stays refl refl (λ h. absurd cc)
+release_facts turn tell kept (Restarting exchange end since true) =
+    released_facts turn tell kept (Restarting exchange end since true) refl
+release_facts turn tell kept (Restarting exchange end since false) = stays refl refl (λ h. absurd cc)
 release_facts turn tell kept (Declining exchange) = released_facts turn tell kept (Declining exchange) refl
 
 -- ---- a tick
@@ -296,13 +328,24 @@ module _ (turn : Turn6) (dates : Dates6) (kept : Option Lease6Content) where
       (still refl (held_on refl refl))
 
   restarting_facts : (goes stay : Bool) (exchange : Exchange6) (end since : ℕ)
-      → Ticked goes stay (Restarting exchange end since) (row goes stay (Restarting exchange end since))
+      → Ticked goes stay (Restarting exchange end since false) (row goes stay (Restarting exchange end since false))
   restarting_facts goes stay exchange end since =
-      gated (Ticked goes stay (Restarting exchange end since)) (is_last (record { goes = goes; stays = stay })) _ _
+      let state : State6 = Restarting exchange end since false in
+      gated (Ticked goes stay state) (is_last (record { goes = goes; stays = stay })) _ _
       (idle refl refl (λ e. absurd cc))
-      (gated (Ticked goes stay (Restarting exchange end since)) (leb end turn.at) _ _ (idle refl refl (λ e. refl))
-      (gated (Ticked goes stay (Restarting exchange end since)) (is_again_due turn exchange) _ _ (idle refl refl (λ e. refl))
+      (gated (Ticked goes stay state) (leb end turn.at) _ _ (idle refl refl (λ e. refl))
+      (gated (Ticked goes stay state) (is_again_due turn exchange) _ _ (idle refl refl (λ e. refl))
       (idle refl refl (λ e. refl))))
+
+  standing_facts : (goes stay : Bool) (exchange : Exchange6) (end since : ℕ)
+      → Ticked goes stay (Restarting exchange end since true) (row goes stay (Restarting exchange end since true))
+  standing_facts true true exchange end since = going _ refl (λ s. absurd cc)
+  standing_facts true false exchange end since = going (expires turn) refl (λ s h. absurd cc)
+  standing_facts false stay exchange end since =
+      let state : State6 = Restarting exchange end since true in
+      gated (Ticked false stay state) (leb end turn.at) _ _ (still refl (λ e. absurd cc))
+      (gated (Ticked false stay state) (is_again_due turn exchange) _ _ (still refl (held_on refl refl))
+      (still refl (held_on refl refl)))
 
   declining_facts : (goes stay : Bool) (exchange : Exchange6) → Ticked goes stay (Declining exchange) (row goes stay (Declining exchange))
   declining_facts true true exchange = going _ refl (λ s. absurd cc)
@@ -327,8 +370,47 @@ module _ (turn : Turn6) (dates : Dates6) (kept : Option Lease6Content) where
   facts goes stay Bound = bound_facts goes stay
   facts goes stay (Renewing exchange) = renewing_facts goes stay exchange
   facts goes stay (Rebinding exchange) = rebinding_facts goes stay exchange
-  facts goes stay (Restarting exchange end since) = restarting_facts goes stay exchange end since
+  facts goes stay (Restarting exchange end since true) = standing_facts goes stay exchange end since
+  facts goes stay (Restarting exchange end since false) = restarting_facts goes stay exchange end since
   facts goes stay (Declining exchange) = declining_facts goes stay exchange
 
   pub tick_facts : (parting : Parting6) (state : State6) → TickFacts parting kept state (tick_row turn dates parting state)
   tick_facts parting state = facts parting.goes parting.stays state
+
+-- ---- the end of a restart
+
+-- the first of two arms
+first_arm : (P : Step6 → Type 0) (b : Bool) (one other : Step6) → b ≡ true → P one → P (cond b one other)
+first_arm P true one other e p = p
+first_arm P false one other e p = absurd cc
+
+abbrev HoldsNone : Step6 → Type 0
+HoldsNone step = holds step.state ≡ false
+
+-- no item is held afterwards
+ended_holds : (turn : Turn6) (parting : Parting6) (exchange : Exchange6) (end since : ℕ) → leb end turn.at ≡ true
+    → HoldsNone (restarting_tick turn parting exchange end since true)
+ended_holds turn parting exchange end since e =
+    gated HoldsNone (is_last parting) (emptied turn true) _ refl (first_arm HoldsNone (leb end turn.at) (unanswered turn true) _ e refl)
+
+told_holds : (parting : Parting6) (step : Step6) → HoldsNone step → HoldsNone (tells_parting parting step)
+told_holds parting step none = gated HoldsNone parting.goes (record step { news = news_or_changed step.news }) step none none
+
+-- where items are held after a tick, no restart was at its end
+pub ticks_before_end : (turn : Turn6) (dates : Dates6) (parting : Parting6) (state : State6)
+    → holds (tick_row turn dates parting state).state ≡ true → is_at_end turn.at state ≡ false
+ticks_before_end turn dates parting Off h = refl
+ticks_before_end turn dates parting (Waiting due) h = refl
+ticks_before_end turn dates parting (Soliciting exchange offer) h = refl
+ticks_before_end turn dates parting (Requesting exchange) h = refl
+ticks_before_end turn dates parting Bound h = refl
+ticks_before_end turn dates parting (Renewing exchange) h = refl
+ticks_before_end turn dates parting (Rebinding exchange) h = refl
+ticks_before_end turn dates parting (Restarting exchange end since true) h =
+    split (leb end turn.at)
+    (λ e. absurd (both_true _ (told_holds parting (restarting_tick turn parting exchange end since true)
+    (ended_holds turn parting exchange end since e)) h))
+    (λ e. e)
+ticks_before_end turn dates parting (Restarting exchange end since false) h =
+    absurd (both_true _ ((tick_facts turn dates None parting (Restarting exchange end since false)).none refl) h)
+ticks_before_end turn dates parting (Declining exchange) h = refl

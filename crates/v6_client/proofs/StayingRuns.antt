@@ -1,5 +1,5 @@
 -- What stays so of a client whatever call comes.
-use Rattle.std.proofs.Common.{◌≡◌, ℕ, ◌≤◌, ◌&&◌, Option, Some, None, IfSome, refl, arith, leb}
+use Rattle.std.proofs.Common.{◌≡◌, ℕ, ◌≤◌, Bool, not, ◌&&◌, Option, Some, None, IfSome, refl, arith, leb}
 use Rattle.std.proofs.lemmas.Bool.{and_parts, leb-true}
 use Rattle.machine.specs.Moment.{is_due}
 use Rattle.net_types.proofs.CaseLaws.{gated, split}
@@ -11,6 +11,7 @@ use Rattle.lease6_text.specs.Bounds.{FitsLease6}
 use Rattle.lease6_text.specs.Leases.{Lease6Content}
 use Rattle.v6_client.specs.declared.answers.TheConstants.{LEAST_SOL_MAX, MOST_SOL_MAX}
 use Rattle.v6_client.specs.declared.states.Carrier6.{Carrier6}
+use Rattle.v6_client.specs.declared.states.Carrier6.TheVariants.{Up, Down}
 use Rattle.v6_client.specs.declared.states.Cause6.TheVariants.{Lapse, Duplicate}
 use Rattle.v6_client.specs.declared.states.Keep6.{Keep6}
 use Rattle.v6_client.specs.declared.states.Keep6.TheVariants.{Stays, Clears, Takes}
@@ -18,8 +19,8 @@ use Rattle.v6_client.specs.declared.states.Parting6.{Parting6}
 use Rattle.v6_client.specs.declared.states.Step6.{Step6}
 use Rattle.v6_client.specs.declared.states.Tell6.{Tell6}
 use Rattle.v6_client.specs.Answers.{advertise_answer, advertised, counts, learnt, sol_max_with}
-use Rattle.v6_client.specs.Calls.{answer_in, carrier_step, dates_in, due_of, fresh_in, rebind_step, release_step}
-use Rattle.v6_client.specs.Clients.{ClientContent, holds, turn_of}
+use Rattle.v6_client.specs.Calls.{answer_in, carrier_step, dates_in, due_of, fresh_in, pruned, rebind_step, release_step, stands_at}
+use Rattle.v6_client.specs.Clients.{ClientContent, holds, is_at_end, is_restarting, turn_of}
 use Rattle.v6_client.specs.Hearing.{heard_row, is_kept_offer}
 use Rattle.v6_client.specs.Inputs.{duplicate_row}
 use Rattle.v6_client.specs.Moves.{given_up, kept_after, lapsed, moved, parting_at}
@@ -28,7 +29,7 @@ use Rattle.v6_client.specs.Runs.{Turned6, answered, carrier_turned, contested_tu
 use Rattle.v6_client.specs.RunsStay.{GrantsFitting, OwnIasStay, SettingsStay, SoundStays}
 use Rattle.v6_client.specs.Sound.{IsSound}
 use Rattle.v6_client.specs.Ticks.{tick_row}
-use Rattle.v6_client.proofs.LeaseFits.{live_fits, thinned_fits}
+use Rattle.v6_client.proofs.LeaseFits.{left_fits, pruned_fits, thinned_fits}
 use Rattle.v6_client.proofs.OwnGrants.{answers_own, carriers_own, duplicates_own, rebinds_own, releases_own, ticks_own}
 
 -- ---- the settings
@@ -40,7 +41,7 @@ tick_settings : (c : ClientContent) (at salt : ℕ) → SameSettings c (tick_tur
 unfolding tick_turned
 tick_settings c at salt =
     gated (SameSettings c) (is_due (due_of c) at) _ _
-    (gated (λ (d : ClientContent). d.settings ≡ c.settings) (holds c.state && (parting_at (Lapse at) c).goes) _ _ refl refl) refl
+    (gated (λ (d : ClientContent). d.settings ≡ c.settings) (holds c.state && (parting_at (Lapse at) c).goes && not (is_at_end at c.state)) _ _ refl refl) refl
 
 answer_settings : (kind : ServerKind6) (c : ClientContent) (message : Content6) (at salt : ℕ) → SameSettings c (answered at salt message kind c)
 answer_settings Advertise c message at salt =
@@ -55,11 +56,13 @@ message_settings c message at salt =
 duplicate_settings : (c : ClientContent) (address : Ip6) (at salt : ℕ) → SameSettings c (contested_turned address at salt c)
 unfolding contested_turned
 duplicate_settings c address at salt =
-    gated (λ (d : ClientContent). d.settings ≡ c.settings) (holds c.state && (parting_at (Duplicate address) c).goes) _ _ refl refl
+    gated (λ (d : ClientContent). d.settings ≡ c.settings) (holds c.state && (parting_at (Duplicate address) c).goes) _ _
+    (gated (λ (d : ClientContent). d.settings ≡ c.settings) (is_restarting c.state) _ _ refl refl) refl
 
 carrier_settings : (c : ClientContent) (carrier : Carrier6) (at salt : ℕ) → SameSettings c (carrier_turned carrier at salt c)
 unfolding carrier_turned
-carrier_settings c carrier at salt = refl
+carrier_settings c Up at salt = gated (λ (d : ClientContent). d.settings ≡ c.settings) (stands_at at c) _ _ refl refl
+carrier_settings c Down at salt = refl
 
 release_settings : (c : ClientContent) (tell : Tell6) (at salt : ℕ) → SameSettings c (release_turned tell at salt c)
 unfolding release_turned
@@ -143,13 +146,20 @@ moved_sound step fresh c granted sound = record {
 
 lapsed_sound : (at : ℕ) (parting : Parting6) (c : ClientContent) → IsSound c → IsSound (lapsed at parting c)
 lapsed_sound at parting c sound =
-    gated IsSound (holds c.state && parting.goes) _ _
-    (record { name = sound.name; asks = sound.asks; day = sound.day; kept = live_fits at parting c.kept sound.kept }) sound
+    gated IsSound (holds c.state && parting.goes && not (is_at_end at c.state)) _ _
+    (record { name = sound.name; asks = sound.asks; day = sound.day; kept = left_fits (Lapse at) parting c.kept sound.kept }) sound
 
 given_up_sound : (address : Ip6) (parting : Parting6) (c : ClientContent) → IsSound c → IsSound (given_up address parting c)
 given_up_sound address parting c sound =
     gated IsSound (holds c.state && parting.goes) _ _
-    (record { name = sound.name; asks = sound.asks; day = sound.day; kept = thinned_fits (Duplicate address) c.kept sound.kept }) sound
+    (gated IsSound (is_restarting c.state) _ _
+    (record { name = sound.name; asks = sound.asks; day = sound.day; kept = left_fits (Duplicate address) parting c.kept sound.kept })
+    (record { name = sound.name; asks = sound.asks; day = sound.day; kept = thinned_fits (Duplicate address) c.kept sound.kept })) sound
+
+pruned_sound : (at : ℕ) (stands : Bool) (c : ClientContent) → IsSound c → IsSound (pruned at stands c)
+pruned_sound at stands c sound =
+    gated IsSound stands _ _
+    (record { name = sound.name; asks = sound.asks; day = sound.day; kept = pruned_fits at c.settings.asks c.kept sound.asks sound.kept }) sound
 
 within_day : (told : Option ℕ) (before : ℕ) → before ≤ 86400000 → sol_max_with told before ≤ 86400000
 within_day None before day = day
@@ -203,7 +213,9 @@ duplicate_sound c address at salt sound =
 
 carrier_sound : (c : ClientContent) (carrier : Carrier6) (at salt : ℕ) → IsSound c → IsSound (carrier_turned carrier at salt c).client
 unfolding carrier_turned
-carrier_sound c carrier at salt sound = moved_sound (carrier_step carrier at salt c) None c tt sound
+carrier_sound c Up at salt sound =
+    moved_sound (carrier_step Up at salt c) None (pruned at (stands_at at c) c) tt (pruned_sound at (stands_at at c) c sound)
+carrier_sound c Down at salt sound = moved_sound (carrier_step Down at salt c) None c tt sound
 
 release_sound : (c : ClientContent) (tell : Tell6) (at salt : ℕ) → IsSound c → IsSound (release_turned tell at salt c).client
 unfolding release_turned

@@ -13,7 +13,7 @@ use Rattle.v6_client.specs.declared.states.State6.{State6}
 use Rattle.v6_client.specs.declared.states.State6.TheVariants.{Off, Waiting, Soliciting, Requesting, Bound, Renewing, Rebinding, Restarting, Declining}
 use Rattle.v6_client.specs.declared.times.TheConstants.{SECOND}
 use Rattle.v6_client.specs.Asking.{ias_offered}
-use Rattle.v6_client.specs.Clients.{ClientContent, PleaContent, scope_of}
+use Rattle.v6_client.specs.Clients.{ClientContent, PleaContent, met_scope}
 use Rattle.v6_client.specs.Hearing.{is_kept_offer}
 use Rattle.v6_client.specs.Reading.{serves}
 use Rattle.v6_client.specs.Saying.{lease_server, plea_server}
@@ -30,7 +30,7 @@ awaited last (Requesting exchange) = Some exchange.xid
 awaited last Bound = last
 awaited last (Renewing exchange) = Some exchange.xid
 awaited last (Rebinding exchange) = Some exchange.xid
-awaited last (Restarting exchange end since) = Some exchange.xid
+awaited last (Restarting exchange end since stands) = Some exchange.xid
 awaited last (Declining exchange) = Some exchange.xid
 
 abbrev pub is_awaited : (awaited : Option ℕ) → (xid : ℕ) → Bool
@@ -50,7 +50,7 @@ chosen (Requesting exchange) leased pleaded = pleaded
 chosen Bound leased pleaded = None
 chosen (Renewing exchange) leased pleaded = leased
 chosen (Rebinding exchange) leased pleaded = None
-chosen (Restarting exchange end since) leased pleaded = None
+chosen (Restarting exchange end since stands) leased pleaded = None
 chosen (Declining exchange) leased pleaded = pleaded
 
 -- two bytes and at most 128 more (RFC 8415, section 11.1)
@@ -93,7 +93,7 @@ takes_offers (Requesting exchange) = false
 takes_offers Bound = false
 takes_offers (Renewing exchange) = false
 takes_offers (Rebinding exchange) = false
-takes_offers (Restarting exchange end since) = false
+takes_offers (Restarting exchange end since stands) = false
 takes_offers (Declining exchange) = false
 
 abbrev pub advertise_answer : ClientContent → Content6 → Answer6
@@ -125,7 +125,7 @@ takes_replies rapid (Requesting exchange) = true
 takes_replies rapid Bound = false
 takes_replies rapid (Renewing exchange) = true
 takes_replies rapid (Rebinding exchange) = true
-takes_replies rapid (Restarting exchange end since) = true
+takes_replies rapid (Restarting exchange end since stands) = true
 takes_replies rapid (Declining exchange) = false
 
 abbrev pub is_taken : ClientContent → Content6 → Bool
@@ -134,7 +134,7 @@ is_taken c message =
 
 -- the Reply meets the client's own items
 abbrev pub meeting_of : (at : ℕ) → ClientContent → Content6 → Meeting
-meeting_of at c message = record { at = at; scope = scope_of c.state; kept = c.kept; ias = ias_in message.options }
+meeting_of at c message = record { at = at; scope = met_scope c.state; kept = c.kept; ias = ias_in message.options }
 
 abbrev pub granted : (at : ℕ) → ClientContent → Content6 → (server : List ℕ) → Option Lease6Content
 granted at c message server =

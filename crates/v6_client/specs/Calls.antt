@@ -1,10 +1,11 @@
 -- What each call of a client is: a step of the table.
-use Rattle.std.specs.Prelude.{◌≡◌, ℕ, true, false, Option, None, is_some}
+use Rattle.std.specs.Prelude.{◌≡◌, ℕ, Bool, true, false, ◌&&◌, List, Option, Some, None, is_some, option_map, if◌then◌else◌}
 use Rattle.net_types.specs.declared.address.Ip6.{Ip6}
 use Rattle.v6_message.specs.declared.kind.ServerKind6.{ServerKind6}
 use Rattle.v6_message.specs.declared.kind.ServerKind6.TheVariants.{Advertise, Reply}
 use Rattle.v6_message.specs.Replies.{Content6}
 use Rattle.lease6_text.specs.Leases.{Lease6Content}
+use Rattle.v6_client.specs.declared.settings.IaAsk.{IaAsk}
 use Rattle.v6_client.specs.declared.states.Answer6.{Answer6}
 use Rattle.v6_client.specs.declared.states.Carrier6.{Carrier6}
 use Rattle.v6_client.specs.declared.states.Carrier6.TheVariants.{Up, Down}
@@ -15,12 +16,12 @@ use Rattle.v6_client.specs.declared.states.Scope6.TheVariants as scope
 use Rattle.v6_client.specs.declared.states.Step6.{Step6}
 use Rattle.v6_client.specs.declared.states.Tell6.{Tell6}
 use Rattle.v6_client.specs.Answers.{advertise_answer, advertised, counts, fresh_of, is_taken, learnt, reply_answer}
-use Rattle.v6_client.specs.Clients.{ClientContent, is_declining, scope_of, turn_of}
+use Rattle.v6_client.specs.Clients.{ClientContent, is_declining, is_off, scope_of, turn_of}
 use Rattle.v6_client.specs.Due.{due_row}
 use Rattle.v6_client.specs.Hearing.{heard_row}
 use Rattle.v6_client.specs.Inputs.{begin_row, duplicate_row, off_row, rebind_row, release_row}
-use Rattle.v6_client.specs.Items.{dates_of, ias_of, parting_of}
-use Rattle.v6_client.specs.Moves.{IsQuiet, IsStep6, OutContent, given_up, lapsed, parting_at}
+use Rattle.v6_client.specs.Items.{dates_of, ias_of, parting_of, pruned_ias}
+use Rattle.v6_client.specs.Moves.{IsQuiet, IsStep6, OutContent, given_up, lapsed, lease_with, parting_at}
 use Rattle.v6_client.specs.Ticks.{tick_row}
 
 -- ---- moments
@@ -72,9 +73,36 @@ pub record Hears (at salt : ℕ) (message : Content6) (old new : ClientContent) 
 abbrev pub parting_begun : (at : ℕ) → ClientContent → Parting6
 parting_begun at c = parting_of (Lapse at) scope.All (ias_of c.kept) c.settings.asks
 
+abbrev pub has_origin : Option Lease6Content → Bool
+has_origin None = false
+has_origin (Some lease) = is_some lease.origin
+
+-- A client that begins for the first time stands on the lease that was read, where that is wished for, the lease tells its
+-- origin, and some of its items are valid. `parting` is of these.
+abbrev pub stands_by : Parting6 → ClientContent → Bool
+stands_by parting c = is_off c.state && c.fresh && c.settings.site.persistent && has_origin c.kept && parting.stays
+
+abbrev pub stands_at : (at : ℕ) → ClientContent → Bool
+stands_at at c = stands_by (parting_begun at c) c
+
+abbrev pub pruned_lease : (at : ℕ) → List IaAsk → Lease6Content → Lease6Content
+pruned_lease at asks lease = lease_with (pruned_ias at lease.ias asks) lease
+
+-- it holds the items that it asks for again, and keeps no others
+abbrev pub pruned : (at : ℕ) → (stands : Bool) → ClientContent → ClientContent
+pruned at stands c = if stands then record c { kept = option_map (pruned_lease at c.settings.asks) c.kept } else c
+
 abbrev pub carrier_step : Carrier6 → (at salt : ℕ) → ClientContent → Step6
-carrier_step Up at salt c = begin_row (turn_of at salt c) (parting_begun at c) c.state
+carrier_step Up at salt c = begin_row (turn_of at salt c) (stands_at at c) (parting_begun at c) c.state
 carrier_step Down at salt c = off_row (turn_of at salt c)
+
+abbrev pub carried_by : Carrier6 → (at : ℕ) → ClientContent → ClientContent
+carried_by Up at c = pruned at (stands_at at c) c
+carried_by Down at c = c
+
+-- a client that stands holds what is valid, and the client goes a step of the table
+abbrev pub IsCarried : Carrier6 → (at salt : ℕ) → (old new : ClientContent) → OutContent → Type 0
+IsCarried carrier at salt old new out = IsStep6 (carrier_step carrier at salt old) None (carried_by carrier at old) new out
 
 -- a held address goes, and the client goes a step of the table
 abbrev pub IsContested : Ip6 → (at salt : ℕ) → (old new : ClientContent) → OutContent → Type 0

@@ -14,5 +14,5 @@ due_row dates (Requesting exchange) = Some exchange.due
 due_row dates Bound = earlier dates.t1 (earlier dates.t2 dates.lapse)
 due_row dates (Renewing exchange) = earlier (Some exchange.due) (earlier dates.t2 dates.lapse)
 due_row dates (Rebinding exchange) = earlier (Some exchange.due) dates.lapse
-due_row dates (Restarting exchange end since) = earlier (Some (min exchange.due end)) dates.lapse
+due_row dates (Restarting exchange end since stands) = earlier (Some (min exchange.due end)) dates.lapse
 due_row dates (Declining exchange) = earlier (Some exchange.due) dates.lapse

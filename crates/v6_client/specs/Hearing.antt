@@ -10,7 +10,7 @@ use Rattle.v6_client.specs.declared.states.State6.TheVariants.{Off, Waiting, Sol
 use Rattle.v6_client.specs.declared.states.Step6.{Step6}
 use Rattle.v6_client.specs.declared.hearing.TheConstants.{HIGHEST_PREFERENCE}
 use Rattle.v6_client.specs.declared.turn.Turn6.{Turn6}
-use Rattle.v6_client.specs.Steps.{rests, to_waiting, requests, loses, expires, binds}
+use Rattle.v6_client.specs.Steps.{rests, to_waiting, requests, emptied, expires, binds}
 
 -- an offer of the highest preference, or one that comes after a second SOLICIT, is taken at once (section 18.2.9)
 abbrev pub is_taken_at_once : Exchange6 → (preference : ℕ) → Bool
@@ -65,6 +65,6 @@ heard_row turn answer (Requesting exchange) = replied turn news.Bound (to_waitin
 heard_row turn answer Bound = rests turn Bound
 heard_row turn answer (Renewing exchange) = replied turn news.Renew (expires turn) (Renewing exchange) answer
 heard_row turn answer (Rebinding exchange) = replied turn news.Rebind (expires turn) (Rebinding exchange) answer
-heard_row turn answer (Restarting exchange end since) =
-    replied turn news.Reboot (loses turn) (Restarting exchange end since) answer
+heard_row turn answer (Restarting exchange end since stands) =
+    replied turn news.Reboot (emptied turn stands) (Restarting exchange end since stands) answer
 heard_row turn answer (Declining exchange) = declined turn (Declining exchange) answer

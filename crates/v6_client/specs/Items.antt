@@ -76,6 +76,14 @@ thinned cause ia = ia_with ia.kind ia.iaid (staying cause ia.kind ia.items)
 abbrev pub without : Cause6 → List IaLeaseContent → List IaLeaseContent
 without cause ias = flat_map (thinned cause) ias
 
+-- ---- the lease that a client stands on: of the IAs that it asks for, in their order, what isn't over
+
+abbrev pub pruned_ia : (at : ℕ) → List IaLeaseContent → IaAsk → List IaLeaseContent
+pruned_ia at ias ask = ia_with ask.kind ask.iaid (staying (Lapse at) ask.kind (asked_at ask ias))
+
+abbrev pub pruned_ias : (at : ℕ) → List IaLeaseContent → List IaAsk → List IaLeaseContent
+pruned_ias at ias asks = flat_map (pruned_ia at ias) asks
+
 -- ---- their moments
 
 -- when the first of the items isn't valid any more

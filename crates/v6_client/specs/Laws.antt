@@ -6,12 +6,13 @@ use Rattle.v6_message.specs.declared.kind.ServerKind6.TheVariants.{Reply}
 use Rattle.v6_message.specs.Replies.{Content6}
 use Rattle.lease6_text.specs.Leases.{Lease6Content}
 use Rattle.v6_client.specs.declared.client.Out6.{Out6}
+use Rattle.v6_client.specs.declared.states.Carrier6.{Carrier6}
 use Rattle.v6_client.specs.declared.states.Cause6.{Cause6}
 use Rattle.v6_client.specs.declared.states.Cause6.TheVariants.{Lapse}
 use Rattle.v6_client.specs.declared.states.Scope6.TheVariants as scope
 use Rattle.v6_client.specs.declared.states.Step6.{Step6}
 use Rattle.v6_client.specs.Answers.{awaited, counts, is_taken, learnt}
-use Rattle.v6_client.specs.Calls.{Hears, IsTicked, fresh_in}
+use Rattle.v6_client.specs.Calls.{Hears, IsCarried, IsTicked, fresh_in, pruned_lease}
 use Rattle.v6_client.specs.Clients.{ClientContent, holds}
 use Rattle.v6_client.specs.Items.{goes_of, ias_of}
 use Rattle.v6_client.specs.Moves.{IsQuiet, IsStep6, OutContent, thinned_lease}
@@ -55,6 +56,12 @@ CameFrom cause kept lease = (kept ≡ Some lease) ⊎ (option_map (thinned_lease
 abbrev pub TicksBringNothing : Type 0
 TicksBringNothing = (c new : ClientContent) (at salt : ℕ) (out : OutContent) (lease : Lease6Content) → IsTicked at salt c new out
     → new.kept ≡ Some lease → CameFrom (Lapse at) c.kept lease
+
+-- A begin keeps what was kept, whole or as far as it is asked for and isn't over.
+abbrev pub BeginsBringNothing : Type 0
+BeginsBringNothing = (c new : ClientContent) (carrier : Carrier6) (at salt : ℕ) (out : OutContent) (lease : Lease6Content)
+    → IsCarried carrier at salt c new out → new.kept ≡ Some lease
+    → (c.kept ≡ Some lease) ⊎ (option_map (pruned_lease at c.settings.asks) c.kept ≡ Some lease)
 
 -- ---- the end of items
 

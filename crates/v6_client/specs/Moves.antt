@@ -1,5 +1,5 @@
 -- What a step of the table makes of a client, and what it says.
-use Rattle.std.specs.Prelude.{◌≡◌, ℕ, Bool, true, false, ◌&&◌, List, Option, None, option_map, if◌then◌else◌}
+use Rattle.std.specs.Prelude.{◌≡◌, ℕ, Bool, true, false, not, ◌&&◌, List, Option, None, option_map, if◌then◌else◌}
 use Rattle.net_types.specs.declared.address.Ip6.{Ip6}
 use Rattle.lease6_text.specs.Leases.{IaLeaseContent, Lease6Content, lease6_content}
 use Rattle.v6_client.specs.declared.client.Out6.{Out6}
@@ -15,7 +15,7 @@ use Rattle.v6_client.specs.declared.states.Scope6.TheVariants as scope
 use Rattle.v6_client.specs.declared.states.State6.{State6}
 use Rattle.v6_client.specs.declared.states.Step6.{Step6}
 use Rattle.v6_client.specs.Asking.{ias_asked, ias_lapsed}
-use Rattle.v6_client.specs.Clients.{ClientContent, PleaContent, holds, is_declining, pleads, scope_of}
+use Rattle.v6_client.specs.Clients.{ClientContent, PleaContent, holds, is_at_end, is_declining, is_restarting, pleads, scope_of}
 use Rattle.v6_client.specs.Items.{ias_of, parting_of, without}
 use Rattle.v6_client.specs.Saying.{SpokenContent, spoken_by, spoken_content}
 
@@ -63,6 +63,7 @@ moved step fresh c =
       state = step.state;
       kept = kept_after step.keep fresh c.kept;
       plea = plea_after step.state c.plea;
+      fresh = c.fresh && not step.spends;
     }
 
 abbrev pub told : Step6 → ClientContent → OutContent
@@ -88,31 +89,38 @@ pub record IsQuiet (out : OutContent) : Type 0 where
 abbrev pub parting_at : Cause6 → ClientContent → Parting6
 parting_at cause c = parting_of cause (scope_of c.state) (ias_of c.kept) c.settings.asks
 
-abbrev pub thinned_lease : Cause6 → Lease6Content → Lease6Content
-thinned_lease cause lease = record {
+-- the lease with these IAs
+abbrev pub lease_with : List IaLeaseContent → Lease6Content → Lease6Content
+lease_with ias lease = record {
   origin = lease.origin;
   name = lease.name;
   server = lease.server;
   t1 = lease.t1;
   t2 = lease.t2;
-  ias = without cause lease.ias;
+  ias = ias;
   values = lease.values;
 }
 
--- the lease without what is over, where some items stay
+abbrev pub thinned_lease : Cause6 → Lease6Content → Lease6Content
+thinned_lease cause lease = lease_with (without cause lease.ias) lease
+
+-- the lease without the items that go, where some stay
+abbrev pub kept_left : Cause6 → Parting6 → Option Lease6Content → Option Lease6Content
+kept_left cause parting kept = if parting.stays then option_map (thinned_lease cause) kept else kept
+
 abbrev pub kept_live : (at : ℕ) → Parting6 → Option Lease6Content → Option Lease6Content
-kept_live at parting kept = if parting.stays then option_map (thinned_lease (Lapse at)) kept else kept
+kept_live at parting kept = kept_left (Lapse at) parting kept
 
 -- ---- items that are over
 
 abbrev pub plea_lapsed : (at : ℕ) → List IaLeaseContent → PleaContent → PleaContent
 plea_lapsed at ias plea = record { server = plea.server; ias = ias_lapsed at ias plea.ias }
 
--- Held items whose valid lifetime is over aren't held any more, and where the last one goes the step decides. What is over
--- isn't declined.
+-- Held items whose valid lifetime is over aren't held any more. Where the last one goes, or the restart in which they are held
+-- is at its end, the step decides. What is over isn't declined.
 abbrev pub lapsed : (at : ℕ) → Parting6 → ClientContent → ClientContent
 lapsed at parting c =
-    if holds c.state && parting.goes
+    if holds c.state && parting.goes && not (is_at_end at c.state)
     then record c {
       kept = kept_live at parting c.kept;
       plea = option_map (plea_lapsed at (ias_of c.kept)) c.plea;
@@ -128,12 +136,21 @@ plea_by asks lease = record { server = lease.server; ias = ias_asked scope.All l
 abbrev pub plea_with : (declining : Bool) → List IaAsk → Option Lease6Content → Option PleaContent → Option PleaContent
 plea_with declining asks kept plea = if declining then plea else option_map (plea_by asks) kept
 
+-- it is declined from now on
+abbrev pub declining_now : Ip6 → ClientContent → ClientContent
+declining_now address c =
+    record c {
+      kept = option_map (thinned_lease (Duplicate address)) c.kept;
+      plea = plea_with (is_declining c.state) c.settings.asks c.kept c.plea;
+    }
+
+-- In a restart it isn't declined. Where the last item goes the step decides.
+abbrev pub missing : Ip6 → Parting6 → ClientContent → ClientContent
+missing address parting c = record c { kept = kept_left (Duplicate address) parting c.kept }
+
 -- the address isn't held any more
 abbrev pub given_up : Ip6 → Parting6 → ClientContent → ClientContent
 given_up address parting c =
     if holds c.state && parting.goes
-    then record c {
-      kept = option_map (thinned_lease (Duplicate address)) c.kept;
-      plea = plea_with (is_declining c.state) c.settings.asks c.kept c.plea;
-    }
+    then (if is_restarting c.state then missing address parting c else declining_now address c)
     else c

@@ -9,7 +9,7 @@ use Rattle.v6_client.specs.declared.settings.IaAsk.{IaAsk}
 use Rattle.v6_client.specs.declared.states.Carrier6.{Carrier6}
 use Rattle.v6_client.specs.declared.states.Tell6.{Tell6}
 use Rattle.v6_client.specs.Bounds.{ask_key}
-use Rattle.v6_client.specs.Calls.{Hears, IsContested, IsTicked, carrier_step, fresh_in, rebind_step, release_step}
+use Rattle.v6_client.specs.Calls.{Hears, IsCarried, IsContested, IsTicked, fresh_in, rebind_step, release_step}
 use Rattle.v6_client.specs.Clients.{ClientContent, client_made, held_of, holds}
 use Rattle.v6_client.specs.Items.{ias_of}
 use Rattle.v6_client.specs.Moves.{IsStep6, OutContent}
@@ -53,7 +53,7 @@ DuplicatesOwn = (c new : ClientContent) (address : Ip6) (at salt : ℕ) (out : O
 
 abbrev pub CarriersOwn : Type 0
 CarriersOwn = (c new : ClientContent) (carrier : Carrier6) (at salt : ℕ) (out : OutContent) → OwnIas c
-    → IsStep6 (carrier_step carrier at salt c) None c new out → OwnIas new
+    → IsCarried carrier at salt c new out → OwnIas new
 
 abbrev pub ReleasesOwn : Type 0
 ReleasesOwn = (c new : ClientContent) (tell : Tell6) (at salt : ℕ) (out : OutContent) → OwnIas c

@@ -5,7 +5,7 @@ use Rattle.v6_message.specs.Replies.{Content6}
 use Rattle.v6_client.specs.declared.states.Carrier6.TheVariants.{Up}
 use Rattle.v6_client.specs.declared.states.News6.TheVariants as news
 use Rattle.v6_client.specs.declared.states.Tell6.{Tell6}
-use Rattle.v6_client.specs.Calls.{Hears, IsContested, IsTicked, carrier_step, rebind_step, release_step}
+use Rattle.v6_client.specs.Calls.{Hears, IsCarried, IsContested, IsTicked, rebind_step, release_step}
 use Rattle.v6_client.specs.Clients.{ClientContent, held_of}
 use Rattle.v6_client.specs.Moves.{IsStep6, OutContent}
 use Rattle.v6_client.specs.Runs.{Turned6, carrier_turned, contested_turned, hears_turned, rebind_turned, release_turned, tick_turned}
@@ -30,7 +30,7 @@ DuplicatesTell = (c new : ClientContent) (address : Ip6) (at salt : ℕ) (out : 
     → TellsChange c new out
 
 abbrev pub BeginsTell : Type 0
-BeginsTell = (c new : ClientContent) (at salt : ℕ) (out : OutContent) → IsStep6 (carrier_step Up at salt c) None c new out
+BeginsTell = (c new : ClientContent) (at salt : ℕ) (out : OutContent) → IsCarried Up at salt c new out
     → TellsChange c new out
 
 abbrev pub RebindsTell : Type 0

@@ -8,7 +8,7 @@ use Rattle.v6_client.specs.declared.client.Out6.{Out6}
 use Rattle.v6_client.specs.declared.states.Carrier6.{Carrier6}
 use Rattle.v6_client.specs.declared.states.Step6.{Step6}
 use Rattle.v6_client.specs.declared.states.Tell6.{Tell6}
-use Rattle.v6_client.specs.Calls.{Hears, IsContested, carrier_step, due_of, rebind_step, release_step}
+use Rattle.v6_client.specs.Calls.{Hears, IsCarried, IsContested, due_of, rebind_step, release_step}
 use Rattle.v6_client.specs.Clients.{ClientContent}
 use Rattle.v6_client.specs.Moves.{IsStep6, OutContent, out_content}
 use Rattle.v6_client.specs.Rests.{Ticks}
@@ -36,7 +36,7 @@ MessagesRun = (old new : ClientContent) (message : Content6) (at salt : ℕ) (ou
 
 abbrev pub CarriersRun : Type 0
 CarriersRun = (old new : ClientContent) (carrier : Carrier6) (at salt : ℕ) (out : OutContent)
-    → IsStep6 (carrier_step carrier at salt old) None old new out → turned new out ≡ carrier_turned carrier at salt old
+    → IsCarried carrier at salt old new out → turned new out ≡ carrier_turned carrier at salt old
 
 abbrev pub DuplicatesRun : Type 0
 DuplicatesRun = (old new : ClientContent) (address : Ip6) (at salt : ℕ) (out : OutContent) → IsContested address at salt old new out

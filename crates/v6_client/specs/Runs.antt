@@ -12,7 +12,7 @@ use Rattle.v6_client.specs.declared.states.News6.TheVariants as news
 use Rattle.v6_client.specs.declared.states.Step6.{Step6}
 use Rattle.v6_client.specs.declared.states.Tell6.{Tell6}
 use Rattle.v6_client.specs.Answers.{advertise_answer, advertised, counts, learnt}
-use Rattle.v6_client.specs.Calls.{answer_in, carrier_step, dates_in, due_of, fresh_in, rebind_step, release_step}
+use Rattle.v6_client.specs.Calls.{answer_in, carried_by, carrier_step, dates_in, due_of, fresh_in, rebind_step, release_step}
 use Rattle.v6_client.specs.Clients.{ClientContent, turn_of}
 use Rattle.v6_client.specs.Hearing.{heard_row}
 use Rattle.v6_client.specs.Inputs.{duplicate_row}
@@ -50,7 +50,7 @@ hears_turned at salt message c =
     if counts c message then answered at salt message message.kind (learnt message.sol_max c) else rested c
 
 unfoldable pub carrier_turned : Carrier6 → (at salt : ℕ) → ClientContent → Turned6
-carrier_turned carrier at salt c = stepped (carrier_step carrier at salt c) None c
+carrier_turned carrier at salt c = stepped (carrier_step carrier at salt c) None (carried_by carrier at c)
 
 -- an address that another host uses goes, where it is held
 unfoldable pub contested_turned : Ip6 → (at salt : ℕ) → ClientContent → Turned6

@@ -12,7 +12,7 @@ pub record SettingsContent : Type 0 where
 
 abbrev pub settings_content : Set6 → SettingsContent
 settings_content set = record {
-  site = record { iface = set.iface; nodelay = set.nodelay; rapid = set.rapid };
+  site = record { iface = set.iface; nodelay = set.nodelay; rapid = set.rapid; persistent = set.persistent };
   duid = set.duid.bytes.items;
   asks = set.ias.items;
 }

@@ -1,5 +1,5 @@
 -- The steps that the rows of the table are made of: where a client goes, and what it says on the way.
-use Rattle.std.specs.Prelude.{ℕ, ◌+◌, Bool, not, ◌&&◌, Option, Some, None, if◌then◌else◌}
+use Rattle.std.specs.Prelude.{ℕ, ◌+◌, Bool, false, not, ◌&&◌, Option, Some, None, if◌then◌else◌}
 use Rattle.v6_message.specs.declared.kind.Kind6.{Kind6}
 use Rattle.v6_message.specs.declared.kind.Kind6.TheVariants as kind
 use Rattle.v6_retrans.specs.declared.parameters.TheConstants.{REQUEST, RENEW, REBIND, DECLINE}
@@ -20,7 +20,7 @@ use Rattle.v6_client.specs.Times.{first_delay, elapsed}
 
 -- the client stands so, and nothing is said
 abbrev pub goes_to : State6 → (last : Option ℕ) → Step6
-goes_to state last = record { state = state; last = last; keep = Stays; say = None; news = news.Nothing }
+goes_to state last = record { state = state; last = last; keep = Stays; say = None; news = news.Nothing; spends = false }
 
 abbrev pub rests : Turn6 → State6 → Step6
 rests turn state = goes_to state turn.last
@@ -64,12 +64,15 @@ rebinding turn exchange = speaks turn kind.Rebind exchange (Rebinding exchange)
 abbrev pub rebinds : Turn6 → Step6
 rebinds turn = rebinding turn (begun turn REBIND (rand_in turn))
 
-abbrev pub restarting : Turn6 → Exchange6 → (end since : ℕ) → Step6
-restarting turn exchange end since = speaks turn kind.Rebind exchange (Restarting exchange end since)
+abbrev pub restarting : Turn6 → Exchange6 → (end since : ℕ) → (stands : Bool) → Step6
+restarting turn exchange end since stands = speaks turn kind.Rebind exchange (Restarting exchange end since stands)
 
--- REBIND for the items of the kept lease that are valid now
-abbrev pub restarts : Turn6 → Step6
-restarts turn = restarting turn (begun turn REBIND (rand_in turn)) (turn.at + RESTART_TIME) turn.at
+-- REBIND for the items of the kept lease that are valid now. A client that stands holds them from now on.
+abbrev pub restarts : Turn6 → (stands : Bool) → Step6
+restarts turn stands =
+    record (restarting turn (begun turn REBIND (rand_in turn)) (turn.at + RESTART_TIME) turn.at stands) {
+      news = if stands then news.Changed else news.Nothing;
+    }
 
 abbrev pub declining : Turn6 → Exchange6 → Step6
 declining turn exchange = speaks turn kind.Decline exchange (Declining exchange)
@@ -104,6 +107,14 @@ loses turn = record (to_waiting turn) { keep = Clears; news = news.Changed }
 -- no item is held any more
 abbrev pub expires : Turn6 → Step6
 expires turn = record (loses turn) { news = news.Expire }
+
+-- no item of a restart is left
+abbrev pub emptied : Turn6 → (stands : Bool) → Step6
+emptied turn stands = if stands then expires turn else loses turn
+
+-- No server answered a restart: the lease stays kept, and isn't held.
+abbrev pub unanswered : Turn6 → (stands : Bool) → Step6
+unanswered turn stands = record (to_waiting turn) { news = if stands then news.Expire else news.Nothing }
 
 -- the items of a Reply are held and kept
 abbrev pub binds : Turn6 → News6 → Step6

@@ -1,6 +1,6 @@
 -- The rows of ticks (RFC 8415, section 18.2): what a client does when its moment has come. `parting` says what is over of its
 -- items.
-use Rattle.std.specs.Prelude.{ℕ, max, Option, Some, None, nat_le, if◌then◌else◌}
+use Rattle.std.specs.Prelude.{ℕ, Bool, true, false, max, Option, Some, None, nat_le, if◌then◌else◌}
 use Rattle.machine.specs.Moment.{is_due}
 use Rattle.v6_retrans.specs.declared.parameters.TheConstants.{REQUEST, RENEW, REBIND, DECLINE}
 use Rattle.v6_client.specs.declared.exchange.Exchange6.{Exchange6}
@@ -11,7 +11,7 @@ use Rattle.v6_client.specs.declared.states.State6.TheVariants.{Off, Waiting, Sol
 use Rattle.v6_client.specs.declared.states.Step6.{Step6}
 use Rattle.v6_client.specs.declared.turn.Turn6.{Turn6}
 use Rattle.v6_client.specs.Exchanges.{again, is_again_due, is_used_up, solicit_parameters}
-use Rattle.v6_client.specs.Steps.{rests, to_waiting, soliciting, solicits, requesting, requests, renewing, renews, rebinding, rebinds, restarting, declining, is_last, keep_by, tells_parting, loses, expires}
+use Rattle.v6_client.specs.Steps.{rests, to_waiting, soliciting, solicits, requesting, requests, renewing, renews, rebinding, rebinds, restarting, declining, is_last, keep_by, tells_parting, emptied, unanswered, expires}
 
 -- an Advertise is kept: REQUEST; else SOLICIT again
 abbrev pub soliciting_tick : Turn6 → Exchange6 → Option ℕ → Step6
@@ -47,12 +47,12 @@ rebinding_tick turn parting exchange =
     else rests turn (Rebinding exchange)
 
 -- the last item is over, then the end, then REBIND again
-abbrev pub restarting_tick : Turn6 → Parting6 → Exchange6 → (end since : ℕ) → Step6
-restarting_tick turn parting exchange end since =
-    if is_last parting then loses turn
-    else if nat_le end turn.at then to_waiting turn
-    else if is_again_due turn exchange then restarting turn (again turn REBIND exchange) end (max since turn.at)
-    else rests turn (Restarting exchange end (max since turn.at))
+abbrev pub restarting_tick : Turn6 → Parting6 → Exchange6 → (end since : ℕ) → (stands : Bool) → Step6
+restarting_tick turn parting exchange end since stands =
+    if is_last parting then emptied turn stands
+    else if nat_le end turn.at then unanswered turn stands
+    else if is_again_due turn exchange then restarting turn (again turn REBIND exchange) end (max since turn.at) stands
+    else rests turn (Restarting exchange end (max since turn.at) stands)
 
 -- what is left is held; servers are looked for anew where nothing is
 abbrev pub ended : Turn6 → Parting6 → Step6
@@ -79,7 +79,9 @@ tick_row turn dates parting (Requesting exchange) = requesting_tick turn exchang
 tick_row turn dates parting Bound = tells_parting parting (bound_tick turn dates parting)
 tick_row turn dates parting (Renewing exchange) = tells_parting parting (renewing_tick turn dates parting exchange)
 tick_row turn dates parting (Rebinding exchange) = tells_parting parting (rebinding_tick turn parting exchange)
--- The kept items are asked for again until the end.
-tick_row turn dates parting (Restarting exchange end since) = restarting_tick turn parting exchange end since
+-- The kept items are asked for again until the end. Where they are held, those that are over go, which is told.
+tick_row turn dates parting (Restarting exchange end since true) =
+    tells_parting parting (restarting_tick turn parting exchange end since true)
+tick_row turn dates parting (Restarting exchange end since false) = restarting_tick turn parting exchange end since false
 -- DECLINE again; after the last one what is left is held.
 tick_row turn dates parting (Declining exchange) = tells_parting parting (declining_tick turn parting exchange)

@@ -12,7 +12,8 @@ ghost use Rattle.v6_client.specs.Answers as answers;
 ghost use Rattle.v6_client.specs.Calls as calls;
 ghost use Rattle.v6_client.specs.Clients.{client_made, held_of, plea_content, turn_of};
 ghost use Rattle.v6_client.specs.Items as own;
-ghost use Rattle.v6_client.specs.Moves.{IsStep6, given_up, lapsed, out_content};
+ghost use Rattle.v6_client.specs.Moves.{IsStep6, declining_now, given_up, lapsed, missing, out_content};
+ghost use Rattle.v6_client.specs.declared.states.Carrier6.TheVariants.{Up};
 ghost use Rattle.v6_client.specs.Rests.{IsQuietAnswer, Ticks, tick_rests};
 ghost use Rattle.v6_client.specs.Settings.{settings_content};
 ghost use Rattle.v6_client.specs.Times.{FitsTurn};
@@ -23,7 +24,7 @@ use crate::answers::{
 };
 use crate::asking::ias_offered;
 use crate::hearing::{heard_row, is_kept_offer};
-use crate::holding::{holds, is_declining, scope_of};
+use crate::holding::{holds, is_at_end, is_declining, is_off, is_restarting, met_scope, scope_of};
 use crate::inputs::{begin_row, duplicate_row, off_row, rebind_row, release_row};
 use crate::items::parting_of;
 use crate::leases::{Leases6, Plea6, dates_of, ias_of};
@@ -80,6 +81,8 @@ pub struct Client6 {
     sol_max: u64,
     state: State6,
     leases: Leases6,
+    /// Whether it neither began nor was turned off: the kept lease is the one that was read at the start.
+    fresh: bool,
 }
 
 impl Model for Client6 {
@@ -88,9 +91,9 @@ impl Model for Client6 {
 
     ghost Value = { ClientContent };
 
-    ghost view = { λ c. client_content c.set c.last c.sol_max c.state c.leases };
+    ghost view = { λ c. client_content c.set c.last c.sol_max c.state c.leases c.fresh };
 
-    ghost invariant = { λ c. IsSound (client_content c.set c.last c.sol_max c.state c.leases) };
+    ghost invariant = { λ c. IsSound (client_content c.set c.last c.sol_max c.state c.leases c.fresh) };
 }
 
 impl Client6 {
@@ -105,6 +108,7 @@ impl Client6 {
                 iface: self.set.iface,
                 nodelay: self.set.nodelay,
                 rapid: self.set.rapid,
+                persistent: self.set.persistent,
             },
             last: self.last,
             sol_max: self.sol_max,
@@ -145,6 +149,7 @@ impl Client6 {
         let old = self.leases.go(self.alloc, holds(self.state), step, fresh)?;
         self.state = step.state;
         self.last = step.last;
+        self.fresh = self.fresh && !step.spends;
         Ok(Out6 {
             say,
             news: step.news,
@@ -156,9 +161,31 @@ impl Client6 {
     fn lapse(&mut self, at: u64, parting: Parting6) -> Result<(), NoMemory>
         ensures { OnOk result (self.new ≡ lapsed at parting self.old) }
     {
-        if holds(self.state) && parting.goes {
+        if holds(self.state) && parting.goes && !is_at_end(at, self.state) {
             self.leases.lapse(self.alloc, at, parting)?;
         }
+        Ok(())
+    }
+
+    /// A held address is declined.
+    fn decline(&mut self, address: Ip6) -> Result<(), NoMemory>
+        ensures { OnOk result (self.new ≡ declining_now address self.old) }
+    {
+        self.leases.decline(
+            self.alloc,
+            Cause6::Duplicate(address),
+            is_declining(self.state),
+            &self.set.ias,
+        )?;
+        Ok(())
+    }
+
+    /// A held address of a restart isn't asked for again.
+    fn miss(&mut self, address: Ip6, parting: Parting6) -> Result<(), NoMemory>
+        ensures { OnOk result (self.new ≡ missing address parting self.old) }
+    {
+        self.leases
+            .leave(self.alloc, Cause6::Duplicate(address), parting)?;
         Ok(())
     }
 
@@ -166,15 +193,46 @@ impl Client6 {
     fn give_up(&mut self, address: Ip6, parting: Parting6) -> Result<(), NoMemory>
         ensures { OnOk result (self.new ≡ given_up address parting self.old) }
     {
-        if holds(self.state) && parting.goes {
-            self.leases.give_up(
-                self.alloc,
-                Cause6::Duplicate(address),
-                is_declining(self.state),
-                &self.set.ias,
-            )?;
+        if !holds(self.state) || !parting.goes {
+            return Ok(());
+        }
+        if is_restarting(self.state) {
+            return self.miss(address, parting);
+        }
+        self.decline(address)
+    }
+
+    /// Whether the client stands on the lease that was read, where it begins. `parting` is of the items that are valid.
+    fn stands_by(&self, parting: Parting6) -> bool
+        ensures { result ≡ calls.stands_by parting self.now }
+    {
+        is_off(self.state)
+            && self.fresh
+            && self.set.persistent
+            && self.leases.has_origin()
+            && parting.stays
+    }
+
+    /// A client that stands keeps the items alone that it asks for again.
+    fn prune(&mut self, at: u64, stands: bool) -> Result<(), NoMemory>
+        ensures { OnOk result (self.new ≡ calls.pruned at stands self.old) }
+    {
+        if stands {
+            self.leases.prune(self.alloc, at, &self.set.ias)?;
         }
         Ok(())
+    }
+
+    /// A client that is off begins.
+    fn begin(&mut self, at: u64, salt: u64) -> Result<Out6, NoMemory>
+        requires { IsMoment at }
+        ensures { IfOk result (λ out. calls.IsCarried Up at salt self.old self.new (out_content out)) }
+    {
+        let parting = self.parting(Cause6::Lapse(at), Scope6::All);
+        let stands = self.stands_by(parting);
+        let step = begin_row(self.turn(at, salt), stands, parting, self.state);
+        self.prune(at, stands)?;
+        self.go(step, None)
     }
 
     /// Whether a message counts.
@@ -238,7 +296,7 @@ impl Client6 {
     }
 
     /// The lease that a Reply grants, where it is taken.
-    fn fresh(&self, message: &Msg6, at: u64, taken: bool) -> Result<Option<Lease6>, NoMemory>
+    fn fresh_lease(&self, message: &Msg6, at: u64, taken: bool) -> Result<Option<Lease6>, NoMemory>
         requires { IsMoment at }
         ensures lease { IfOk result (λ fresh. option_map lease6_content fresh ≡ answers.fresh_of at taken self.now (message_shown message.now)) }
         ensures fits { IfOk result (λ fresh. IfSome (option_map lease6_content fresh) FitsLease6) }
@@ -251,7 +309,7 @@ impl Client6 {
         };
         let meeting = Meeting6 {
             at,
-            scope: scope_of(self.state),
+            scope: met_scope(self.state),
             kept: &self.leases.kept,
             message,
         };
@@ -264,7 +322,7 @@ impl Client6 {
         ensures { IfOk result (λ out. calls.Replies at salt (message_shown message.now) self.old self.new (out_content out)) }
     {
         let taken = self.is_taken(message);
-        let fresh = self.fresh(message, at, taken)?;
+        let fresh = self.fresh_lease(message, at, taken)?;
         let declining = is_declining(self.state);
         let answer = reply_answer(declining, taken, &self.leases.kept, &fresh);
         let step = heard_row(self.turn(at, salt), answer, self.state);
@@ -321,6 +379,7 @@ pub fn client6_new(alloc: Global, set: Set6, kept: Option<Lease6>) -> Client6
         sol_max: SOL_MAX_RT,
         state: State6::Off,
         leases: Leases6 { kept, plea: None },
+        fresh: true,
     }
 }
 
@@ -366,15 +425,13 @@ pub fn heard6(c: &mut Client6, message: &Msg6, at: u64, salt: u64) -> Result<Out
 
 /// The carrier comes or goes.
 pub fn carrier6(c: &mut Client6, carrier: Carrier6, at: u64, salt: u64) -> Result<Out6, NoMemory>
-    ensures { IfOk result (λ out. IsStep6 (calls.carrier_step carrier (moment_of at) salt c.old) None c.old c.new (out_content out)) }
+    ensures { IfOk result (λ out. calls.IsCarried carrier (moment_of at) salt c.old c.new (out_content out)) }
 {
     let at = clamp_moment(at);
-    let turn = c.turn(at, salt);
-    let step = match carrier {
-        Carrier6::Up => begin_row(turn, c.parting(Cause6::Lapse(at), Scope6::All), c.state),
-        Carrier6::Down => off_row(turn),
-    };
-    c.go(step, None)
+    match carrier {
+        Carrier6::Up => c.begin(at, salt),
+        Carrier6::Down => c.go(off_row(c.turn(at, salt)), None),
+    }
 }
 
 /// Another host uses an address.

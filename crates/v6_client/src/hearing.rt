@@ -6,7 +6,7 @@ ghost use Rattle.v6_client.specs.Times.{FitsTurn};
 
 use crate::exchange::Exchange6;
 use crate::states::{Answer6, News6, State6, Step6};
-use crate::steps::{binds, expires, loses, requests, rests, to_waiting};
+use crate::steps::{binds, emptied, expires, requests, rests, to_waiting};
 use crate::turn::Turn6;
 
 /// An offer of this preference is taken at once (RFC 8415, section 18.2.1).
@@ -110,7 +110,9 @@ pub(crate) fn heard_row(turn: Turn6, answer: Answer6, state: State6) -> Step6
         }
         State6::Renewing { .. } => replied(turn, News6::Renew, expires(turn), state, answer),
         State6::Rebinding { .. } => replied(turn, News6::Rebind, expires(turn), state, answer),
-        State6::Restarting { .. } => replied(turn, News6::Reboot, loses(turn), state, answer),
+        State6::Restarting { stands, .. } => {
+            replied(turn, News6::Reboot, emptied(turn, stands), state, answer)
+        }
         State6::Declining { .. } => declined(turn, state, answer),
         // no answer is waited for
         State6::Off | State6::Waiting { .. } | State6::Bound => rests(turn, state),

@@ -6,28 +6,37 @@ ghost use Rattle.v6_client.specs.Times.{FitsTurn};
 
 use crate::exchange::new_xid;
 use crate::states::{Keep6, News6, Parting6, Say6, State6, Step6, Tell6};
-use crate::steps::{declines, goes_to, keep_by, rebinds, restarts, rests, to_waiting};
+use crate::steps::{
+    declines, expires, goes_to, is_last, keep_by, rebinds, restarts, rests, tells_parting,
+    to_waiting,
+};
 use crate::turn::Turn6;
 use v6_message::Kind6;
 
-/// The client begins. `parting` is of the items of the kept lease that are valid.
-fn begins(turn: Turn6, parting: Parting6) -> Step6
+/// The client begins. `parting` is of the items of the kept lease that are valid, and `stands` says whether they are held while
+/// they are asked for again.
+fn begins(turn: Turn6, stands: bool, parting: Parting6) -> Step6
     requires { FitsTurn turn }
-    ensures { result ≡ inputs.begins turn parting }
+    ensures { result ≡ inputs.begins turn stands parting }
 {
-    if parting.stays {
-        return restarts(turn);
+    let step = if parting.stays {
+        restarts(turn, stands)
+    } else {
+        to_waiting(turn)
+    };
+    Step6 {
+        spends: true,
+        ..step
     }
-    to_waiting(turn)
 }
 
 /// The carrier comes.
-pub(crate) fn begin_row(turn: Turn6, parting: Parting6, state: State6) -> Step6
+pub(crate) fn begin_row(turn: Turn6, stands: bool, parting: Parting6, state: State6) -> Step6
     requires { FitsTurn turn }
-    ensures { result ≡ inputs.begin_row turn parting state }
+    ensures { result ≡ inputs.begin_row turn stands parting state }
 {
     match state {
-        State6::Off => begins(turn, parting),
+        State6::Off => begins(turn, stands, parting),
         State6::Waiting { .. }
         | State6::Soliciting { .. }
         | State6::Requesting { .. }
@@ -39,11 +48,21 @@ pub(crate) fn begin_row(turn: Turn6, parting: Parting6, state: State6) -> Step6
     }
 }
 
+/// The client is off, and doesn't stand on its lease when it begins again.
+fn turns_off(turn: Turn6) -> Step6
+    ensures { result ≡ inputs.turns_off turn }
+{
+    Step6 {
+        spends: true,
+        ..rests(turn, State6::Off)
+    }
+}
+
 /// The carrier goes.
 pub(crate) fn off_row(turn: Turn6) -> Step6
     ensures { result ≡ inputs.off_row turn }
 {
-    rests(turn, State6::Off)
+    turns_off(turn)
 }
 
 /// A held address may be in use elsewhere.
@@ -61,6 +80,19 @@ fn contested(turn: Turn6, parting: Parting6, state: State6) -> Step6
     rests(turn, state)
 }
 
+/// An address of a restart whose items are held may be in use elsewhere: it isn't asked for again.
+fn missed(turn: Turn6, parting: Parting6, state: State6) -> Step6
+    requires { FitsTurn turn }
+    ensures { result ≡ inputs.missed turn parting state }
+{
+    let step = if is_last(parting) {
+        expires(turn)
+    } else {
+        rests(turn, state)
+    };
+    tells_parting(parting, step)
+}
+
 /// Another host uses an address. `parting` is of the items that are held.
 pub(crate) fn duplicate_row(turn: Turn6, parting: Parting6, state: State6) -> Step6
     requires { FitsTurn turn }
@@ -72,11 +104,16 @@ pub(crate) fn duplicate_row(turn: Turn6, parting: Parting6, state: State6) -> St
         | State6::Renewing { .. }
         | State6::Rebinding { .. }
         | State6::Declining { .. } => contested(turn, parting, state),
+        State6::Restarting { stands, .. } => {
+            if stands {
+                return missed(turn, parting, state);
+            }
+            rests(turn, state)
+        }
         State6::Off
         | State6::Waiting { .. }
         | State6::Soliciting { .. }
-        | State6::Requesting { .. }
-        | State6::Restarting { .. } => rests(turn, state),
+        | State6::Requesting { .. } => rests(turn, state),
     }
 }
 
@@ -97,12 +134,13 @@ fn stops(turn: Turn6, tell: Tell6) -> Step6
                 keep: Keep6::Clears,
                 say: Some(say),
                 news: News6::Stop,
+                spends: true,
                 ..goes_to(State6::Off, Some(xid))
             }
         }
         Tell6::Nobody => Step6 {
             news: News6::Stop,
-            ..rests(turn, State6::Off)
+            ..turns_off(turn)
         },
     }
 }
@@ -113,7 +151,7 @@ fn released(turn: Turn6, tell: Tell6, held: bool) -> Step6
     if held {
         return stops(turn, tell);
     }
-    rests(turn, State6::Off)
+    turns_off(turn)
 }
 
 /// The client stops. `held` says whether an item is left.
@@ -126,11 +164,16 @@ pub(crate) fn release_row(turn: Turn6, tell: Tell6, held: bool, state: State6) -
         | State6::Renewing { .. }
         | State6::Rebinding { .. }
         | State6::Declining { .. } => released(turn, tell, held),
+        State6::Restarting { stands, .. } => {
+            if stands {
+                return released(turn, tell, held);
+            }
+            turns_off(turn)
+        }
         State6::Off
         | State6::Waiting { .. }
         | State6::Soliciting { .. }
-        | State6::Requesting { .. }
-        | State6::Restarting { .. } => rests(turn, State6::Off),
+        | State6::Requesting { .. } => turns_off(turn),
     }
 }
 
@@ -140,8 +183,8 @@ pub(crate) fn rebind_row(turn: Turn6, parting: Parting6, state: State6) -> Step6
     ensures { result ≡ inputs.rebind_row turn parting state }
 {
     match state {
-        // the client begins
-        State6::Off => begins(turn, parting),
+        // the client begins, without a lease to stand on
+        State6::Off => begins(turn, false, parting),
         // REBIND
         State6::Bound | State6::Renewing { .. } => rebinds(turn),
         State6::Waiting { .. }

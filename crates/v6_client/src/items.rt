@@ -159,6 +159,23 @@ pub(crate) fn without(
     Ok(left)
 }
 
+/// Of the IAs that are asked for, in their order, what isn't over.
+pub(crate) fn pruned_ias(
+    alloc: Global,
+    at: u64,
+    ias: &[IaLease],
+    asks: &[IaAsk],
+) -> Result<Vec<IaLease>, NoMemory>
+    ensures { IfOk result (λ left. ias_content left.items ≡ own.pruned_ias at (ias_content ias.now) asks.now) }
+{
+    let mut left = Vec::new(alloc);
+    for ask in asks {
+        let items = staying(alloc, Cause6::Lapse(at), ask.kind, asked_at(*ask, ias))?;
+        push_ia(&mut left, ask.kind, ask.iaid, items)?;
+    }
+    Ok(left)
+}
+
 /// Adds an IA, unless it has no items.
 pub(crate) fn push_ia(
     ias: &mut Vec<IaLease>,

@@ -2,6 +2,7 @@
 
 ghost use Rattle.std.specs.Prelude.{◌≡◌, is_some, option_map, IfOk, OnErr, OnOk};
 ghost use Rattle.lease6_text.specs.Leases.{lease6_content};
+ghost use Rattle.v6_client.specs.Calls.{has_origin};
 ghost use Rattle.v6_client.specs.Clients.{kept_in, plea_in};
 ghost use Rattle.v6_client.specs.Moves.{is_of_held, kept_after, old_of, plea_after};
 ghost use Rattle.v6_client.specs.Saying as saying;
@@ -107,6 +108,16 @@ impl Leases6 {
     {
         match &self.kept {
             Some(_) => true,
+            None => false,
+        }
+    }
+
+    /// Whether the kept lease tells its origin.
+    pub(crate) fn has_origin(&self) -> bool
+        ensures { result ≡ has_origin (kept_in self.now) }
+    {
+        match &self.kept {
+            Some(lease) => lease.origin.is_some(),
             None => false,
         }
     }

@@ -1,6 +1,6 @@
 //! What is true of every client. These functions do nothing: their contracts are the laws.
 
-ghost use Rattle.v6_client.specs.Laws.{BringsNothing, HoldsNothingOver, IgnoresForeign, KeepsGranted, TicksBringNothing};
+ghost use Rattle.v6_client.specs.Laws.{BeginsBringNothing, BringsNothing, HoldsNothingOver, IgnoresForeign, KeepsGranted, TicksBringNothing};
 ghost use Rattle.v6_client.specs.Origins.{GrantsOrigin, OriginsStay};
 ghost use Rattle.v6_client.specs.OwnLeases.{CarriersOwn, DuplicatesOwn, GrantsOwn, HeldOwn, MadeOwn, MessagesOwn, RebindsOwn, ReleasesOwn, TicksOwn};
 ghost use Rattle.v6_client.specs.QuietLaws.{AllRunsTell, BeginsTell, DuplicatesTell, MessagesTell, RebindsTell, ReleasesTell, TicksTell};
@@ -18,6 +18,7 @@ pub fn keeps_granted6()
     ensures granted { KeepsGranted }
     ensures others { BringsNothing }
     ensures ticks { TicksBringNothing }
+    ensures begins { BeginsBringNothing }
 {}
 
 /// Law: after a tick no item of an IA that is asked for is held whose valid lifetime is over (RFC 8415, section 18.2.10.1).

@@ -27,7 +27,7 @@ pub struct Plea6 {
 
 #[derive(Drop)]
 pub(crate) struct Leases6 {
-    /// The lease that is kept for the next start; in Bound, Renewing, Rebinding and Declining it is the one that is held.
+    /// The lease that is kept for the next start; where items are held it is the one that is held.
     pub kept: Option<Lease6>,
     pub plea: Option<Plea6>,
 }

@@ -2,12 +2,13 @@
 
 ghost use Rattle.std.specs.Prelude.{◌≡◌, ◌≤◌, length, option_map, IfOk, OnErr, OnOk};
 ghost use Rattle.lease6_text.specs.Leases.{ias_content, lease6_content};
+ghost use Rattle.v6_client.specs.Calls.{pruned_lease};
 ghost use Rattle.v6_client.specs.Clients.{kept_in, plea_content, plea_in};
 ghost use Rattle.v6_client.specs.Items as own;
 ghost use Rattle.v6_client.specs.Moves as moves;
 
 use crate::asking::{ias_asked, ias_lapsed};
-use crate::items::without;
+use crate::items::{pruned_ias, without};
 use crate::leases::{Leases6, Plea6, duid_copied, ias_of};
 use crate::settings::IaAsk;
 use crate::states::{Cause6, Parting6, Scope6};
@@ -22,6 +23,22 @@ fn thin(alloc: Global, cause: Cause6, kept: &mut Option<Lease6>) -> Result<(), N
 {
     if let Some(lease) = kept {
         lease.ias = without(alloc, cause, &lease.ias)?;
+    }
+    Ok(())
+}
+
+/// The lease with the items alone that are asked for and aren't over.
+fn prune_in(
+    alloc: Global,
+    at: u64,
+    asks: &[IaAsk],
+    kept: &mut Option<Lease6>,
+) -> Result<(), NoMemory>
+    ensures kept { OnOk result (option_map lease6_content kept.new ≡ option_map (pruned_lease at asks.now) (option_map lease6_content kept.old)) }
+    ensures err { OnErr result (option_map lease6_content kept.new ≡ option_map lease6_content kept.old) }
+{
+    if let Some(lease) = kept {
+        lease.ias = pruned_ias(alloc, at, &lease.ias, asks)?;
     }
     Ok(())
 }
@@ -68,15 +85,38 @@ impl Leases6 {
         ensures err { OnErr result (kept_in self.new ≡ kept_in self.old) }
     {
         plea_lapsed(alloc, at, ias_of(&self.kept), &mut self.plea)?;
+        self.leave(alloc, Cause6::Lapse(at), parting)
+    }
+
+    /// Items go from the kept lease, unless none stays.
+    pub(crate) fn leave(
+        &mut self,
+        alloc: Global,
+        cause: Cause6,
+        parting: Parting6,
+    ) -> Result<(), NoMemory>
+        ensures plea { OnOk result (plea_in self.new ≡ plea_in self.old) }
+        ensures kept { OnOk result (kept_in self.new ≡ moves.kept_left cause parting (kept_in self.old)) }
+        ensures err { OnErr result (kept_in self.new ≡ kept_in self.old) }
+    {
         if !parting.stays {
             return Ok(());
         }
-        thin(alloc, Cause6::Lapse(at), &mut self.kept)
+        thin(alloc, cause, &mut self.kept)
     }
 
-    /// A held address goes, since another host uses it. Where the client wasn't declining before, what is declined is told from
+    /// Of the kept lease only those items stay that are asked for and aren't over.
+    pub(crate) fn prune(&mut self, alloc: Global, at: u64, asks: &[IaAsk]) -> Result<(), NoMemory>
+        ensures plea { OnOk result (plea_in self.new ≡ plea_in self.old) }
+        ensures kept { OnOk result (kept_in self.new ≡ option_map (pruned_lease at asks.now) (kept_in self.old)) }
+        ensures err { OnErr result (kept_in self.new ≡ kept_in self.old) }
+    {
+        prune_in(alloc, at, asks, &mut self.kept)
+    }
+
+    /// A held address is declined, since another host uses it. Where the client wasn't declining before, what is declined is told from
     /// now on by what stood in each IA.
-    pub(crate) fn give_up(
+    pub(crate) fn decline(
         &mut self,
         alloc: Global,
         cause: Cause6,

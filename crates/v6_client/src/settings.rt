@@ -25,6 +25,8 @@ pub struct Set6 {
     pub nodelay: bool,
     /// Whether a server may answer a SOLICIT by a Reply (RFC 8415, section 18.2.1).
     pub rapid: bool,
+    /// Whether the items of a lease that was read at the start are held while they are asked for again.
+    pub persistent: bool,
 }
 
 /// The settings that the table of states looks at: those of `Set6` that are plain values.
@@ -33,4 +35,5 @@ pub struct Site6 {
     pub iface: IfSpec,
     pub nodelay: bool,
     pub rapid: bool,
+    pub persistent: bool,
 }

@@ -32,11 +32,13 @@ pub enum State6 {
     Rebinding {
         exchange: Exchange6,
     },
-    /// Any server is asked, until `end`, for the items of the kept lease that were valid at `since`.
+    /// Any server is asked, until `end`, for the items of the kept lease that were valid at `since`. Where the client stands on
+    /// the lease they are held.
     Restarting {
         exchange: Exchange6,
         end: u64,
         since: u64,
+        stands: bool,
     },
     /// The server is told which addresses other hosts use; what is left is held.
     Declining {
@@ -56,7 +58,8 @@ pub enum News6 {
     Renew,
     /// They were extended by some server.
     Rebind,
-    /// The kept lease changed, and no other news tells it: some of its items went, or it isn't kept any more.
+    /// The kept lease changed, and no other news tells it: its items are held from now on, some of them went, or it isn't kept any
+    /// more.
     Changed,
     /// None is held any more.
     Expire,
@@ -144,6 +147,8 @@ pub struct Step6 {
     pub keep: Keep6,
     pub say: Option<Say6>,
     pub news: News6,
+    /// Whether the client can't stand any more on the lease that was read: it began, or was turned off.
+    pub spends: bool,
 }
 
 /// Whether the server is told that its items aren't used any more.

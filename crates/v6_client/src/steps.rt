@@ -25,6 +25,7 @@ pub(crate) fn goes_to(state: State6, last: Option<u32>) -> Step6
         keep: Keep6::Stays,
         say: None,
         news: News6::Nothing,
+        spends: false,
     }
 }
 
@@ -146,24 +147,39 @@ pub(crate) fn rebinds(turn: Turn6) -> Step6
 }
 
 /// A REBIND of this exchange for the items of the kept lease that were valid at `since`.
-pub(crate) fn restarting(turn: Turn6, exchange: Exchange6, end: u64, since: u64) -> Step6
-    ensures { result ≡ steps.restarting turn exchange end since }
+pub(crate) fn restarting(
+    turn: Turn6,
+    exchange: Exchange6,
+    end: u64,
+    since: u64,
+    stands: bool,
+) -> Step6
+    ensures { result ≡ steps.restarting turn exchange end since stands }
 {
     let state = State6::Restarting {
         exchange,
         end,
         since,
+        stands,
     };
     speaks(turn, Kind6::Rebind, exchange, state)
 }
 
-/// The first REBIND for the items of the kept lease that are valid now.
-pub(crate) fn restarts(turn: Turn6) -> Step6
+/// The first REBIND for the items of the kept lease that are valid now. A client that stands holds them from now on.
+pub(crate) fn restarts(turn: Turn6, stands: bool) -> Step6
     requires { FitsTurn turn }
-    ensures { result ≡ steps.restarts turn }
+    ensures { result ≡ steps.restarts turn stands }
 {
     let exchange = new_exchange(turn, REBIND);
-    restarting(turn, exchange, turn.at + RESTART_TIME, turn.at)
+    let news = if stands {
+        News6::Changed
+    } else {
+        News6::Nothing
+    };
+    Step6 {
+        news,
+        ..restarting(turn, exchange, turn.at + RESTART_TIME, turn.at, stands)
+    }
 }
 
 /// A DECLINE of this exchange.
@@ -236,7 +252,7 @@ pub(crate) fn tells_parting(parting: Parting6, step: Step6) -> Step6
 }
 
 /// No item is left: servers are looked for anew, and none is kept.
-pub(crate) fn loses(turn: Turn6) -> Step6
+fn loses(turn: Turn6) -> Step6
     requires { FitsTurn turn }
     ensures { result ≡ steps.loses turn }
 {
@@ -255,6 +271,33 @@ pub(crate) fn expires(turn: Turn6) -> Step6
     Step6 {
         news: News6::Expire,
         ..loses(turn)
+    }
+}
+
+/// No item of a restart is left.
+pub(crate) fn emptied(turn: Turn6, stands: bool) -> Step6
+    requires { FitsTurn turn }
+    ensures { result ≡ steps.emptied turn stands }
+{
+    if stands {
+        return expires(turn);
+    }
+    loses(turn)
+}
+
+/// No server answered a restart: the lease stays kept, and isn't held.
+pub(crate) fn unanswered(turn: Turn6, stands: bool) -> Step6
+    requires { FitsTurn turn }
+    ensures { result ≡ steps.unanswered turn stands }
+{
+    let news = if stands {
+        News6::Expire
+    } else {
+        News6::Nothing
+    };
+    Step6 {
+        news,
+        ..to_waiting(turn)
     }
 }
 

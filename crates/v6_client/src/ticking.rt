@@ -8,8 +8,9 @@ ghost use Rattle.v6_client.specs.Times.{FitsTurn};
 use crate::exchange::{Exchange6, solicit_parameters};
 use crate::states::{Dates6, Parting6, State6, Step6};
 use crate::steps::{
-    declining, expires, is_last, keep_by, loses, rebinding, rebinds, renewing, renews, requesting,
-    requests, restarting, rests, soliciting, solicits, tells_parting, to_waiting,
+    declining, emptied, expires, is_last, keep_by, rebinding, rebinds, renewing, renews,
+    requesting, requests, restarting, rests, soliciting, solicits, tells_parting, to_waiting,
+    unanswered,
 };
 use crate::times::earlier;
 use crate::turn::Turn6;
@@ -119,27 +120,29 @@ fn restarting_tick(
     exchange: Exchange6,
     end: u64,
     since: u64,
+    stands: bool,
 ) -> Step6
     requires { FitsTurn turn }
-    ensures { result ≡ ticks.restarting_tick turn parting exchange end since }
+    ensures { result ≡ ticks.restarting_tick turn parting exchange end since stands }
 {
     // the last item is over
     if is_last(parting) {
-        return loses(turn);
+        return emptied(turn, stands);
     }
     // no answer came
     if end <= turn.at {
-        return to_waiting(turn);
+        return unanswered(turn, stands);
     }
     let since = since.max(turn.at);
     // REBIND again
     if exchange.is_due(turn) {
-        return restarting(turn, exchange.again(turn, REBIND), end, since);
+        return restarting(turn, exchange.again(turn, REBIND), end, since, stands);
     }
     let state = State6::Restarting {
         exchange,
         end,
         since,
+        stands,
     };
     rests(turn, state)
 }
@@ -197,12 +200,19 @@ pub(crate) fn tick_row(turn: Turn6, dates: Dates6, parting: Parting6, state: Sta
         State6::Rebinding { exchange } => {
             tells_parting(parting, rebinding_tick(turn, parting, exchange))
         }
-        // the kept items are asked for again until the end
+        // the kept items are asked for again until the end; where they are held, those that are over go
         State6::Restarting {
             exchange,
             end,
             since,
-        } => restarting_tick(turn, parting, exchange, end, since),
+            stands,
+        } => {
+            let step = restarting_tick(turn, parting, exchange, end, since, stands);
+            if stands {
+                return tells_parting(parting, step);
+            }
+            step
+        }
         // DECLINE again; after the last one what is left is held
         State6::Declining { exchange } => {
             tells_parting(parting, declining_tick(turn, parting, exchange))

@@ -1,12 +1,10 @@
 -- The client asks to be woken at the first moment at which a row of its table fits.
-use Rattle.std.proofs.Common.{◌≡◌, ℕ, ◌≤◌, ◌⊎◌, inl, inr, Bool, true, false, not, cond, ◌&&◌, List, [], ◌∷◌, filter, fold, max, min, Option, Some, None, refl, sym, ap, ◌∙◌, subst, arith, leb}
+use Rattle.std.proofs.Common.{◌≡◌, ℕ, ◌≤◌, ◌⊎◌, inl, inr, Bool, true, false, not, cond, ◌&&◌, List, [], filter, min, Option, Some, None, refl, arith, leb}
 use Rattle.std.specs.Bool.{Decides}
 use Rattle.std.specs.List.{Contains, list_any}
-use Rattle.std.proofs.lemmas.Bool.{and_parts, and_from, false_from_ne_true, not-true, not_from_false}
+use Rattle.std.proofs.lemmas.Bool.{and_parts, false_from_ne_true}
 use Rattle.std.proofs.lemmas.Bool.Decides.{Decides-not}
 use Rattle.machine.specs.Moment.{is_due}
-use Rattle.net_types.proofs.CaseLaws.{split}
-use Rattle.v6_options.specs.declared.ia.IaKind.{IaKind}
 use Rattle.lease6_text.specs.declared.lease.Item6.{Item6}
 use Rattle.lease6_text.specs.Leases.{IaLeaseContent, Lease6Content}
 use Rattle.v6_client.specs.declared.exchange.Exchange6.{Exchange6}
@@ -23,15 +21,15 @@ use Rattle.v6_client.specs.declared.states.State6.TheVariants.{Off, Waiting, Sol
 use Rattle.v6_client.specs.declared.states.Step6.{Step6}
 use Rattle.v6_client.specs.declared.turn.Turn6.{Turn6}
 use Rattle.v6_client.specs.Calls.{dates_in, due_of}
-use Rattle.v6_client.specs.Clients.{ClientContent, holds, scope_of, turn_of}
+use Rattle.v6_client.specs.Clients.{ClientContent, holds, is_at_end, scope_of, turn_of}
 use Rattle.v6_client.specs.Due.{due_row}
 use Rattle.v6_client.specs.Exchanges.{is_again_due}
 use Rattle.v6_client.specs.Items.{asked_at, dates_of, goes_of, ias_of, is_in, lapse_in, lapse_of, parting_of, stays_in}
-use Rattle.v6_client.specs.Moves.{lapsed, parting_at}
+use Rattle.v6_client.specs.Moves.{parting_at}
 use Rattle.v6_client.specs.Taking.{t1_of, t2_of}
-use Rattle.v6_client.specs.Ticks.{tick_row}
+use Rattle.v6_client.specs.Ticks.{restarting_tick, tick_row}
 use Rattle.v6_client.specs.Times.{earlier}
-use Rattle.v6_client_laws.specs.DueRows.{FitsAt, HasCome, IsOver, IsOwn, LooksAtMoments, Rests, RestsBefore, RestsElsewhere, RowFits, WakesInTime, state_later}
+use Rattle.v6_client_laws.specs.DueRows.{FitsAt, HasCome, IsOver, IsOwn, LooksAtMoments, RestartFits, RestsBefore, RestsElsewhere, RowFits, WakesInTime, state_later}
 use Rattle.v6_client_laws.specs.Least.{LeastOf}
 use Rattle.v6_client_laws.proofs.Given.{Met, met}
 use Rattle.v6_client_laws.proofs.Leasts.{SomeOf, all_least, come_decides, come_least, earlier_least, filter_in, in_filter, not_before, not_due, to_least}
@@ -111,23 +109,23 @@ module _ (kept : Option Lease6Content) (asks : List IaAsk) where
       earlier_least (HasCome (t2_of kept)) (IsOver kept asks scope.All) (dates scope.All).t2 (dates scope.All).lapse
       (t2_least scope.All kept asks) (over_least scope.All kept asks)
 
-  ended_or : (exchange : Exchange6) (end since : ℕ)
-      → LeastOf (RowFits kept asks (Restarting exchange end since)) (earlier (Some (min exchange.due end)) (dates (scope.Since since)).lapse)
-  ended_or exchange end since =
-      let Over : ℕ → Type 0 = IsOver kept asks (scope.Since since) in
-      to_least (λ at. ((exchange.due ≤ at) ⊎ (end ≤ at)) ⊎ Over at) (RowFits kept asks (Restarting exchange end since))
-      (earlier (Some (min exchange.due end)) (dates (scope.Since since)).lapse) (λ at one. there at one) (λ at one. back at one)
-      (earlier_least (λ at. (exchange.due ≤ at) ⊎ (end ≤ at)) Over (Some (min exchange.due end)) (dates (scope.Since since)).lapse
-      (said_or exchange (λ at. end ≤ at) (Some end) (come_least (Some end))) (over_least (scope.Since since) kept asks))
+  ended_or : (s : Scope6) (exchange : Exchange6) (end : ℕ)
+      → LeastOf (RestartFits kept asks s exchange.due end) (earlier (Some (min exchange.due end)) (dates s).lapse)
+  ended_or s exchange end =
+      let Over : ℕ → Type 0 = IsOver kept asks s in
+      to_least (λ at. ((exchange.due ≤ at) ⊎ (end ≤ at)) ⊎ Over at) (RestartFits kept asks s exchange.due end)
+      (earlier (Some (min exchange.due end)) (dates s).lapse) (λ at one. there at one) (λ at one. back at one)
+      (earlier_least (λ at. (exchange.due ≤ at) ⊎ (end ≤ at)) Over (Some (min exchange.due end)) (dates s).lapse
+      (said_or exchange (λ at. end ≤ at) (Some end) (come_least (Some end))) (over_least s kept asks))
     where
-      there : (at : ℕ) → (((exchange.due ≤ at) ⊎ (end ≤ at)) ⊎ IsOver kept asks (scope.Since since) at)
-          → RowFits kept asks (Restarting exchange end since) at
+      there : (at : ℕ) → (((exchange.due ≤ at) ⊎ (end ≤ at)) ⊎ IsOver kept asks s at)
+          → RestartFits kept asks s exchange.due end at
       there at (inl (inl due)) = inl due
       there at (inl (inr ends)) = inr (inl ends)
       there at (inr over) = inr (inr over)
 
-      back : (at : ℕ) → RowFits kept asks (Restarting exchange end since) at
-          → (((exchange.due ≤ at) ⊎ (end ≤ at)) ⊎ IsOver kept asks (scope.Since since) at)
+      back : (at : ℕ) → RestartFits kept asks s exchange.due end at
+          → (((exchange.due ≤ at) ⊎ (end ≤ at)) ⊎ IsOver kept asks s at)
       back at (inl due) = inl (inl due)
       back at (inr (inl ends)) = inl (inr ends)
       back at (inr (inr over)) = inr over
@@ -145,7 +143,8 @@ module _ (kept : Option Lease6Content) (asks : List IaAsk) where
       (earlier (dates scope.All).t2 (dates scope.All).lapse) t2_or
   wakes (Rebinding exchange) =
       said_or exchange (IsOver kept asks scope.All) (dates scope.All).lapse (over_least scope.All kept asks)
-  wakes (Restarting exchange end since) = ended_or exchange end since
+  wakes (Restarting exchange end since true) = ended_or scope.All exchange end
+  wakes (Restarting exchange end since false) = ended_or (scope.Since since) exchange end
   wakes (Declining exchange) =
       said_or exchange (IsOver kept asks scope.All) (dates scope.All).lapse (over_least scope.All kept asks)
 
@@ -230,13 +229,15 @@ module _ (turn : Turn6) (kept : Option Lease6Content) (asks : List IaAsk) where
       second (IsRest turn (Rebinding exchange)) (is_again_due turn exchange) _ _ (unsaid turn exchange (λ due. never (inl due)))
       (rest refl refl refl refl refl)
 
-  restarting_rests : (stays : Bool) (exchange : Exchange6) (end since : ℕ) → (RowFits kept asks (Restarting exchange end since) turn.at → ⊥)
-      → IsRest turn (Restarting exchange end since)
-      (tick_row turn (dated (scope.Since since)) (record { goes = false; stays = stays }) (Restarting exchange end since))
-  restarting_rests stays exchange end since never =
-      second (IsRest turn (Restarting exchange end since)) (leb end turn.at) _ _ (not_due (Some end) turn.at (λ ends. never (inr (inl ends))))
-      (second (IsRest turn (Restarting exchange end since)) (is_again_due turn exchange) _ _ (unsaid turn exchange (λ due. never (inl due)))
-      (rest refl refl refl refl refl))
+  restarting_rests : (s : Scope6) (stays : Bool) (exchange : Exchange6) (end since : ℕ) (stands : Bool)
+      → (RestartFits kept asks s exchange.due end turn.at → ⊥)
+      → IsRest turn (Restarting exchange end since stands)
+      (restarting_tick turn (record { goes = false; stays = stays }) exchange end since stands)
+  restarting_rests s stays exchange end since stands never =
+      second (IsRest turn (Restarting exchange end since stands)) (leb end turn.at) _ _
+      (not_due (Some end) turn.at (λ ends. never (inr (inl ends))))
+      (second (IsRest turn (Restarting exchange end since stands)) (is_again_due turn exchange) _ _
+      (unsaid turn exchange (λ due. never (inl due))) (rest refl refl refl refl refl))
 
   declining_rests : (stays : Bool) (exchange : Exchange6) → (RowFits kept asks (Declining exchange) turn.at → ⊥)
       → IsRest turn (Declining exchange) (tick_row turn (dated scope.All) (record { goes = false; stays = stays }) (Declining exchange))
@@ -270,10 +271,16 @@ module _ (turn : Turn6) (kept : Option Lease6Content) (asks : List IaAsk) where
       by_goes (λ p. IsRest turn (Rebinding exchange) (tick_row turn (dated scope.All) p (Rebinding exchange)))
       (λ stays. rebinding_rests stays exchange never) (parted scope.All).goes (parted scope.All).stays
       (goes_none kept asks scope.All turn.at (λ over. never (inr over)))
-  row_rests (Restarting exchange end since) looks never =
-      by_goes (λ p. IsRest turn (Restarting exchange end since) (tick_row turn (dated (scope.Since since)) p (Restarting exchange end since)))
-      (λ stays. restarting_rests stays exchange end since never) (parted (scope.Since since)).goes (parted (scope.Since since)).stays
-      (goes_none kept asks (scope.Since since) turn.at (λ over. never (inr (inr over))))
+  row_rests (Restarting exchange end since true) looks never =
+      let state : State6 = Restarting exchange end since true in
+      by_goes (λ p. IsRest turn state (tick_row turn (dated scope.All) p state))
+      (λ stays. restarting_rests scope.All stays exchange end since true never) (parted scope.All).goes (parted scope.All).stays
+      (goes_none kept asks scope.All turn.at (λ over. never (inr (inr over))))
+  row_rests (Restarting exchange end since false) looks never =
+      let state : State6 = Restarting exchange end since false in
+      by_goes (λ p. IsRest turn state (tick_row turn (dated (scope.Since since)) p state))
+      (λ stays. restarting_rests (scope.Since since) stays exchange end since false never) (parted (scope.Since since)).goes
+      (parted (scope.Since since)).stays (goes_none kept asks (scope.Since since) turn.at (λ over. never (inr (inr over))))
   row_rests (Declining exchange) looks never =
       by_goes (λ p. IsRest turn (Declining exchange) (tick_row turn (dated scope.All) p (Declining exchange)))
       (λ stays. declining_rests stays exchange never) (parted scope.All).goes (parted scope.All).stays
@@ -288,11 +295,16 @@ module _ (turn : Turn6) (kept : Option Lease6Content) (asks : List IaAsk) where
   none_goes Bound never = goes_none kept asks scope.All turn.at (λ over. never (inr (inr over)))
   none_goes (Renewing exchange) never = goes_none kept asks scope.All turn.at (λ over. never (inr (inr over)))
   none_goes (Rebinding exchange) never = goes_none kept asks scope.All turn.at (λ over. never (inr over))
-  none_goes (Restarting exchange end since) never = refl
+  none_goes (Restarting exchange end since true) never = goes_none kept asks scope.All turn.at (λ over. never (inr (inr over)))
+  none_goes (Restarting exchange end since false) never = refl
   none_goes (Declining exchange) never = goes_none kept asks scope.All turn.at (λ over. never (inr over))
 
 pub wakes_in_time : WakesInTime
 wakes_in_time c = wakes c.kept c.settings.asks c.state
+
+neither : (one other : Bool) → one ≡ false → (one && other) ≡ false
+neither true other e = absurd cc
+neither false other e = refl
 
 arm_is : (b : Bool) (d c : ClientContent) → b ≡ false → cond b d c ≡ c
 arm_is true d c e = absurd cc
@@ -309,8 +321,9 @@ rests_elsewhere c at salt looks never =
       keep = still.keep;
       say = still.say;
       news = still.news;
-      items = arm_is (holds c.state && (parting_at (Lapse at) c).goes) _ c
-          (none_goes (turn_of at salt c) c.kept c.settings.asks c.state never);
+      items = arm_is (holds c.state && (parting_at (Lapse at) c).goes && not (is_at_end at c.state)) _ c
+          (neither (holds c.state && (parting_at (Lapse at) c).goes) (not (is_at_end at c.state))
+          (none_goes (turn_of at salt c) c.kept c.settings.asks c.state never));
     }
 
 pub rests_before : RestsBefore

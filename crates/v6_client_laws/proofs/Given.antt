@@ -1,21 +1,18 @@
 -- What the client reads of a server's message is what the message gives.
-use Rattle.std.proofs.Common.{◌≡◌, ℕ, zero, suc, ◌<◌, ◌≤◌, ◌⊎◌, inl, inr, Bool, true, false, cond, ◌&&◌, ◌||◌, List, [], ◌∷◌, ◌++◌, length, get_or, take, Option, Some, None, refl, sym, ap, ◌∙◌, subst, arith, eqb, leb}
-use Rattle.std.specs.Bool.{Decides}
-use Rattle.std.specs.List.{Contains, filter_map, list_any}
+use Rattle.std.proofs.Common.{◌≡◌, ℕ, zero, suc, ◌<◌, ◌≤◌, ◌⊎◌, inl, inr, Bool, true, cond, ◌&&◌, List, [], ◌∷◌, ◌++◌, length, get_or, Option, Some, None, refl, sym, ap, ◌∙◌, subst, arith, leb}
+use Rattle.std.specs.List.{Contains, list_any}
 use Rattle.std.specs.Option.{option_and_then}
-use Rattle.std.specs.Prelude.{◌==◌, nat_le}
+use Rattle.std.specs.Prelude.{◌==◌}
 use Rattle.std.proofs.lemmas.Bool.{and_parts, and_from, eqb-true, eq-eqb, leb-true, le-leb, or_cases, or_left, or_right}
 use Rattle.net_types.proofs.CaseLaws.{split}
 use Rattle.v6_options.specs.declared.ia.IaKind.{IaKind}
 use Rattle.v6_options.specs.declared.ia.ItemSaid.{ItemSaid}
 use Rattle.v6_options.specs.Duids.{duid_in}
 use Rattle.v6_options.specs.Ias.{IaContent, ias_in}
-use Rattle.v6_message.specs.Replies.{Content6}
 use Rattle.v6_client.specs.declared.settings.IaAsk.{IaAsk}
-use Rattle.v6_client.specs.Answers.{server_of}
-use Rattle.v6_client.specs.Reading.{cleared, front_items, ia_for, is_no_binding, is_read, is_readable, is_unbound, read_item, read_items, saids_of, serves, serves_by, some_read, some_served}
-use Rattle.v6_client_laws.specs.GivenItems.{GivesItem, GivesSome, HasNoBinding, IsHeldAs, IsOfFirst, NamesServer, Serves}
-use Rattle.v6_client_laws.specs.GivenLaws.{BindingsAreKnown, ItemsAreGiven, MessagesServe, ReadsItems, ReadsServer, ServersAreNamed}
+use Rattle.v6_client.specs.Reading.{cleared, front_items, ia_for, is_no_binding, is_read, is_readable, is_unbound, saids_of, serves_by, some_read, some_served}
+use Rattle.v6_client_laws.specs.GivenItems.{GivesItem, GivesSome, HasNoBinding, IsHeldAs, IsOfFirst}
+use Rattle.v6_client_laws.specs.GivenLaws.{BindingsAreKnown, ItemsAreGiven, MessagesServe, ServersAreNamed}
 use Rattle.v6_client_laws.proofs.FirstIas.{first_found, found_first}
 use Rattle.v6_client_laws.proofs.FirstItems.{Picked, behind_in, first_read, front_in, kept, none_in, picked}
 use Rattle.v6_client_laws.proofs.ItemTests.{held_as, held_is, may_decides, preferred_as, valid_as, well_decides}

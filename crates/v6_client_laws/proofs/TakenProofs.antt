@@ -1,6 +1,6 @@
 -- What becomes of the items of an IA when those of a Reply are taken.
-use Rattle.std.proofs.Common.{◌≡◌, ◌≢◌, ℕ, zero, suc, ◌+◌, ◌*◌, ◌<◌, ◌≤◌, ◌⊎◌, inl, inr, Bool, true, false, not, cond, List, [], ◌∷◌, ◌++◌, length, take, drop, set, fold, min, Option, Some, None, refl, sym, ap, ◌∙◌, subst, arith, eqb, ltb, length-append}
-use Rattle.std.specs.List.{AllByRecursion, Contains, position, position_or_len}
+use Rattle.std.proofs.Common.{◌≡◌, ◌≢◌, ℕ, suc, ◌<◌, ◌≤◌, ◌⊎◌, inl, inr, true, false, cond, List, [], ◌∷◌, ◌++◌, length, take, drop, set, fold, Option, Some, None, refl, sym, ap, ◌∙◌, subst, arith, eqb, ltb, length-append}
+use Rattle.std.specs.List.{position_or_len}
 use Rattle.std.proofs.lemmas.Bool.{and_parts, and_from, both_ways, eqb-false, eqb-true, eq-eqb, le-ltb, lt-ltb, ltb-false, ltb-true, ne_eqb}
 use Rattle.net_types.proofs.CaseLaws.{split}
 use Rattle.net_types.specs.declared.address.Net6.{Net6}
@@ -11,7 +11,7 @@ use Rattle.lease6_text.specs.LineParts.{is_of_net}
 use Rattle.v6_client.specs.declared.times.TheConstants.{FOREVER}
 use Rattle.v6_client.specs.Taking.{IaTaking, item_from, place_of, placed, shorter, taken_from, taken_out, takes_item}
 use Rattle.v6_client.specs.Times.{earlier, moment_after}
-use Rattle.v6_client_laws.specs.GivenLaws.{IsTaking, ItemsAreTaken, TakesItems}
+use Rattle.v6_client_laws.specs.GivenLaws.{IsTaking, ItemsAreTaken}
 use Rattle.v6_client_laws.specs.Least.{LeastOf}
 use Rattle.v6_client_laws.specs.TakenItems as taken
 use Rattle.v6_client_laws.specs.TakenItems.{EndsAfter, HasItem, HasNone, IsFrom, IsPreferredFor, Takes, endless}

@@ -1,16 +1,15 @@
 -- A lease gets the times that a Reply tells.
-use Rattle.std.proofs.Common.{◌≡◌, ◌≢◌, ℕ, ◌+◌, ◌*◌, ◌≤◌, ◌⊎◌, inl, inr, Bool, true, false, cond, ◌&&◌, List, [], ◌∷◌, fold, max, min, Option, Some, None, option_map, refl, sym, ap, ◌∙◌, subst, arith, eqb}
+use Rattle.std.proofs.Common.{◌≡◌, ℕ, ◌+◌, ◌≤◌, ◌⊎◌, inl, inr, true, ◌&&◌, List, [], ◌∷◌, fold, max, min, Option, Some, None, option_map, refl, sym, ap, ◌∙◌, subst, arith, eqb}
 use Rattle.std.specs.List.{Contains}
 use Rattle.std.specs.Option.{option_and_then}
-use Rattle.std.proofs.lemmas.Bool.{and_parts, cases_lt, eqb-false, eqb-true}
+use Rattle.std.proofs.lemmas.Bool.{and_parts, eqb-false, eqb-true}
 use Rattle.net_types.proofs.CaseLaws.{gated, split}
-use Rattle.v6_options.specs.declared.ia.ItemSaid.{ItemSaid}
 use Rattle.v6_options.specs.Ias.{IaContent}
 use Rattle.v6_message.specs.Replies.{Content6}
 use Rattle.lease6_text.specs.Leases.{Lease6Content}
 use Rattle.v6_client.specs.declared.renewing.Spans6.{Spans6}
 use Rattle.v6_client.specs.declared.settings.IaAsk.{IaAsk}
-use Rattle.v6_client.specs.declared.times.TheConstants.{FOREVER, LEAST_TIME, SECOND, T1_PART, T2_PART}
+use Rattle.v6_client.specs.declared.times.TheConstants.{FOREVER, LEAST_TIME, T1_PART, T2_PART}
 use Rattle.v6_client.specs.Answers.{granted, is_taken, meeting_of, server_of, takes_replies}
 use Rattle.v6_client.specs.Calls.{fresh_in}
 use Rattle.v6_client.specs.Clients.{ClientContent}
@@ -19,11 +18,10 @@ use Rattle.v6_client.specs.Reading.{ia_for, saids_of, serves}
 use Rattle.v6_client.specs.Renewing.{joined, raised, span, spans_of}
 use Rattle.v6_client.specs.Taking.{Meeting, ia_spans, ias_granted, spans_granted, t1_granted, t2_granted, taken_by}
 use Rattle.v6_client.specs.Times.{earlier}
-use Rattle.v6_client_laws.specs.GivenItems.{IsFirstOf}
-use Rattle.v6_client_laws.specs.GivenLaws.{GetsTimes, IsGranted, LeasesAreGranted, TakesItems, TimesAreTold}
-use Rattle.v6_client_laws.specs.GivenTimes.{AreTimes, Brings, BringsSome, ComesAfter, IsAfterLeast, IsLeft, IsTime, IsTold, TellsT1, TellsT2, least_time, met}
+use Rattle.v6_client_laws.specs.GivenLaws.{IsGranted, LeasesAreGranted, TakesItems, TimesAreTold}
+use Rattle.v6_client_laws.specs.GivenTimes.{AreTimes, Brings, BringsSome, ComesAfter, IsTime, TellsT1, TellsT2, least_time, met}
 use Rattle.v6_client_laws.specs.Least.{IsLeast, LeastOf}
-use Rattle.v6_client_laws.specs.TakenItems.{IsPreferredFor, Takes, endless}
+use Rattle.v6_client_laws.specs.TakenItems.{IsPreferredFor}
 use Rattle.v6_client_laws.proofs.FirstIas.{first_found, found_first}
 use Rattle.v6_client_laws.proofs.FirstItems.{behind_in, front_in, none_in}
 use Rattle.v6_client_laws.proofs.Given.{messages_serve, servers_are_named}

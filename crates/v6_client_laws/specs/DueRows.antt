@@ -1,5 +1,5 @@
 -- At which moments a row of the table of ticks fits (RFC 8415, section 18.2), apart from when the client asks to be woken.
-use Rattle.std.specs.Prelude.{◌≡◌, ℕ, ◌≤◌, ◌⊎◌, false, List, max, Option, Some, None}
+use Rattle.std.specs.Prelude.{◌≡◌, ℕ, ◌≤◌, ◌⊎◌, true, false, List, max, Option, Some, None}
 use Rattle.std.specs.List.{Contains}
 use Rattle.machine.specs.Moment.{is_due}
 use Rattle.lease6_text.specs.declared.lease.Item6.{Item6}
@@ -41,6 +41,10 @@ pub record IsOver (kept : Option Lease6Content) (asks : List IaAsk) (scope : Sco
   pub own : IsOwn scope item
   pub over : HasCome item.valid at
 
+-- the message of a restart; its end; the end of an item that is the client's own
+abbrev pub RestartFits : Option Lease6Content → List IaAsk → Scope6 → (due end at : ℕ) → Type 0
+RestartFits kept asks scope due end at = (due ≤ at) ⊎ ((end ≤ at) ⊎ IsOver kept asks scope at)
+
 -- The first SOLICIT; the message of an exchange, or what comes after it; T1; T2; the end of an item; the end of the attempt to have
 -- the kept items again.
 abbrev pub RowFits : Option Lease6Content → List IaAsk → State6 → (at : ℕ) → Type 0
@@ -51,8 +55,8 @@ RowFits kept asks (Requesting exchange) at = exchange.due ≤ at
 RowFits kept asks Bound at = HasCome (t1_of kept) at ⊎ (HasCome (t2_of kept) at ⊎ IsOver kept asks scope.All at)
 RowFits kept asks (Renewing exchange) at = (exchange.due ≤ at) ⊎ (HasCome (t2_of kept) at ⊎ IsOver kept asks scope.All at)
 RowFits kept asks (Rebinding exchange) at = (exchange.due ≤ at) ⊎ IsOver kept asks scope.All at
-RowFits kept asks (Restarting exchange end since) at =
-    (exchange.due ≤ at) ⊎ ((end ≤ at) ⊎ IsOver kept asks (scope.Since since) at)
+RowFits kept asks (Restarting exchange end since true) at = RestartFits kept asks scope.All exchange.due end at
+RowFits kept asks (Restarting exchange end since false) at = RestartFits kept asks (scope.Since since) exchange.due end at
 RowFits kept asks (Declining exchange) at = (exchange.due ≤ at) ⊎ IsOver kept asks scope.All at
 
 abbrev pub FitsAt : ClientContent → (at : ℕ) → Type 0
@@ -73,7 +77,7 @@ state_later at (Requesting exchange) = Requesting exchange
 state_later at Bound = Bound
 state_later at (Renewing exchange) = Renewing exchange
 state_later at (Rebinding exchange) = Rebinding exchange
-state_later at (Restarting exchange end since) = Restarting exchange end (max since at)
+state_later at (Restarting exchange end since stands) = Restarting exchange end (max since at) stands
 state_later at (Declining exchange) = Declining exchange
 
 abbrev pub tick_step : (at salt : ℕ) → ClientContent → Step6
@@ -97,7 +101,7 @@ LooksAtMoments (Requesting exchange) = ⊥
 LooksAtMoments Bound = Unit {0}
 LooksAtMoments (Renewing exchange) = Unit {0}
 LooksAtMoments (Rebinding exchange) = Unit {0}
-LooksAtMoments (Restarting exchange end since) = Unit {0}
+LooksAtMoments (Restarting exchange end since stands) = Unit {0}
 LooksAtMoments (Declining exchange) = Unit {0}
 
 abbrev pub RestsElsewhere : Type 0

@@ -1,5 +1,5 @@
 -- What the client reads of a server's message is what the message gives, both ways.
-use Rattle.std.specs.Prelude.{◌≡◌, ℕ, List, Option, Some, fold}
+use Rattle.std.specs.Prelude.{◌≡◌, ℕ, List, Option, Some}
 use Rattle.std.specs.Bool.{Decides}
 use Rattle.std.specs.List.{Contains}
 use Rattle.v6_options.specs.declared.ia.ItemSaid.{ItemSaid}

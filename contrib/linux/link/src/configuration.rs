@@ -125,7 +125,7 @@ fn findings(file: &Path, bytes: &[u8], passed: bool, noticed: &str, refused: &st
     for line in noticed.lines() {
         let words: Vec<&str> = line.splitn(3, ' ').collect();
         match words[..] {
-            ["notice", number, word] if word != PERSISTENT => {
+            ["notice", number, word] => {
                 let number = number.parse().unwrap_or(0);
                 found.push(of_line(number, &format!("`{word}` does nothing"), false));
             }
@@ -200,10 +200,10 @@ mod tests {
 
     #[test]
     fn findings_have_the_file_the_line_and_its_text() {
-        let text = b"\xef\xbb\xbfnodelay\r\npersistent\r\ntimeout soon\r\n";
+        let text = b"\xef\xbb\xbfnodelay\r\nnoarp\r\ntimeout soon\r\n";
         let refused = "dhcpcd: configuration line 3: BadArgument\n";
         let found =
-            findings(Path::new("conf"), text, false, "notice 1 \u{feff}nodelay\nnotice 2 persistent\n", refused);
+            findings(Path::new("conf"), text, false, "notice 1 \u{feff}nodelay\n", refused);
         let texts: Vec<&str> = found.iter().map(|one| one.text.as_str()).collect();
         assert_eq!(texts.len(), 4);
         assert!(texts[0].starts_with("conf:1: ") && texts[0].contains("BOM"));

@@ -1,6 +1,5 @@
 use Rattle.std.proofs.Common.{◌≡◌, ◌∙◌, sym, ap, subst, true, false, Result, Ok, Err, OnErr, arith}
 use Rattle.net_types.specs.Moments.{IsMoment}
-use Rattle.net_types.specs.declared.address.Mac.{Mac}
 use Rattle.net_types.specs.declared.fault.NoMemory.{NoMemory}
 use Rattle.v4_client.specs.declared.client.Out4.{Out4}
 use Rattle.v4_client.specs.declared.states.Answer4.{Answer4}
@@ -8,11 +7,10 @@ use Rattle.v4_client.specs.declared.states.State4.{State4}
 use Rattle.v4_client.specs.declared.states.Step4.{Step4}
 use Rattle.v4_client.specs.declared.states.Turn4.{Turn4}
 use Rattle.v4_client.specs.Hearing.{heard_row}
-use Rattle.v4_client.specs.Clients.{ClientContent, is_held}
+use Rattle.v4_client.specs.Clients.{ClientContent, is_held, kept_terms}
 use Rattle.v4_client.specs.Moves.{takes_room}
 use Rattle.v4_client.specs.Messages.{arrival_from}
 use Rattle.v4_client.specs.Sound.{IsSound, IsSoundStep, FitsAnswer}
-use Rattle.v4_client.proofs.Foreign.{grant_awaited, grant_wants, long_wants}
 use Rattle.v4_client.proofs.Room.{heard_room}
 use Rattle.v4_client.proofs.SoundAnswers.{answer_fits}
 use Rattle.v4_client.proofs.SoundClients.{early}
@@ -30,8 +28,8 @@ go-requires c =
     rw c.in_ok-answer.ensures.answer (answer_fits c.args.c.now.settings (arrival_from c.args.from c.clamp_moment.result c.args.msg.now) c.args.c.now.state clamped sound.state) in
     let at : IsMoment c.turn.result.at =
     early c.turn.result c.args.at c.clamp_moment.result c.args.salt c.args.c.now c.clamp_moment.ensures c.turn.ensures in
-    subst (λ (s : State4). IsSoundStep s c.heard_row-step.result) same
-    (rw c.heard_row-step.ensures (heard_sound c.turn.result c.in_ok-answer.answer c.c.inside.state at c.c.invariant.state good))
+    subst (λ (s : State4). IsSoundStep (kept_terms c.bring.new.self) s c.heard_row-step.result) same
+    (rw c.heard_row-step.ensures (heard_sound (kept_terms c.bring.new.self) c.turn.result c.in_ok-answer.answer c.c.inside.state at c.c.invariant.state good))
 
 -- the step takes no room
 gone : (P Q : Type 0) (r : Result Out4 NoMemory) → (P → ⊥) → OnErr r P → OnErr r Q

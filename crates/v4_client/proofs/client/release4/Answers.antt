@@ -1,6 +1,6 @@
 use Rattle.std.proofs.Common.{◌≡◌, ap, subst}
 use Rattle.v4_client.specs.declared.states.State4.{State4}
-use Rattle.v4_client.specs.Clients.{ClientContent}
+use Rattle.v4_client.specs.Clients.{ClientContent, kept_terms}
 use Rattle.v4_client.specs.Sound.{IsSoundStep}
 use Rattle.v4_client.proofs.SoundSteps.{release_sound}
 use Rattle.v4_client.proofs.client.release4.Goals as goal
@@ -8,5 +8,5 @@ use Rattle.v4_client.proofs.client.release4.Goals as goal
 pub go-requires : goal.go-requires
 go-requires c =
     let same : c.c.inside.state ≡ c.args.c.now.state = ap (λ (v : ClientContent). v.state) c.c.view_is in
-    subst (λ (s : State4). IsSoundStep s c.release_row-step.result) same
-    (rw c.release_row-step.ensures (release_sound c.turn-turn.result c.args.tell c.c.inside.state))
+    subst (λ (s : State4). IsSoundStep (kept_terms c.args.c.now) s c.release_row-step.result) same
+    (rw c.release_row-step.ensures (release_sound (kept_terms c.args.c.now) c.turn-turn.result c.args.tell c.c.inside.state))

@@ -1,4 +1,4 @@
-use Rattle.v6_client.proofs.Granting.{brings_nothing, keeps_granted, ticks_bring_nothing}
+use Rattle.v6_client.proofs.Granting.{begins_bring_nothing, brings_nothing, keeps_granted, ticks_bring_nothing}
 use Rattle.v6_client.proofs.laws.keeps_granted6.Goals as goal
 
 pub returns-clause-granted : goal.returns-clause-granted
@@ -9,3 +9,6 @@ returns-clause-others c = brings_nothing
 
 pub returns-clause-ticks : goal.returns-clause-ticks
 returns-clause-ticks c = ticks_bring_nothing
+
+pub returns-clause-begins : goal.returns-clause-begins
+returns-clause-begins c = begins_bring_nothing

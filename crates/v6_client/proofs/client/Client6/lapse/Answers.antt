@@ -2,7 +2,8 @@ use Rattle.std.proofs.Common.{Option, IfSome, sym, subst}
 use Rattle.lease6_text.specs.Bounds.{FitsLease6}
 use Rattle.lease6_text.specs.Leases.{Lease6Content}
 use Rattle.v6_client.specs.Clients.{kept_in}
-use Rattle.v6_client.proofs.LeaseFits.{live_fits}
+use Rattle.v6_client.specs.declared.states.Cause6.TheVariants.{Lapse}
+use Rattle.v6_client.proofs.LeaseFits.{left_fits}
 use Rattle.v6_client.proofs.client.Client6.lapse.Goals as goal
 
 pub invariant_of-self : goal.invariant_of-self
@@ -13,11 +14,11 @@ invariant_of-self c = record {
   kept = subst (λ (kept : Option Lease6Content). IfSome kept FitsLease6) (sym c.in_err-lapse.ensures.err) c.self.invariant.kept;
 }
 
-pub invariant_of-self-then-parting : goal.invariant_of-self-then-parting
-invariant_of-self-then-parting c = record {
+pub invariant_of-self-then-not-is_at_end : goal.invariant_of-self-then-not-is_at_end
+invariant_of-self-then-not-is_at_end c = record {
   name = c.self.invariant.name;
   asks = c.self.invariant.asks;
   day = c.self.invariant.day;
   kept = subst (λ (kept : Option Lease6Content). IfSome kept FitsLease6) (sym c.in_ok-lapse.ensures.kept)
-      (live_fits c.args.at c.args.parting (kept_in c.self.inside.leases) c.self.invariant.kept);
+      (left_fits (Lapse c.args.at) c.args.parting (kept_in c.self.inside.leases) c.self.invariant.kept);
 }

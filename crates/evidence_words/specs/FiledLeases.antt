@@ -1,0 +1,18 @@
+-- The leases with which an interface begins in a life, by what its opening read.
+use Rattle.std.specs.Prelude.{List, Option, flat_map, option_and_then}
+use Rattle.lease_text.specs.Leases.{LeaseContent}
+use Rattle.lease6_text.specs.Leases.{Lease6Content}
+use Rattle.settings.specs.declared.interfaces.Managed.{Managed}
+use Rattle.client_model.specs.KeptLeases.{kept_by}
+use Rattle.client_model.specs.KeptLeases6.{kept6_by}
+use Rattle.device_calls.specs.Calls.{Call, store_call}
+use Rattle.turn_model.specs.Loading.{lease4_file, lease6_file}
+use Rattle.evidence_words.specs.HostDuids.{read_among}
+
+-- the lease of DHCPv4 that the first reading of its file gave, where it has the interface's name and hardware address
+abbrev pub kept4_shown : (opening : List Call) → Managed → Option LeaseContent
+kept4_shown opening m = option_and_then (kept_by m.spec) (read_among (lease4_file m) (flat_map store_call opening))
+
+-- that of DHCPv6
+abbrev pub kept6_shown : (opening : List Call) → Managed → Option Lease6Content
+kept6_shown opening m = option_and_then (kept6_by m.spec) (read_among (lease6_file m) (flat_map store_call opening))

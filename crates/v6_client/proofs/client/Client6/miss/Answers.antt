@@ -1,0 +1,16 @@
+use Rattle.std.proofs.Common.{Option, IfSome, sym, subst}
+use Rattle.lease6_text.specs.Bounds.{FitsLease6}
+use Rattle.lease6_text.specs.Leases.{Lease6Content}
+use Rattle.v6_client.specs.Clients.{kept_in}
+use Rattle.v6_client.specs.declared.states.Cause6.TheVariants.{Duplicate}
+use Rattle.v6_client.proofs.LeaseFits.{left_fits}
+use Rattle.v6_client.proofs.client.Client6.miss.Goals as goal
+
+pub invariant_of-self-2 : goal.invariant_of-self-2
+invariant_of-self-2 c = record {
+  name = c.self.invariant.name;
+  asks = c.self.invariant.asks;
+  day = c.self.invariant.day;
+  kept = subst (λ (kept : Option Lease6Content). IfSome kept FitsLease6) (sym c.in_ok-leave.ensures.kept)
+      (left_fits (Duplicate c.args.address) c.args.parting (kept_in c.self.inside.leases) c.self.invariant.kept);
+}
