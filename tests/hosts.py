@@ -289,10 +289,10 @@ class Host:
 class Apart(Host):
     """The daemon and the link as a bridge alone, so that folder and script are another's; the rows are made without it."""
 
-    def __init__(self, net, lines, files=None, script=None):
+    def __init__(self, net, lines, files=None, script=None, links=None):
         self.files = files or os.path.join(net.path("host"), "files")
         self.script = script or os.path.join(net.path("host"), "host")
-        super().__init__(net, lines)
+        super().__init__(net, lines, links)
 
     def prepare(self, lines):
         super().prepare(lines)

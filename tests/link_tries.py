@@ -12,6 +12,7 @@ import time
 
 from hosts import CLIENT, LINK, MAC, RANGE, ROUTER, SERVER
 from hosts import Host, Server, expect, join, read, run, set_link, wait_for, write_lines
+from restart_tries import DEFAULT_ROUTE, address_row, last_life, restart
 
 QUICK = ["nodelay", "noarp", "noipv4ll"]
 SLACK = 5  # seconds that the kernel keeps an address longer than the lease is
@@ -382,15 +383,13 @@ def service(net, score):
         monitor.terminate()
         changes = monitor.communicate()[0].decode()
         expect(changes, "Deleted" not in changes and rows == (net.leased(4), net.routes()))
-    with score.step("both are killed and started again, and all is there at each moment"):
-        count = host.reasons().count("REBOOT")
-        host.crash()
-        host.start()
-        until = time.monotonic() + 20
-        while host.reasons().count("REBOOT") == count:
-            expect("a row is gone", rows == (net.leased(4), net.routes()))
-            expect("no answer", time.monotonic() < until)
-            time.sleep(0.02)
+    with score.step("both are killed and started again, and all is there at each look"):
+        gone = restart(net, host, [address_row(rows[0]), DEFAULT_ROUTE], ["REBOOT"])
+        expect(f"gone: {gone}", not gone and rows == (net.leased(4), net.routes()))
+    with score.step("the daemon asked for it in its opening, before any answer"):
+        opening = last_life(host).split("\nturn ")[0]
+        wanted = [f"addr 1 {rows[0]}", f"route 1 0.0.0.0/0 via {ROUTER} metric 7"]
+        expect(opening, all(f"\nhost add {row} ok\n" in opening for row in wanted))
 
 
 RIGHTS = "+net_admin,+net_raw,+net_bind_service"
@@ -542,7 +541,8 @@ def resolver(net, score):
     write_lines(net.path("conf"), QUICK)
     # in a mount namespace of its own, so that this host's own isn't told
     mount = f"mount -t tmpfs none /usr/sbin && cp {net.path('resolvconf')} /usr/sbin && exec \"$@\""
-    child = net.start(CLIENT, ["unshare", "--mount", "sh", "-c", mount, "sh", *words, "c0"], stdout=subprocess.DEVNULL)
+    quiet = {"stdout": subprocess.DEVNULL, "stderr": subprocess.DEVNULL}
+    child = net.start(CLIENT, ["unshare", "--mount", "sh", "-c", mount, "sh", *words, "c0"], **quiet)
     with score.step("resolvconf is told of the servers, and of their end"):
         wait_for("its words", lambda: "-a dhcpcd-link\n" in read(told_of) and f"nameserver {ROUTER}\n" in read(told_of))
         child.terminate()

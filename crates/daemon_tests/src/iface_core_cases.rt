@@ -39,6 +39,7 @@ fn dhcp4(alloc: Global) -> Result<Client4, Fail> {
         required: Vec::new(alloc),
         refused: Vec::new(alloc),
         blacklist: Vec::new(alloc),
+        persistent: false,
     };
     Ok(client4_new(alloc, set, None))
 }
@@ -58,6 +59,7 @@ fn dhcp6(alloc: Global) -> Result<Client6, Fail> {
         ias: Vec::from_slice(alloc, &[ask])?,
         nodelay: true,
         rapid: false,
+        persistent: false,
     };
     Ok(client6_new(alloc, set, None))
 }

@@ -5,7 +5,7 @@ use Rattle.net_types.specs.declared.address.Mac.{Mac}
 use Rattle.net_types.specs.declared.interface.IfSpec.{IfSpec}
 use Rattle.net_types.specs.declared.interface.Name.{Name}
 use Rattle.live_words.specs.LiveWords.{AsksLive}
-use Rattle.dhcpcd.specs.Words.{AskReplay, AskCheck, AskDump, AskImport, AskLive, AskMake, AsksImport, AsksMake, AskWork}
+use Rattle.dhcpcd.specs.Words.{AskReplay, AskCheck, AskDump, AskImport, AskLab, AskLive, AskMake, AsksImport, AsksMake, AskWork}
 
 first_word : List (List ℕ) → List ℕ
 first_word [] = []
@@ -78,14 +78,39 @@ pub not_dump_import : (words : List (List ℕ)) → AskDump words → AskImport 
 unfolding first_word
 not_dump_import words dump import = apart words (codes "dump") (codes "import") refl refl (ap first_word dump) (ap first_word import.2.says)
 
+pub not_replay_lab : (words : List (List ℕ)) → AskReplay words → AskLab words → ⊥
+unfolding first_word
+not_replay_lab words replay lab = apart words (codes "replay") (codes "lab") refl refl (ap first_word replay) (ap first_word lab)
+
+pub not_check_lab : (words : List (List ℕ)) → AskCheck words → AskLab words → ⊥
+unfolding first_word
+not_check_lab words check lab = apart words (codes "check") (codes "lab") refl refl (ap first_word check) (ap first_word lab)
+
+pub not_live_lab : (words : List (List ℕ)) → AskLive words → AskLab words → ⊥
+unfolding first_word
+not_live_lab words live lab = apart words (codes "live") (codes "lab") refl refl (ap first_word live.1.says) (ap first_word lab)
+
+pub not_make_lab : (words : List (List ℕ)) → AskMake words → AskLab words → ⊥
+unfolding first_word
+not_make_lab words make lab = apart words (codes "make") (codes "lab") refl refl (ap first_word make.1.says) (ap first_word lab)
+
+pub not_dump_lab : (words : List (List ℕ)) → AskDump words → AskLab words → ⊥
+unfolding first_word
+not_dump_lab words dump lab = apart words (codes "dump") (codes "lab") refl refl (ap first_word dump) (ap first_word lab)
+
+pub not_import_lab : (words : List (List ℕ)) → AskImport words → AskLab words → ⊥
+unfolding first_word
+not_import_lab words import lab = apart words (codes "import") (codes "lab") refl refl (ap first_word import.2.says) (ap first_word lab)
+
 -- No words ask for two works.
-pub ruleset asked_apart = (not_both, not_replay_live, not_check_live, not_replay_make, not_check_make, not_live_make, not_replay_dump, not_check_dump, not_live_dump, not_make_dump, not_replay_import, not_check_import, not_live_import, not_make_import, not_dump_import)
+pub ruleset asked_apart = (not_both, not_replay_live, not_check_live, not_replay_make, not_check_make, not_live_make, not_replay_dump, not_check_dump, not_live_dump, not_make_dump, not_replay_import, not_check_import, not_live_import, not_make_import, not_dump_import, not_replay_lab, not_check_lab, not_live_lab, not_make_lab, not_dump_lab, not_import_lab)
 
 -- words that ask for no work
-pub none_asked : (words : List (List ℕ)) → (AskReplay words → ⊥) → (AskCheck words → ⊥) → (AskDump words → ⊥) → ((rounds : ℕ) → AsksMake words rounds → ⊥)
+pub none_asked : (words : List (List ℕ)) → (AskReplay words → ⊥) → (AskCheck words → ⊥) → (AskDump words → ⊥) → (AskLab words → ⊥) → ((rounds : ℕ) → AsksMake words rounds → ⊥)
     → ((name : Name) (mac : Mac) → AsksImport words name mac → ⊥) → ((specs : List IfSpec) → AsksLive words specs → ⊥) → AskWork words → ⊥
-none_asked words replay check dump make import live asks =
-    let imports : AskDump words ⊎ AskImport words → ⊥ = ⊎_elim dump (λ asked. import asked.0 asked.1 asked.2) in
+none_asked words replay check dump lab make import live asks =
+    let imports_or_lab : AskImport words ⊎ AskLab words → ⊥ = ⊎_elim (λ asked. import asked.0 asked.1 asked.2) lab in
+    let imports : AskDump words ⊎ (AskImport words ⊎ AskLab words) → ⊥ = ⊎_elim dump imports_or_lab in
     let makes = ⊎_elim (λ asked. make asked.0 asked.1) imports in
     let lives = ⊎_elim (λ asked. live asked.0 asked.1) makes in
     ⊎_elim replay (⊎_elim check lives) asks

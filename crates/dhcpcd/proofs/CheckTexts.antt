@@ -35,6 +35,7 @@ checking_is_decided bytes text status.LinkFault gives refuses = absurd refuses
 checking_is_decided bytes text status.TurnsOver gives refuses = absurd refuses
 checking_is_decided bytes text (status.Lease line) gives refuses = absurd refuses
 checking_is_decided bytes text (status.Capture what) gives refuses = absurd refuses
+checking_is_decided bytes text (status.Schedule line) gives refuses = absurd refuses
 checking_is_decided bytes text status.TooLong gives refuses = absurd refuses
 checking_is_decided bytes text status.NoMemory gives refuses = absurd refuses
 
@@ -60,4 +61,5 @@ refused_check bytes status.LinkFault refused = absurd refused
 refused_check bytes status.TurnsOver refused = absurd refused
 refused_check bytes (status.Lease line) refused = absurd refused
 refused_check bytes (status.Capture what) refused = absurd refused
+refused_check bytes (status.Schedule line) refused = absurd refused
 refused_check bytes status.TooLong refused = absurd refused

@@ -28,6 +28,7 @@ stops_writing A status.LinkFault fault memory stops = absurd stops
 stops_writing A status.TurnsOver fault memory stops = absurd stops
 stops_writing A (status.Lease line) fault memory stops = absurd stops
 stops_writing A (status.Capture what) fault memory stops = absurd stops
+stops_writing A (status.Schedule line) fault memory stops = absurd stops
 stops_writing A status.TooLong fault memory stops = absurd stops
 stops_writing A status.NoMemory fault memory stops = memory
 
@@ -52,6 +53,7 @@ refused_answer status.LinkFault input old new bytes read within same refused = a
 refused_answer status.TurnsOver input old new bytes read within same refused = absurd refused
 refused_answer (status.Lease line) input old new bytes read within same refused = absurd refused
 refused_answer (status.Capture what) input old new bytes read within same refused = absurd refused
+refused_answer (status.Schedule line) input old new bytes read within same refused = absurd refused
 refused_answer status.TooLong input old new bytes read within same refused = absurd refused
 refused_answer status.NoMemory input old new bytes read within same refused = inl same
 
@@ -91,5 +93,6 @@ completes status.LinkFault input old new a b p q tells read wrote answer cause =
 completes status.TurnsOver input old new a b p q tells read wrote answer cause = absurd answer
 completes (status.Lease line) input old new a b p q tells read wrote answer cause = absurd answer
 completes (status.Capture what) input old new a b p q tells read wrote answer cause = absurd answer
+completes (status.Schedule line) input old new a b p q tells read wrote answer cause = absurd answer
 completes status.TooLong input old new a b p q tells read wrote answer cause = absurd (not_too_long input tells.bytes tells.told tells.in_limit answer.0)
 completes status.NoMemory input old new a b p q tells read wrote answer cause = tt

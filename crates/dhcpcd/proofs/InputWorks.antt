@@ -1,14 +1,24 @@
--- What a lease file or a capture gives, and how it is refused: never both.
-use Rattle.std.proofs.Common.{ℕ, ◌≡◌, Bool, true, false, List, Ok, Err, sym, ◌∙◌}
+-- What a lease file, a capture or a schedule gives, and how it is refused: never both.
+use Rattle.std.proofs.Common.{ℕ, ◌≡◌, Bool, true, false, List, Ok, Err, sym, subst, ap, ◌∙◌}
 use Rattle.net_types.specs.declared.interface.IfSpec.{IfSpec}
 use Rattle.lease_text.proofs.SpelledOnce.{no_bad_line}
 use Rattle.world.specs.HookCalls.{Variable}
+use Rattle.settings.specs.Fitting.{AreManaged}
+use Rattle.conf_text.specs.Configurations.{Configuration, IsConfOf}
+use Rattle.conf_text.specs.Settings.{managed_of}
+use Rattle.conf_text.proofs.OneLaws.{configuration_one}
+use Rattle.net_types.specs.FirstBadLine.{IsSpelled}
+use Rattle.lab_schedule.specs.Schedules.{Schedule, SpellsSchedule}
+use Rattle.lab_schedule.proofs.ScheduleLaws.{schedules_one}
 use Rattle.lease_dump.specs.Dumps.{IsBadAs, IsDumpedAs, is_of_dhcp6}
 use Rattle.dhcpcd.specs.declared.status.Status.{Status}
 use Rattle.dhcpcd.specs.declared.status.Status.TheVariants as status
 use Rattle.dhcpcd.specs.Dumping.{dumping}
 use Rattle.dhcpcd.specs.Importing.{importing}
-use Rattle.dhcpcd.specs.Works.{IsDecided}
+use Rattle.dhcpcd.specs.Labs.{lab_work}
+use Rattle.dhcpcd.specs.Refusals.{IsConfRefused}
+use Rattle.dhcpcd.specs.Works.{IsDecided, MayRefuse}
+use Rattle.dhcpcd.proofs.LiveAnswers.{live_managed}
 
 -- a lease has no bad line
 never_bad : (six : Bool) (bytes : List ℕ) (vars : List Variable) (line : ℕ) → IsDumpedAs six bytes vars → IsBadAs six bytes line → ⊥
@@ -18,6 +28,7 @@ never_bad true bytes vars line dumped bad = no_bad_line bytes dumped.lease line 
 pub dumping_is_decided : IsDecided dumping
 dumping_is_decided bytes text (status.Lease line) gives refuses = never_bad (is_of_dhcp6 bytes) bytes gives.vars line gives.dumped refuses
 dumping_is_decided bytes text (status.Capture what) gives refuses = absurd refuses
+dumping_is_decided bytes text (status.Schedule line) gives refuses = absurd refuses
 dumping_is_decided bytes text (status.Conf fault) gives refuses = absurd refuses
 dumping_is_decided bytes text status.Done gives refuses = absurd refuses
 dumping_is_decided bytes text status.Usage gives refuses = absurd refuses
@@ -34,6 +45,7 @@ ok_err e = cc
 
 pub importing_is_decided : (spec : IfSpec) → IsDecided (importing spec)
 importing_is_decided spec bytes text (status.Capture what) gives refuses = ok_err (sym gives.formed ∙ refuses)
+importing_is_decided spec bytes text (status.Schedule line) gives refuses = absurd refuses
 importing_is_decided spec bytes text (status.Lease line) gives refuses = absurd refuses
 importing_is_decided spec bytes text (status.Conf fault) gives refuses = absurd refuses
 importing_is_decided spec bytes text status.Done gives refuses = absurd refuses
@@ -45,3 +57,42 @@ importing_is_decided spec bytes text status.LinkFault gives refuses = absurd ref
 importing_is_decided spec bytes text status.TurnsOver gives refuses = absurd refuses
 importing_is_decided spec bytes text status.TooLong gives refuses = absurd refuses
 importing_is_decided spec bytes text status.NoMemory gives refuses = absurd refuses
+
+-- a text is of one schedule, and a configuration has no fault
+pub lab_is_decided : IsDecided lab_work
+lab_is_decided bytes text (status.Schedule line) gives refuses = schedules_one.none_bad bytes gives.schedule line gives.spelled refuses
+lab_is_decided bytes text (status.Conf fault) gives refuses =
+    let same = schedules_one.one bytes refuses.schedule gives.schedule refuses.spelled gives.spelled in
+    let told : IsConfOf gives.schedule.conf (Err fault) = subst (λ (s : Schedule). IsConfOf s.conf (Err fault)) same refuses.told in
+    ok_err (configuration_one gives.schedule.conf (Ok gives.conf) (Err fault) gives.configured told)
+lab_is_decided bytes text status.Done gives refuses = absurd refuses
+lab_is_decided bytes text status.Usage gives refuses = absurd refuses
+lab_is_decided bytes text (status.Script fault) gives refuses = absurd refuses
+lab_is_decided bytes text status.ReadFault gives refuses = absurd refuses
+lab_is_decided bytes text status.WriteFault gives refuses = absurd refuses
+lab_is_decided bytes text status.LinkFault gives refuses = absurd refuses
+lab_is_decided bytes text status.TurnsOver gives refuses = absurd refuses
+lab_is_decided bytes text (status.Lease line) gives refuses = absurd refuses
+lab_is_decided bytes text (status.Capture what) gives refuses = absurd refuses
+lab_is_decided bytes text status.TooLong gives refuses = absurd refuses
+lab_is_decided bytes text status.NoMemory gives refuses = absurd refuses
+
+-- a schedule whose configuration isn't read is refused
+pub refused_schedule : (bytes : List ℕ) (schedule : Schedule) (answer : Status) → IsSpelled SpellsSchedule bytes schedule → IsConfRefused schedule.conf answer → MayRefuse (lab_work.Refuses bytes) answer
+refused_schedule bytes schedule (status.Conf fault) spelled refused = (tt, record { schedule = schedule; spelled = spelled; told = refused })
+refused_schedule bytes schedule status.NoMemory spelled refused = tt
+refused_schedule bytes schedule status.Done spelled refused = absurd refused
+refused_schedule bytes schedule status.Usage spelled refused = absurd refused
+refused_schedule bytes schedule (status.Script fault) spelled refused = absurd refused
+refused_schedule bytes schedule status.ReadFault spelled refused = absurd refused
+refused_schedule bytes schedule status.WriteFault spelled refused = absurd refused
+refused_schedule bytes schedule status.LinkFault spelled refused = absurd refused
+refused_schedule bytes schedule status.TurnsOver spelled refused = absurd refused
+refused_schedule bytes schedule (status.Lease line) spelled refused = absurd refused
+refused_schedule bytes schedule (status.Capture what) spelled refused = absurd refused
+refused_schedule bytes schedule (status.Schedule line) spelled refused = absurd refused
+refused_schedule bytes schedule status.TooLong spelled refused = absurd refused
+
+-- the interfaces that a schedule has managed fit
+pub lab_managed : (bytes : List ℕ) (schedule : Schedule) (conf : Configuration) → IsSpelled SpellsSchedule bytes schedule → IsConfOf schedule.conf (Ok conf) → AreManaged (managed_of conf schedule.ifaces)
+lab_managed bytes schedule conf spelled is = live_managed schedule.conf conf schedule.ifaces is spelled.spells.fits.ifaces

@@ -43,6 +43,7 @@ refused_unread status.LinkFault bytes refused = absurd refused
 refused_unread status.TurnsOver bytes refused = absurd refused
 refused_unread (status.Lease line) bytes refused = absurd refused
 refused_unread (status.Capture what) bytes refused = absurd refused
+refused_unread (status.Schedule line) bytes refused = absurd refused
 refused_unread status.TooLong bytes refused = absurd refused
 refused_unread status.NoMemory bytes refused = tt
 
@@ -57,6 +58,7 @@ refused_conf status.LinkFault bytes script read refused = absurd refused
 refused_conf status.TurnsOver bytes script read refused = absurd refused
 refused_conf (status.Lease line) bytes script read refused = absurd refused
 refused_conf (status.Capture what) bytes script read refused = absurd refused
+refused_conf (status.Schedule line) bytes script read refused = absurd refused
 refused_conf status.TooLong bytes script read refused = absurd refused
 refused_conf status.NoMemory bytes script read refused = tt
 

@@ -20,6 +20,7 @@ unread work status.LinkFault input old new same long stops = absurd stops
 unread work status.TurnsOver input old new same long stops = absurd stops
 unread work (status.Lease line) input old new same long stops = absurd stops
 unread work (status.Capture what) input old new same long stops = absurd stops
+unread work (status.Schedule line) input old new same long stops = absurd stops
 unread work status.TooLong input old new same long stops = (long refl, same)
 unread work status.NoMemory input old new same long stops = inl same
 
@@ -35,6 +36,7 @@ refused work status.LinkFault input old new bytes read within same refusal = abs
 refused work status.TurnsOver input old new bytes read within same refusal = absurd refusal.0
 refused work (status.Lease line) input old new bytes read within same refusal = record { bytes = bytes; read = read; in_limit = within; why = refusal.1; unwritten = same }
 refused work (status.Capture what) input old new bytes read within same refusal = record { bytes = bytes; read = read; in_limit = within; why = refusal.1; unwritten = same }
+refused work (status.Schedule line) input old new bytes read within same refusal = record { bytes = bytes; read = read; in_limit = within; why = refusal.1; unwritten = same }
 refused work status.TooLong input old new bytes read within same refusal = absurd refusal.0
 refused work status.NoMemory input old new bytes read within same refusal = inl same
 
@@ -50,6 +52,7 @@ refused_cause Refuses status.LinkFault a b p q refusal read wrote = absurd refus
 refused_cause Refuses status.TurnsOver a b p q refusal read wrote = absurd refusal.0
 refused_cause Refuses (status.Lease line) a b p q refusal read wrote = (read, wrote)
 refused_cause Refuses (status.Capture what) a b p q refusal read wrote = (read, wrote)
+refused_cause Refuses (status.Schedule line) a b p q refusal read wrote = (read, wrote)
 refused_cause Refuses status.TooLong a b p q refusal read wrote = absurd refusal.0
 refused_cause Refuses status.NoMemory a b p q refusal read wrote = (read, wrote)
 
@@ -78,5 +81,6 @@ completes_work work status.LinkFault input old new a b p q decided serves read w
 completes_work work status.TurnsOver input old new a b p q decided serves read wrote answer cause = absurd answer
 completes_work work (status.Lease line) input old new a b p q decided serves read wrote answer cause = never work (status.Lease line) input answer.bytes decided serves answer.read answer.why
 completes_work work (status.Capture what) input old new a b p q decided serves read wrote answer cause = never work (status.Capture what) input answer.bytes decided serves answer.read answer.why
+completes_work work (status.Schedule line) input old new a b p q decided serves read wrote answer cause = never work (status.Schedule line) input answer.bytes decided serves answer.read answer.why
 completes_work work status.TooLong input old new a b p q decided serves read wrote answer cause = absurd (not_too_long input serves.bytes serves.told serves.in_limit answer.0)
 completes_work work status.NoMemory input old new a b p q decided serves read wrote answer cause = tt

@@ -7,8 +7,9 @@ use Rattle.capture_script.specs.CapturedScripts.{spec_of}
 use Rattle.dhcpcd.specs.Checks.{TellsConfiguration}
 use Rattle.dhcpcd.specs.Dumping.{dumping}
 use Rattle.dhcpcd.specs.Importing.{importing}
+use Rattle.dhcpcd.specs.Labs.{lab_work}
 use Rattle.dhcpcd.specs.Statuses.{TellsScript}
-use Rattle.dhcpcd.specs.Words.{AskReplay, AskCheck, AskDump, AskLive, AsksImport}
+use Rattle.dhcpcd.specs.Words.{AskReplay, AskCheck, AskDump, AskLab, AskLive, AsksImport}
 use Rattle.dhcpcd.specs.Works.{Serves}
 
 -- `replay` is asked for, and the input tells a script
@@ -26,6 +27,10 @@ AskGoodDump words input = AskDump words × Serves dumping input
 -- `import` is asked for, and the input tells a capture
 abbrev pub AskGoodImport : (words : List (List ℕ)) → (input : Option (List ℕ)) → Type 0
 AskGoodImport words input = (name : Name) × (mac : Mac) × AsksImport words name mac × Serves (importing (spec_of name mac)) input
+
+-- `lab` is asked for, and the input tells a schedule
+abbrev pub AskGoodLab : (words : List (List ℕ)) → (input : Option (List ℕ)) → Type 0
+AskGoodLab words input = AskLab words × Serves lab_work input
 
 -- `live` is asked for, and the input tells a configuration
 abbrev pub AskGoodLive : (words : List (List ℕ)) → (input : Option (List ℕ)) → Type 0

@@ -13,6 +13,7 @@ pub mod Works
 pub mod Checks
 pub mod Dumping
 pub mod Importing
+pub mod Labs
 pub mod Words
 pub mod GoodAsks
 pub mod MakeReading

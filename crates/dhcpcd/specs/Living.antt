@@ -130,6 +130,7 @@ IsLiveAnswer (status.Conf fault) specs turns input told = IsLiveRefusal (λ text
 IsLiveAnswer status.ReadFault specs turns input told = IsUntouched told
 IsLiveAnswer (status.Lease line) specs turns input told = ⊥
 IsLiveAnswer (status.Capture cause) specs turns input told = ⊥
+IsLiveAnswer (status.Schedule line) specs turns input told = ⊥
 IsLiveAnswer status.TooLong specs turns input told = IsTooLong input × IsUntouched told
 IsLiveAnswer status.NoMemory specs turns input told = IsUntouched told ⊎ IsLived status.NoMemory specs turns input told
 IsLiveAnswer answer specs turns input told = IsLived answer specs turns input told

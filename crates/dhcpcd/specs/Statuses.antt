@@ -26,6 +26,7 @@ status_number status.TooLong = 9
 status_number status.NoMemory = 10
 status_number (status.Lease line) = 13
 status_number (status.Capture cause) = 14
+status_number (status.Schedule line) = 15
 
 -- the input was a script, and its transcript was written; in its lives the host and the store hold what they shall, and files are whole
 pub record IsReplayed (input : Option (List ℕ)) (old new : Option (List ℕ)) : Type 0 where
@@ -71,6 +72,7 @@ IsAnswer status.LinkFault input old new = ⊥
 IsAnswer status.TurnsOver input old new = ⊥
 IsAnswer (status.Lease line) input old new = ⊥
 IsAnswer (status.Capture cause) input old new = ⊥
+IsAnswer (status.Schedule line) input old new = ⊥
 IsAnswer status.TooLong input old new = IsTooLong input × (new ≡ old)
 IsAnswer status.NoMemory input old new = (new ≡ old) ⊎ IsStopped input old new
 

@@ -43,9 +43,13 @@ pub record AsksImport (words : List (List ℕ)) (name : Name) (mac : Mac) : Type
 abbrev pub AskImport : List (List ℕ) → Type 0
 AskImport words = (name : Name) × (mac : Mac) × AsksImport words name mac
 
+-- the words are `lab` alone
+abbrev pub AskLab : List (List ℕ) → Type 0
+AskLab words = words ≡ codes "lab" ∷ []
+
 -- the words are of one of these forms
 abbrev pub AskWork : List (List ℕ) → Type 0
-AskWork words = AskReplay words ⊎ (AskCheck words ⊎ (AskLive words ⊎ (AskMake words ⊎ (AskDump words ⊎ AskImport words))))
+AskWork words = AskReplay words ⊎ (AskCheck words ⊎ (AskLive words ⊎ (AskMake words ⊎ (AskDump words ⊎ (AskImport words ⊎ AskLab words)))))
 
 -- what words of none of these forms are answered; only those that begin with `live` may want memory
 abbrev pub IsUsage : List (List ℕ) → Status → Type 0

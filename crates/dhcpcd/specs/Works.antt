@@ -44,6 +44,7 @@ IsWorked work status.LinkFault input old new = ⊥
 IsWorked work status.TurnsOver input old new = ⊥
 IsWorked work (status.Lease line) input old new = IsRefusedBy work (status.Lease line) input old new
 IsWorked work (status.Capture cause) input old new = IsRefusedBy work (status.Capture cause) input old new
+IsWorked work (status.Schedule line) input old new = IsRefusedBy work (status.Schedule line) input old new
 IsWorked work status.TooLong input old new = IsTooLong input × (new ≡ old)
 IsWorked work status.NoMemory input old new = (new ≡ old) ⊎ IsCutShort work input old new
 
@@ -53,6 +54,7 @@ IsFaultOfInput (status.Script fault) = Unit {0}
 IsFaultOfInput (status.Conf fault) = Unit {0}
 IsFaultOfInput (status.Lease line) = Unit {0}
 IsFaultOfInput (status.Capture cause) = Unit {0}
+IsFaultOfInput (status.Schedule line) = Unit {0}
 IsFaultOfInput other = ⊥
 
 -- a refusal; want of memory is free

@@ -6,6 +6,7 @@ mod dumping;
 mod heads;
 mod importing;
 mod input;
+mod labs;
 mod laws;
 mod lives;
 mod living;

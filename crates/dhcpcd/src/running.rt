@@ -6,16 +6,18 @@ ghost use Rattle.net_types.specs.declared.interface.Name.{Name};
 ghost use Rattle.dhcpcd.specs.Checks.{IsCheckAnswer};
 ghost use Rattle.dhcpcd.specs.Dumping.{IsDumpAnswer};
 ghost use Rattle.dhcpcd.specs.Importing.{IsImportAnswer};
-ghost use Rattle.dhcpcd.specs.GoodAsks.{AskGoodReplay, AskGoodCheck, AskGoodDump, AskGoodImport, AskGoodLive, StreamsHeld, StreamsNeverFail, WaitsHeld, WaitsNeverFail};
+ghost use Rattle.dhcpcd.specs.Labs.{IsLabAnswer};
+ghost use Rattle.dhcpcd.specs.GoodAsks.{AskGoodReplay, AskGoodCheck, AskGoodDump, AskGoodImport, AskGoodLab, AskGoodLive, StreamsHeld, StreamsNeverFail, WaitsHeld, WaitsNeverFail};
 ghost use Rattle.dhcpcd.specs.Input.{ReadsWithin, input_told};
 ghost use Rattle.dhcpcd.specs.Living.{IsAnsweredLive, CompletesLife, HasLinkCause, around};
 ghost use Rattle.dhcpcd.specs.Statuses.{HasStatusCause, IsAnswer, Completes};
 ghost use Rattle.dhcpcd.specs.Making.{IsMadeAnswer};
-ghost use Rattle.dhcpcd.specs.Words.{AskCheck, AskDump, AskReplay, AskLive, AskMake, AsksImport, AsksMake, AskWork, IsUsage};
+ghost use Rattle.dhcpcd.specs.Words.{AskCheck, AskDump, AskLab, AskReplay, AskLive, AskMake, AsksImport, AsksMake, AskWork, IsUsage};
 
 use crate::checking::check;
 use crate::dumping::dump_lease;
 use crate::importing::import_capture;
+use crate::labs::lab;
 use crate::living::live;
 use crate::making::make;
 use crate::replaying::replay;
@@ -29,9 +31,10 @@ use world::{NoMemory, Sink, Source};
 /// and writes its transcript. `check` reads a configuration as long, and writes its notices and `ok`. `live` reads such a configuration
 /// and lives one life over the devices, for at most so many wakes, and writes its transcript. `make` lives a script of its own in
 /// memory, for so many rounds, and writes how many lines of each kind its transcript has; it reads nothing. `dump` reads a lease file, and
-/// writes its variables; `import` reads a capture of packets, and writes its script. Other words are
-/// `Usage`, or `NoMemory` where they begin with `live`, and touch nothing. Where the input can't be read, is too long or is refused,
-/// nothing is written and no device is asked; after another end a front of the output stands written. No hook's child may run yet.
+/// writes its variables; `import` reads a capture of packets, and writes its script. `lab` reads a schedule of clients and a server,
+/// lives it in memory, and writes what they send and hold. Other words are `Usage`, or `NoMemory` where they begin with `live`, and
+/// touch nothing. Where the input can't be read, is too long or is refused, nothing is written and no device is asked; after another
+/// end a front of the output stands written. No hook's child may run yet.
 #[tactic(auto, using(crate::proofs::AskedApart::asked_apart, crate::proofs::MakeAnswers::make_beside))]
 pub fn run<I: Source, O: Sink, W: Outside>(
     alloc: Global,
@@ -51,6 +54,7 @@ pub fn run<I: Source, O: Sink, W: Outside>(
     ensures dump { AskDump (map string_bytes words.now) → IsDumpAnswer result (I.left input.old) (O.written out.old) (O.written out.new) }
     ensures imports { (name : Name) (mac : Mac) → AsksImport (map string_bytes words.now) name mac
         → IsImportAnswer (spec_of name mac) result (I.left input.old) (O.written out.old) (O.written out.new) }
+    ensures lab { AskLab (map string_bytes words.now) → IsLabAnswer result (I.left input.old) (O.written out.old) (O.written out.new) }
     ensures usage { (AskWork (map string_bytes words.now) → ⊥) → IsUsage (map string_bytes words.now) result }
     ensures formless { result ≡ Status.Usage → AskWork (map string_bytes words.now) → ⊥ }
     ensures unread { (AskWork (map string_bytes words.now) → ⊥) → (I.reads input.new ≡ I.reads input.old) × (I.left input.new ≡ I.left input.old) }
@@ -75,6 +79,10 @@ pub fn run<I: Source, O: Sink, W: Outside>(
         → StreamsHeld (I.faults input.old) (I.faults input.new) (O.faults out.old) (O.faults out.new)
         → Completes result }
     ensures imports_good { AskGoodImport (map string_bytes words.now) (I.left input.old) → StreamsNeverFail (I.never_fails input.old) (O.never_fails out.old) → Completes result }
+    ensures lab_complete { AskGoodLab (map string_bytes words.now) (I.left input.old)
+        → StreamsHeld (I.faults input.old) (I.faults input.new) (O.faults out.old) (O.faults out.new)
+        → Completes result }
+    ensures labs { AskGoodLab (map string_bytes words.now) (I.left input.old) → StreamsNeverFail (I.never_fails input.old) (O.never_fails out.old) → Completes result }
     ensures live_complete { AskGoodLive (map string_bytes words.now) (I.left input.old)
         → StreamsHeld (I.faults input.old) (I.faults input.new) (O.faults out.old) (O.faults out.new)
         → WaitsHeld (W.seen devices.old) (W.seen devices.new)
@@ -97,6 +105,7 @@ pub fn run<I: Source, O: Sink, W: Outside>(
         Ok(Some(Work::Make(rounds))) => make(alloc, rounds, out),
         Ok(Some(Work::Dump)) => dump_lease(alloc, input, out),
         Ok(Some(Work::Import(on))) => import_capture(alloc, on, input, out),
+        Ok(Some(Work::Lab)) => lab(alloc, input, out),
         Ok(None) => Status::Usage,
         Err(NoMemory) => Status::NoMemory,
     }

@@ -30,6 +30,8 @@ pub enum Status {
     Lease { line: u64 },
     /// The input is no capture of packets that can be imported.
     Capture(CaptureCause),
+    /// The input is no schedule of a lab; its first bad line, from 1.
+    Schedule { line: u64 },
 }
 
 impl From<NoMemory> for Status {
@@ -60,6 +62,7 @@ impl Status {
             Status::NoMemory => 10,
             Status::Lease { .. } => 13,
             Status::Capture(_) => 14,
+            Status::Schedule { .. } => 15,
         }
     }
 }

@@ -28,6 +28,8 @@ pub enum Work {
     Dump,
     /// `import`: a capture of packets on this interface is read, and its script written.
     Import(Import),
+    /// `lab`: a schedule of clients and their server is read, and what they do is written.
+    Lab,
 }
 
 fn is_same(given: &str, word: &str) -> bool
@@ -141,6 +143,9 @@ pub fn work_of(alloc: Global, words: &[String]) -> Result<Option<Work>, NoMemory
     }
     if is_alone(words, "dump") {
         return Ok(Some(Work::Dump));
+    }
+    if is_alone(words, "lab") {
+        return Ok(Some(Work::Lab));
     }
     if let Some(rounds) = make_rounds(words) {
         return Ok(Some(Work::Make(rounds)));

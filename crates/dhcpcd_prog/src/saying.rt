@@ -5,7 +5,7 @@ fn line(rt: &HostRuntime, status: Status) -> Result<()> {
     match status {
         Status::Done => Ok(()),
         Status::Usage => eprintln!(rt;
-            "dhcpcd: usage: replay / check / live PORT PEER DIR SCRIPT IFACE.. / make N / dump / import NAME MAC"
+            "dhcpcd: usage: replay / check / live PORT PEER DIR SCRIPT IFACE.. / make N / dump / import NAME MAC / lab"
         ),
         Status::Script(fault) => eprintln!(rt; "dhcpcd: {fault}"),
         Status::Conf(fault) => eprintln!(rt; "dhcpcd: {fault}"),
@@ -17,6 +17,7 @@ fn line(rt: &HostRuntime, status: Status) -> Result<()> {
         Status::NoMemory => eprintln!(rt; "dhcpcd: no memory"),
         Status::Lease { line } => eprintln!(rt; "dhcpcd: lease line {line}"),
         Status::Capture(cause) => eprintln!(rt; "dhcpcd: capture: {cause}"),
+        Status::Schedule { line } => eprintln!(rt; "dhcpcd: schedule line {line}"),
     }
 }
 

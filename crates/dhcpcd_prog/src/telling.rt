@@ -13,6 +13,7 @@ usage: dhcpcd replay < SCRIPT > TRANSCRIPT
        dhcpcd make N
        dhcpcd dump < LEASEFILE
        dhcpcd import NAME ADDRESS < CAPTURE > SCRIPT
+       dhcpcd lab < SCHEDULE
        dhcpcd --help
        dhcpcd --version
 
@@ -28,6 +29,8 @@ make lives a script of its own for N rounds, 1 to 100, and counts its calls.
 dump writes the variables that hooks are told of a lease file of either family.
 import makes a script of a packet capture (pcap, Ethernet) that was taken on the
 interface NAME with the hardware address ADDRESS: its frames come in again.
+lab reads a schedule of clients and one server on one clock, lives it in memory,
+and writes every frame and every lease that is held.
 An input has at most 16777216 bytes.
 
 exit status, with a line on standard error for each but 0:
@@ -43,6 +46,7 @@ exit status, with a line on standard error for each but 0:
   10  no memory
   13  the input is no lease file; its first bad line is told
   14  the input is no such capture; the cause is told
+  15  the input is no schedule; its first bad line is told
 ";
 
 /// What `--version` prints.

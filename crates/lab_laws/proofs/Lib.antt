@@ -1,0 +1,5 @@
+pub mod Following
+pub mod FollowedTurns
+pub mod Numbers
+pub mod Bounds
+pub mod Apart

@@ -1,0 +1,33 @@
+//! What is true of labs. These functions do nothing: their contracts are the laws.
+
+ghost use Rattle.lab_laws.specs.Binding.{NoTwoAreGranted, StaysBoundInLab};
+ghost use Rattle.lab_laws.specs.Lives.{ClientsLiveApart};
+ghost use Rattle.lab_laws.specs.Messages.{MessagesFollow};
+ghost use Rattle.lab_laws.specs.Numbers.{RequestsAreFirst};
+
+/// Law: with the number of its last message a client says a DISCOVER after DISCOVERs alone, and a REQUEST after a DISCOVER or a
+/// REQUEST (RFC 2131, section 4.4).
+pub fn messages_follow()
+    ensures { MessagesFollow }
+{}
+
+/// Law: where no transaction number comes again, a REQUEST that goes on with no other is the first one with its number.
+pub fn requests_are_first()
+    ensures { RequestsAreFirst }
+{}
+
+/// Law: what the peer has bound to a client stays so, whatever lines come, until it is over on the lab's clock.
+pub fn what_is_bound_lasts()
+    ensures { StaysBoundInLab }
+{}
+
+/// Law: of two leases of one address that the peer granted and that aren't over, both are of one client.
+pub fn no_two_are_granted()
+    ensures { NoTwoAreGranted }
+{}
+
+/// Law: after any lines each client of a lab stands where its own opening and the turns of those lines bring it: clients know of
+/// each other by frames alone.
+pub fn clients_live_apart()
+    ensures { ClientsLiveApart }
+{}

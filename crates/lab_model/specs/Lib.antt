@@ -1,0 +1,3 @@
+pub mod Labs
+pub mod Exchanges
+pub mod LabLines

@@ -1,0 +1,4 @@
+pub mod Schedules
+pub mod LineReading
+pub mod ScheduleReading
+pub mod ScheduleContent

@@ -1,0 +1,4 @@
+pub mod SaidLines
+pub mod NumberedFrames
+pub mod HeardMessages
+pub mod SeenExchanges

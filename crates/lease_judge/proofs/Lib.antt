@@ -1,0 +1,3 @@
+pub mod AsObserver
+pub mod GrantsTold
+pub mod Judging

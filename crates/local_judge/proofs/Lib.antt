@@ -1,0 +1,5 @@
+pub mod Calmness
+pub mod ProbesTold
+mod Moments
+mod Announcing
+mod ChoicesTold

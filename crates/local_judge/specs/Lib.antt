@@ -1,0 +1,3 @@
+pub mod ProbeTimes
+pub mod Choices
+pub mod Laws
