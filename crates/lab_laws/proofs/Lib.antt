@@ -3,3 +3,5 @@ pub mod FollowedTurns
 pub mod Numbers
 pub mod Bounds
 pub mod Apart
+pub mod Lived
+pub mod Timed

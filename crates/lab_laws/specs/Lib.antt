@@ -3,4 +3,3 @@ pub mod Numbers
 pub mod Binding
 pub mod Lives
 pub mod LabClients
-pub mod Timed
