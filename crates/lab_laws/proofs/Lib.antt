@@ -5,3 +5,5 @@ pub mod Bounds
 pub mod Apart
 pub mod Lived
 pub mod Timed
+pub mod OpenExchanges
+pub mod Bindings

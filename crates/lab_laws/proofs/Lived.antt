@@ -102,16 +102,17 @@ one_of P xs x all among = All-contains P xs x (All-from_recursion P xs all) amon
 moments_end : (at : ℕ) → moment_of at < 10 ^ 15
 moments_end at = grind arith
 
-duid_fits : (managed : List Managed) (one : Managed) → AreManaged managed → Contains managed one → IsDuid (host_duid managed None)
-duid_fits [] one fit among = absurd (omega (arith, among.1.0))
-duid_fits (first ∷ others) one fit among = host_duid_fits first others None fit.0.mac
+duid_fits : (managed : List Managed) (client : Managed) → AreManaged managed → Contains managed client → IsDuid (host_duid managed None)
+duid_fits [] client fit among = absurd (omega (arith, among.1))
+duid_fits (first ∷ others) client fit among = host_duid_fits first others None fit.0.mac
 
-pub starts_fit : (managed : List Managed) (schedule : Schedule) → AreClients managed → (one : Managed) → Contains managed one → FitsStart (start_in schedule managed one)
-starts_fit managed schedule clients one among = record {
+pub starts_fit : (managed : List Managed) (schedule : Schedule) → AreClients managed → (client : Managed) → Contains managed client
+    → FitsStart (start_in schedule managed client)
+starts_fit managed schedule clients client among = record {
   at = moments_end schedule.begin.at;
   fits = record {
-    managed = one_of FitsManaged managed one clients.fit among;
-    duid = duid_fits managed one clients.fit among;
+    managed = one_of FitsManaged managed client clients.fit among;
+    duid = duid_fits managed client clients.fit among;
     kept4 = tt;
     kept6 = tt;
   };

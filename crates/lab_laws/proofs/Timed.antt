@@ -3,6 +3,7 @@ use Rattle.std.proofs.Common.{◌≡◌, ℕ, ◌+◌, ◌≤◌, Bool, true, fa
 use Rattle.std.specs.Prelude.{◌==◌}
 use Rattle.std.specs.List.{AllByRecursion}
 use Rattle.std.proofs.lemmas.Bool.{eqb-true}
+use Rattle.std.proofs.lemmas.Bool.Decides.{nat_tests}
 use Rattle.net_types.proofs.CaseLaws.{split}
 use Rattle.v4_message.specs.declared.writing.Kind4.{Kind4}
 use Rattle.v4_message.specs.declared.writing.Kind4.TheVariants.{Discover, Request, Decline, Release}
@@ -135,22 +136,22 @@ module _ (now at : ℕ) (said : Said4) (timed : List Timed) (le : now ≤ at) (i
   asked_so : (seen : Seen) → OpenSo seen.current now timed → OpenSo (requests at said seen seen.current).current at New
   asked_so seen so = by seen.current refl so
     where
+      apart : (a b : ℕ) → (a == b) ≡ false → a ≡ b → ⊥
+      apart a b n e = grind (arith, nat_tests)
+
       by : (current : Option Numbered) → seen.current ≡ current → OpenSo current now timed → OpenSo (requests at said seen current).current at New
       by None e h = begins_so (seen.count + 1) None h (λ bad. bad)
       by (Some x) e h =
           split (said.xid == x.exchange.xid)
           (λ same. rw same (subst (λ (c : Option Numbered). OpenSo c at New) (sym e) (goes_on_so now at said x timed le (eqb-true said.xid x.exchange.xid same) h)))
-          (λ unlike. rw unlike (begins_so (seen.count + 1) (Some x) h (λ bad. differ said.xid x.exchange.xid unlike (sym bad))))
-
-      differ : (a b : ℕ) → (a == b) ≡ false → a ≡ b → ⊥
-      differ a b n e = grind arith
+          (λ unlike. rw unlike (begins_so (seen.count + 1) (Some x) h (λ bad. apart said.xid x.exchange.xid unlike (sym bad))))
 
 said_so : (now at : ℕ) (said : Said4) (seen : Seen) (timed : List Timed) → now ≤ at → GoWell (said ∷ saids timed) → OpenSo seen.current now timed
     → OpenSo (says at said seen said.kind).current at (record { at = at; said = said } ∷ timed)
 said_so now at said seen timed le well so = by said.kind refl
   where
     unlike_kinds : (other : Kind4) → said.kind ≡ other → (other ≡ Request → ⊥) → said.kind ≡ Request → ⊥
-    unlike_kinds other e no is = no (sym e ∙ is)
+    unlike_kinds other e unlike is = unlike (sym e ∙ is)
 
     by : (sort : Kind4) → said.kind ≡ sort → OpenSo (says at said seen sort).current at (record { at = at; said = said } ∷ timed)
     by Request e = asked_so now at said timed le e well seen so

@@ -1,6 +1,7 @@
 //! What is true of labs. These functions do nothing: their contracts are the laws.
 
 ghost use Rattle.lab_laws.specs.Binding.{NoTwoAreGranted, StaysBoundInLab};
+ghost use Rattle.lab_laws.specs.HeldInLabs.{LeasesEndWithBindings, NoAddressTwice};
 ghost use Rattle.lab_laws.specs.Lives.{ClientsLiveApart};
 ghost use Rattle.lab_laws.specs.Messages.{MessagesFollow};
 ghost use Rattle.lab_laws.specs.Numbers.{RequestsAreFirst};
@@ -30,4 +31,16 @@ pub fn no_two_are_granted()
 /// each other by frames alone.
 pub fn clients_live_apart()
     ensures { ClientsLiveApart }
+{}
+
+/// Law: where the text of a lab ends with `xids unlike`, no two clients hold one leased address at one moment: no two `lease` lines
+/// after one `at` line have the same address (RFC 2131, section 2.2).
+pub fn no_address_is_held_twice()
+    ensures { NoAddressTwice }
+{}
+
+/// Law: and after the start, and after each line that gives the clients a turn, each lease that is held ends no later than the
+/// peer's binding of its address to that client (RFC 2131, section 4.3.1).
+pub fn leases_end_with_their_bindings()
+    ensures { LeasesEndWithBindings }
 {}
