@@ -2,3 +2,4 @@ pub mod Messages
 pub mod Numbers
 pub mod Binding
 pub mod Lives
+pub mod HeardReplies

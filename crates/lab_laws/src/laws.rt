@@ -1,6 +1,7 @@
 //! What is true of labs. These functions do nothing: their contracts are the laws.
 
 ghost use Rattle.lab_laws.specs.Binding.{NoTwoAreGranted, StaysBoundInLab};
+ghost use Rattle.lab_laws.specs.HeardReplies.{AcksAreReplies, AcksComeInFrames};
 ghost use Rattle.lab_laws.specs.Lives.{ClientsLiveApart};
 ghost use Rattle.lab_laws.specs.Messages.{MessagesFollow};
 ghost use Rattle.lab_laws.specs.Numbers.{RequestsAreFirst};
@@ -30,4 +31,11 @@ pub fn no_two_are_granted()
 /// each other by frames alone.
 pub fn clients_live_apart()
     ensures { ClientsLiveApart }
+{}
+
+/// Law: an ACK that a client takes comes in a frame on its own interface, and is the reply of which the peer made that frame: to its
+/// hardware address, with the number of its exchange, and with that reply's address and time.
+pub fn acks_are_heard()
+    ensures acks { AcksAreReplies }
+    ensures frames { AcksComeInFrames }
 {}

@@ -1,0 +1,8 @@
+use Rattle.lab_laws.proofs.HeardBack as back
+use Rattle.lab_laws.proofs.laws.acks_are_heard.Goals as goal
+
+pub returns-clause-acks : goal.returns-clause-acks
+returns-clause-acks c = back.acks_of_peer
+
+pub returns-clause-frames : goal.returns-clause-frames
+returns-clause-frames c = back.acks_come_in_frames
