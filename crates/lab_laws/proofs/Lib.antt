@@ -6,3 +6,4 @@ pub mod Apart
 pub mod FramesHeard
 pub mod AcksHeard
 pub mod HeardBack
+pub mod ServerOctets

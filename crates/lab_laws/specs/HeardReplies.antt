@@ -1,6 +1,7 @@
 -- What a client of a lab hears of the peer's ACKs (RFC 2131, sections 2 and 4.3.1).
 use Rattle.std.specs.Prelude.{◌≡◌, ◌<◌, ◌^◌, ℕ}
 use Rattle.net_types.specs.declared.address.Mac.{Mac}
+use Rattle.net_types.specs.Marks.{AreBytes}
 use Rattle.lease_text.specs.declared.lease.Terms4.{Terms4}
 use Rattle.world.specs.declared.wakes.Event.TheVariants.{Frame}
 use Rattle.v4_client.specs.declared.states.Answer4.TheVariants as answers
@@ -35,3 +36,7 @@ pub record IsFrameHere (site : Site) (e : Entry) : Type 0 where
 -- No other input has an ACK.
 abbrev pub AcksComeInFrames : Type 0
 AcksComeInFrames = (site : Site) (exchange : Exchange4) (e : Entry) (terms : Terms4) → reply_at site exchange e ≡ answers.Ack terms → IsFrameHere site e
+
+-- The frames of replies to a hardware address of octets are octets.
+abbrev pub FramesAreOctets : Type 0
+FramesAreOctets = (reply : Reply) → AreBytes reply.chaddr.bytes → AreBytes (server_frame reply)

@@ -1,7 +1,7 @@
 //! What is true of labs. These functions do nothing: their contracts are the laws.
 
 ghost use Rattle.lab_laws.specs.Binding.{NoTwoAreGranted, StaysBoundInLab};
-ghost use Rattle.lab_laws.specs.HeardReplies.{AcksAreReplies, AcksComeInFrames};
+ghost use Rattle.lab_laws.specs.HeardReplies.{AcksAreReplies, AcksComeInFrames, FramesAreOctets};
 ghost use Rattle.lab_laws.specs.Lives.{ClientsLiveApart};
 ghost use Rattle.lab_laws.specs.Messages.{MessagesFollow};
 ghost use Rattle.lab_laws.specs.Numbers.{RequestsAreFirst};
@@ -38,4 +38,5 @@ pub fn clients_live_apart()
 pub fn acks_are_heard()
     ensures acks { AcksAreReplies }
     ensures frames { AcksComeInFrames }
+    ensures octets { FramesAreOctets }
 {}
