@@ -7,3 +7,7 @@ pub mod Lived
 pub mod Timed
 pub mod OpenExchanges
 pub mod Bindings
+pub mod FramesHeard
+pub mod AcksHeard
+pub mod HeardBack
+pub mod ServerOctets

@@ -2,6 +2,7 @@
 
 ghost use Rattle.lab_laws.specs.Binding.{NoTwoAreGranted, StaysBoundInLab};
 ghost use Rattle.lab_laws.specs.HeldInLabs.{LeasesEndWithBindings, NoAddressTwice};
+ghost use Rattle.lab_laws.specs.HeardReplies.{AcksAreReplies, AcksComeInFrames, FramesAreOctets};
 ghost use Rattle.lab_laws.specs.Lives.{ClientsLiveApart};
 ghost use Rattle.lab_laws.specs.Messages.{MessagesFollow};
 ghost use Rattle.lab_laws.specs.Numbers.{RequestsAreFirst};
@@ -31,6 +32,14 @@ pub fn no_two_are_granted()
 /// each other by frames alone.
 pub fn clients_live_apart()
     ensures { ClientsLiveApart }
+{}
+
+/// Law: an ACK that a client takes comes in a frame on its own interface, and is the reply of which the peer made that frame: to its
+/// hardware address, with the number of its exchange, and with that reply's address and time.
+pub fn acks_are_heard()
+    ensures acks { AcksAreReplies }
+    ensures frames { AcksComeInFrames }
+    ensures octets { FramesAreOctets }
 {}
 
 /// Law: where the text of a lab ends with `xids unlike`, no two clients hold one leased address at one moment: no two `lease` lines
