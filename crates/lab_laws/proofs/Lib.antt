@@ -6,6 +6,8 @@ pub mod Apart
 pub mod Lived
 pub mod Timed
 pub mod OpenExchanges
+pub mod SaidRead
+pub mod FramesSaid
 pub mod Bindings
 pub mod FramesHeard
 pub mod AcksHeard
