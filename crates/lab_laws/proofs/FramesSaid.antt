@@ -40,7 +40,7 @@ of_each P t [] all here = absurd here
 of_each P t (x ∷ xs) all (inl is) = subst P is all.0
 of_each P t (x ∷ xs) all (inr more) = of_each P t xs all.1 more
 
-still_in : (at : ℕ) (said : List Said) (t : Timed) (past : List Timed) → IsIn t past → IsIn t (timed_onto at said past)
+pub still_in : (at : ℕ) (said : List Said) (t : Timed) (past : List Timed) → IsIn t past → IsIn t (timed_onto at said past)
 still_in at [] t past here = here
 still_in at (Dhcp4 say ∷ said) t past here = still_in at said t (record { at = at; said = say.said } ∷ past) (inr here)
 still_in at (Arp say ∷ said) t past here = still_in at said t past here
@@ -84,7 +84,7 @@ managed_so start turns = (same_after start turns).managed
 -- ---- the frames of all clients
 
 module _ (managed : List Managed) (schedule : Schedule) where
-  abbrev start : Managed → Start
+  abbrev pub start : Managed → Start
   start one = start_in schedule managed one
 
   -- a client said this message in these turns, no later than a moment

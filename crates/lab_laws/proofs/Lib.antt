@@ -8,6 +8,7 @@ pub mod Timed
 pub mod OpenExchanges
 pub mod SaidRead
 pub mod FramesSaid
+pub mod LabFacts
 pub mod Bindings
 pub mod FramesHeard
 pub mod AcksHeard
