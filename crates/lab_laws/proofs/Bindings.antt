@@ -5,6 +5,7 @@ use Rattle.lab_laws.proofs.Timed.{all_so}
 use Rattle.lab_laws.proofs.OpenExchanges.{open_after}
 use Rattle.lab_laws.proofs.FramesSaid.{WasSaid}
 use Rattle.lab_laws.proofs.LabFacts.{LabSo}
+use Rattle.lab_laws.proofs.Grants.{lease_bound}
 
 pub leases_end_with_bindings : LeasesEndWithBindings
 leases_end_with_bindings = ?

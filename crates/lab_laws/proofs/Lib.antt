@@ -9,6 +9,7 @@ pub mod OpenExchanges
 pub mod SaidRead
 pub mod FramesSaid
 pub mod LabFacts
+pub mod Grants
 pub mod Bindings
 pub mod FramesHeard
 pub mod AcksHeard
