@@ -4,3 +4,4 @@ pub mod Binding
 pub mod Lives
 pub mod LabClients
 pub mod Timed
+pub mod Reading

@@ -4,6 +4,7 @@ ghost use Rattle.lab_laws.specs.Binding.{NoTwoAreGranted, StaysBoundInLab};
 ghost use Rattle.lab_laws.specs.Lives.{ClientsLiveApart};
 ghost use Rattle.lab_laws.specs.Messages.{MessagesFollow};
 ghost use Rattle.lab_laws.specs.Numbers.{RequestsAreFirst};
+ghost use Rattle.lab_laws.specs.Reading.{EachMessageIsRead};
 
 /// Law: with the number of its last message a client says a DISCOVER after DISCOVERs alone, and a REQUEST after a DISCOVER or a
 /// REQUEST (RFC 2131, section 4.4).
@@ -30,4 +31,9 @@ pub fn no_two_are_granted()
 /// each other by frames alone.
 pub fn clients_live_apart()
     ensures { ClientsLiveApart }
+{}
+
+/// Law: the peer reads each message of DHCPv4 that a client says, and no other frame of it.
+pub fn each_message_is_read()
+    ensures { EachMessageIsRead }
 {}
