@@ -6,3 +6,6 @@ pub mod Apart
 pub mod OwnRows
 pub mod SaidTurns
 pub mod SaidFrames
+pub mod SaidRead
+pub mod SaidExchanges
+pub mod SaidMessages

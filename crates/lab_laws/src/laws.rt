@@ -4,7 +4,7 @@ ghost use Rattle.lab_laws.specs.Binding.{NoTwoAreGranted, StaysBoundInLab};
 ghost use Rattle.lab_laws.specs.Lives.{ClientsLiveApart};
 ghost use Rattle.lab_laws.specs.Messages.{MessagesFollow};
 ghost use Rattle.lab_laws.specs.Numbers.{RequestsAreFirst};
-ghost use Rattle.lab_laws.specs.Reading.{EachMessageIsRead};
+ghost use Rattle.lab_laws.specs.Reading.{EachMessageIsRead, NumbersAreUnlike};
 
 /// Law: with the number of its last message a client says a DISCOVER after DISCOVERs alone, and a REQUEST after a DISCOVER or a
 /// REQUEST (RFC 2131, section 4.4).
@@ -36,4 +36,9 @@ pub fn clients_live_apart()
 /// Law: the peer reads each message of DHCPv4 that a client says, and no other frame of it.
 pub fn each_message_is_read()
     ensures { EachMessageIsRead }
+{}
+
+/// Law: where no transaction number comes again in the frames of a lab, those of each client are unlike.
+pub fn numbers_are_unlike()
+    ensures { NumbersAreUnlike }
 {}

@@ -3,4 +3,4 @@
 
 mod laws;
 
-pub use laws::{clients_live_apart, each_message_is_read, messages_follow, no_two_are_granted, requests_are_first, what_is_bound_lasts};
+pub use laws::{clients_live_apart, each_message_is_read, messages_follow, no_two_are_granted, numbers_are_unlike, requests_are_first, what_is_bound_lasts};
