@@ -15,6 +15,7 @@ use Rattle.lab_laws.specs.Messages.{Start, step_after}
 use Rattle.lab_laws.specs.Reading.{IsReadFrom}
 use Rattle.lab_laws.proofs.SaidTurns.{FairSaid, life_fair}
 use Rattle.lab_laws.proofs.SaidFrames.{each_message_is_read}
+pub use Rattle.lab_laws.proofs.SaidMessages.{unlike_each}
 
 -- one message of an interface
 pub record IsRead (one : Managed) (duid : List ℕ) (say : Said) : Type 0 where
