@@ -3,6 +3,17 @@ pub mod FollowedTurns
 pub mod Numbers
 pub mod Bounds
 pub mod Apart
+pub mod Lived
+pub mod Timed
+pub mod OpenExchanges
+pub mod FramesSaid
+pub mod LabFacts
+pub mod Grants
+pub mod Bindings
+pub mod FramesHeard
+pub mod AcksHeard
+pub mod HeardBack
+pub mod ServerOctets
 pub mod OwnRows
 pub mod SaidTurns
 pub mod SaidFrames

@@ -5,18 +5,16 @@ use Rattle.std.specs.List.{AllByRecursion, Contains}
 use Rattle.std.proofs.lemmas.Bool.Decides.{nat_tests}
 use Rattle.std.proofs.lemmas.Grind.{flat_map-append}
 use Rattle.std.proofs.lemmas.List.{append-nil, reverse-append}
-use Rattle.std.proofs.lemmas.List.Elements.{All-contains, All-from_recursion, recursion_from_All}
+use Rattle.std.proofs.lemmas.List.Elements.{All-contains, All-contains_itself, All-from_recursion, recursion_from_All}
 use Rattle.net_types.proofs.AllLaws.{all_both, all_map}
 use Rattle.net_types.specs.declared.interface.IfSpec.{IfSpec}
 use Rattle.machine.specs.Moment.{moment_of}
-use Rattle.lease6_text.specs.Bounds.{IsDuid}
 use Rattle.v4_message.specs.Requests.{AskContent}
 use Rattle.v4_message.specs.declared.writing.Said4.{Said4}
 use Rattle.v4_frames.specs.declared.sent.Sent4.{Sent4}
 use Rattle.v4_client.specs.Settings.{SettingsContent}
 use Rattle.world.specs.declared.wakes.Event.TheVariants as wakes
 use Rattle.settings.specs.declared.interfaces.Managed.{Managed}
-use Rattle.settings.specs.Fitting.{AreManaged, FitsManaged}
 use Rattle.client_model.specs.declared.interfaces.Iface.{Iface}
 use Rattle.client_model.specs.ClientSettings.{ask_of}
 use Rattle.client_model.specs.Clients.{Client, Sending, client_turned, sends_of, spelled, steps_of}
@@ -26,7 +24,6 @@ use Rattle.client_model.specs.IfaceTurns.{Turn, iface_turned}
 use Rattle.client_model.specs.Interfaces.{opened}
 use Rattle.client_model.specs.KeptLeases.{Beginning}
 use Rattle.client_model.specs.Messages.{Said, Dhcp4, Arp, Dhcp6}
-use Rattle.client_model.proofs.HostDuids.{host_duid_fits}
 use Rattle.lease_evidence.proofs.Spoken.{message_said}
 use Rattle.lab_schedule.specs.declared.event.LabEvent.{LabEvent}
 use Rattle.lab_schedule.specs.declared.event.LabEvent.TheVariants.{Tick, Carrier, Release, Give, Hear}
@@ -39,6 +36,7 @@ use Rattle.lab_laws.specs.Messages.{Start, messages_after, said_onto, step_after
 use Rattle.lab_laws.specs.Numbers.{are_unlike, numbers}
 use Rattle.lab_laws.specs.Reading.{IsReadFrom, NumbersAreUnlike}
 use Rattle.lab_laws.proofs.Apart.{clients, gone, own, opens_so}
+use Rattle.lab_laws.proofs.Lived.{starts_fit}
 use Rattle.lab_laws.proofs.SaidExchanges.{messages_on, each_unlike}
 use Rattle.lab_laws.proofs.SaidFrames.{each_message_is_read, stays_so}
 
@@ -159,22 +157,6 @@ unlike_pairs (one ∷ ones) apart = (
   unlike_pairs ones (λ i j d below less. apart (suc i) (suc j) d (omega (arith, below)) (omega (arith, less))),
 )
 
--- ---- how the clients begin
-
-moments_end : (at : ℕ) → moment_of at < 10 ^ 15
-moments_end at = grind arith
-
-all_start : (schedule : Schedule) (managed : List Managed) → AreManaged managed → AllByRecursion (λ one. FitsStart (start_in schedule managed one)) managed
-all_start schedule [] fit = tt
-all_start schedule (first ∷ others) fit =
-    let duid : IsDuid (host_duid (first ∷ others) None) = host_duid_fits first others None fit.0.mac in
-    all_map FitsManaged (λ one. FitsStart (start_in schedule (first ∷ others) one))
-    (λ one fits. record {
-      at = moments_end schedule.begin.at;
-      fits = record { managed = fits; duid = duid; kept4 = tt; kept6 = tt };
-      none = refl;
-    }) (first ∷ others) fit
-
 -- ---- the clients of a lab
 
 module _ (managed : List Managed) (schedule : Schedule) where
@@ -250,7 +232,7 @@ module _ (managed : List Managed) (schedule : Schedule) where
     unlike = unlike_pairs managed are.apart
 
     starts : Starts managed
-    starts = all_start schedule managed are.fit
+    starts = recursion_from_All (λ one. FitsStart (start one)) managed (λ k d less. starts_fit managed schedule are _ (All-contains_itself managed k d less))
 
     -- a step more
     says_more : (turns : List Turn) (sent sends : List Sending) (past : Managed → List Said4) → sends ≡ frames turns managed → (one : Managed)

@@ -1,6 +1,8 @@
 //! What is true of labs. These functions do nothing: their contracts are the laws.
 
 ghost use Rattle.lab_laws.specs.Binding.{NoTwoAreGranted, StaysBoundInLab};
+ghost use Rattle.lab_laws.specs.HeldInLabs.{LeasesEndWithBindings, NoAddressTwice};
+ghost use Rattle.lab_laws.specs.HeardReplies.{AcksAreReplies, AcksComeInFrames, FramesAreOctets};
 ghost use Rattle.lab_laws.specs.Lives.{ClientsLiveApart};
 ghost use Rattle.lab_laws.specs.Messages.{MessagesFollow};
 ghost use Rattle.lab_laws.specs.Numbers.{RequestsAreFirst};
@@ -41,4 +43,24 @@ pub fn each_message_is_read()
 /// Law: where no transaction number comes again in the frames of a lab, those of each client are unlike.
 pub fn numbers_are_unlike()
     ensures { NumbersAreUnlike }
+{}
+
+/// Law: an ACK that a client takes comes in a frame on its own interface, and is the reply of which the peer made that frame: to its
+/// hardware address, with the number of its exchange, and with that reply's address and time.
+pub fn acks_are_heard()
+    ensures acks { AcksAreReplies }
+    ensures frames { AcksComeInFrames }
+    ensures octets { FramesAreOctets }
+{}
+
+/// Law: where the text of a lab ends with `xids unlike`, no two clients hold one leased address at one moment: no two `lease` lines
+/// after one `at` line have the same address (RFC 2131, section 2.2).
+pub fn no_address_is_held_twice()
+    ensures { NoAddressTwice }
+{}
+
+/// Law: and after the start, and after each line that gives the clients a turn, each lease that is held ends no later than the
+/// peer's binding of its address to that client (RFC 2131, section 4.3.1).
+pub fn leases_end_with_their_bindings()
+    ensures { LeasesEndWithBindings }
 {}
