@@ -3,5 +3,6 @@ pub mod Numbers
 pub mod Binding
 pub mod Lives
 pub mod LabClients
+pub mod Reading
 pub mod HeldInLabs
 pub mod HeardReplies

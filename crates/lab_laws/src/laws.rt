@@ -6,6 +6,7 @@ ghost use Rattle.lab_laws.specs.HeardReplies.{AcksAreReplies, AcksComeInFrames, 
 ghost use Rattle.lab_laws.specs.Lives.{ClientsLiveApart};
 ghost use Rattle.lab_laws.specs.Messages.{MessagesFollow};
 ghost use Rattle.lab_laws.specs.Numbers.{RequestsAreFirst};
+ghost use Rattle.lab_laws.specs.Reading.{EachMessageIsRead, NumbersAreUnlike};
 
 /// Law: with the number of its last message a client says a DISCOVER after DISCOVERs alone, and a REQUEST after a DISCOVER or a
 /// REQUEST (RFC 2131, section 4.4).
@@ -32,6 +33,16 @@ pub fn no_two_are_granted()
 /// each other by frames alone.
 pub fn clients_live_apart()
     ensures { ClientsLiveApart }
+{}
+
+/// Law: the peer reads each message of DHCPv4 that a client says, and no other frame of it.
+pub fn each_message_is_read()
+    ensures { EachMessageIsRead }
+{}
+
+/// Law: where no transaction number comes again in the frames of a lab, those of each client are unlike.
+pub fn numbers_are_unlike()
+    ensures { NumbersAreUnlike }
 {}
 
 /// Law: an ACK that a client takes comes in a frame on its own interface, and is the reply of which the peer made that frame: to its
