@@ -184,9 +184,9 @@ module _ (managed : List Managed) (schedule : Schedule) (are : AreClients manage
             let bound : IsBoundUntil lease.net.ip one.spec.mac (lease_end lease.lease lease.first) lab.peer =
             lease_bound managed schedule are lab one among.0 turns so clock (well one among.0) lease is in (
               all_map (IsTaken (one ∷ some)) (λ (other : Ip4). lease.net.ip ≡ other → ⊥)
-              (λ other t same. t.others.0.macs (one_binding other t.holder.spec.mac one.spec.mac t.end (lease_end lease.lease lease.first) lab.peer t.bound
-              (subst (λ (addr : Ip4). IsBoundUntil addr one.spec.mac (lease_end lease.lease lease.first) lab.peer) same bound)))
-              held taken,
+                  (λ other t same. t.others.0.macs (one_binding other t.holder.spec.mac one.spec.mac t.end (lease_end lease.lease lease.first) lab.peer t.bound
+                  (subst (λ (addr : Ip4). IsBoundUntil addr one.spec.mac (lease_end lease.lease lease.first) lab.peer) same bound)))
+                  held taken,
               rest (lease.net.ip ∷ held) (record { end = lease_end lease.lease lease.first; holder = one; bound = bound; others = apart.0 }, taken_still),
             )
 

@@ -193,8 +193,7 @@ module _ (mac : Mac) where
         let turn : Turn4 = turn_of at salt c in
         let arrival : Arrival = arrival_at at message in
         let answers = answer_fits c.settings arrival c.state early f.1.sound.state in
-        stepped at (record iface { dhcp4 = brought arrival c }) (heard_step salt arrival c)
-        (
+        stepped at (record iface { dhcp4 = brought arrival c }) (heard_step salt arrival c) (
           f.0,
           record {
             mac_is = f.1.mac_is;
@@ -356,8 +355,7 @@ module _ (mac : Mac) where
     undone set iface f =
         let c : ClientContent = iface.dhcp4 in
         let turn : Turn4 = turn_of at salt c in
-        gated FitIface (is_in set (index_of iface)) _ _
-        (
+        gated FitIface (is_in set (index_of iface)) _ _ (
           f.0,
           record {
             mac_is = f.1.mac_is;
