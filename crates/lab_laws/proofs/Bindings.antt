@@ -1,11 +1,10 @@
 -- After each line of a lab whose text ends with `xids unlike`: each lease ends no later than its binding, and no address is held twice.
-use Rattle.std.proofs.Common.{◌≡◌, ℕ, zero, suc, ◌+◌, ◌<◌, Bool, true, false, List, [], ◌∷◌, ◌++◌, map, length, get_or, Option, Some, None, IfSome, refl, sym, ap, subst, ◌∙◌, arith}
-use Rattle.std.specs.Prelude.{AllPairs, flat_map}
-use Rattle.std.specs.List.{All, AllByRecursion, Contains}
+use Rattle.std.proofs.Common.{◌≡◌, ℕ, suc, ◌+◌, Bool, true, false, List, [], ◌∷◌, ◌++◌, map, length, Option, Some, None, IfSome, refl, sym, ap, subst, ◌∙◌, arith}
+use Rattle.std.specs.Prelude.{AllPairs}
+use Rattle.std.specs.List.{AllByRecursion, Contains}
 use Rattle.std.proofs.lemmas.List.Elements.{All-contains_itself, recursion_from_All}
-use Rattle.net_types.proofs.AllLaws.{all_both, all_map}
+use Rattle.net_types.proofs.AllLaws.{all_map}
 use Rattle.net_types.specs.declared.address.Ip4.{Ip4}
-use Rattle.net_types.specs.declared.address.Mac.{Mac}
 use Rattle.lease_text.specs.Leases.{LeaseContent}
 use Rattle.v4_client.specs.Clients.{held_of}
 use Rattle.settings.specs.declared.interfaces.Managed.{Managed}
@@ -16,15 +15,15 @@ use Rattle.lab_peer.specs.Bindings.{lease_end}
 use Rattle.lab_peer.specs.Granting.{IsBoundUntil}
 use Rattle.lab_schedule.specs.declared.event.LabEvent.{LabEvent}
 use Rattle.lab_schedule.specs.declared.event.LabEvent.TheVariants.{Tick, Carrier, Release, Give, Hear}
-use Rattle.lab_schedule.specs.Schedules.{FitsPool, FitsSchedule, Schedule}
+use Rattle.lab_schedule.specs.Schedules.{FitsPool, Schedule}
 use Rattle.lab_model.specs.Exchanges.{xids_unlike}
-use Rattle.lab_model.specs.LabLines.{LabLine, At, ClientFrame, PeerFrame, Lease, XidsUnlike, XidsRepeat, client_lines, held_line, lab_lines, last_line, lease_line, lease_lines, lines_from, lines_of, peer_lines}
+use Rattle.lab_model.specs.LabLines.{LabLine, XidsUnlike, XidsRepeat, client_lines, held_line, last_line, lease_lines, lines_from, lines_of, peer_lines}
 use Rattle.lab_model.specs.Labs.{Lab, LabStep, lab_after, lab_opened, lab_step, no_lab, numbered, raised}
 use Rattle.lab_laws.specs.HeldInLabs.{ApartFrom, EachEndsWithBinding, EndAfterTurn, EndAfterTurns, EndsUnlike, EndsWithBinding, LeasesEndWithBindings, NoAddressTwice}
 use Rattle.lab_laws.specs.LabClients.{AreApart, AreClients}
 use Rattle.lab_laws.specs.Lives.{turn_of, turns_onto, with_turn}
 use Rattle.lab_laws.specs.Messages.{Start, messages_after, step_after}
-use Rattle.lab_laws.proofs.Apart.{clients, heard_so}
+use Rattle.lab_laws.proofs.Apart.{heard_so}
 use Rattle.lab_laws.proofs.Bounds.{one_binding}
 use Rattle.lab_laws.proofs.FollowedTurns.{messages_follow}
 use Rattle.lab_laws.proofs.FramesSaid.{managed_so, start}

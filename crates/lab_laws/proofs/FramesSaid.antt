@@ -1,19 +1,15 @@
 -- Each frame of a client that the peer reads is a message that the client said.
-use Rattle.std.proofs.Common.{◌≡◌, ℕ, zero, suc, ◌≤◌, ◌⊎◌, inl, inr, List, [], ◌∷◌, ◌++◌, map, Option, Some, None, IfSome, refl, sym, ap, subst, ◌∙◌, arith}
+use Rattle.std.proofs.Common.{◌≡◌, ℕ, ◌≤◌, ◌⊎◌, inl, inr, List, [], ◌∷◌, map, Option, Some, IfSome, refl, sym, subst, ◌∙◌, arith}
 use Rattle.std.specs.Prelude.{flat_map}
-use Rattle.std.specs.List.{AllByRecursion, Contains, slice_get}
+use Rattle.std.specs.List.{AllByRecursion, Contains}
 use Rattle.std.proofs.lemmas.List.Elements.{All-contains_itself, recursion_from_All}
-use Rattle.net_types.proofs.AllLaws.{all_both, all_join, all_map}
-use Rattle.v4_message.specs.Requests.{AskContent}
-use Rattle.v4_message.specs.declared.writing.Said4.{Said4}
+use Rattle.net_types.proofs.AllLaws.{all_join}
 use Rattle.v4_frames.specs.declared.sent.Sent4.{Sent4}
 use Rattle.v4_frames.specs.InRange.{FitsSent}
 use Rattle.machine.specs.Moment.{moment_of}
 use Rattle.settings.specs.declared.interfaces.Managed.{Managed}
-use Rattle.client_model.specs.declared.interfaces.Iface.{Iface}
 use Rattle.client_model.specs.ClientSettings.{ask_of}
-use Rattle.client_model.specs.Clients.{Sending, frame_of, sends_of, spelled}
-use Rattle.client_model.specs.IfaceSteps.{IfaceStep}
+use Rattle.client_model.specs.Clients.{Sending, sends_of, spelled}
 use Rattle.client_model.specs.IfaceTurns.{Turn}
 use Rattle.client_model.specs.Interfaces.{resting}
 use Rattle.client_model.specs.Messages.{Said, Arp, Dhcp4, Dhcp6}

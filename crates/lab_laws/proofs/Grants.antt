@@ -1,16 +1,14 @@
 -- A lease that a client of a lab holds was granted by the peer, and ends no later than its binding.
-use Rattle.std.proofs.Common.{◌≡◌, ℕ, ◌+◌, ◌*◌, ◌≤◌, ◌<◌, ◌⊎◌, inl, inr, ◌||◌, Bool, true, false, List, [], ◌∷◌, map, length, Option, Some, None, IfSome, refl, sym, ap, subst, ◌∙◌, arith, get_or, nat_lt}
+use Rattle.std.proofs.Common.{◌≡◌, ℕ, ◌+◌, ◌*◌, ◌≤◌, ◌<◌, inl, inr, ◌||◌, Bool, true, false, List, [], ◌∷◌, map, length, Option, Some, None, IfSome, refl, sym, ap, subst, ◌∙◌, arith, get_or, nat_lt}
 use Rattle.std.specs.Prelude.{◌==◌, AllPairs, if◌then◌else◌}
 use Rattle.std.specs.List.{AllByRecursion, Contains}
 use Rattle.std.proofs.lemmas.Bool.Decides.{nat_tests}
 use Rattle.std.proofs.lemmas.List.{get_or_default}
 use Rattle.machine.specs.Since.{Always, Since}
-use Rattle.net_types.proofs.CaseLaws.{split}
 use Rattle.net_types.specs.declared.address.Ip4.{Ip4}
-use Rattle.net_types.specs.declared.address.Mac.{Mac}
 use Rattle.lease_text.specs.declared.lease.TheConstants.{INFINITE_LEASE}
 use Rattle.lease_text.specs.declared.lease.Terms4.{Terms4}
-use Rattle.lease_text.specs.Leases.{LeaseContent, terms_of}
+use Rattle.lease_text.specs.Leases.{LeaseContent}
 use Rattle.v4_client.specs.Answers.{is_unexpired}
 use Rattle.v4_client.specs.Clients.{held_of}
 use Rattle.world.specs.declared.wakes.Event.{Event}
@@ -20,17 +18,13 @@ use Rattle.client_model.specs.declared.interfaces.Iface.{Iface}
 use Rattle.client_model.specs.IfaceTurns.{Turn}
 use Rattle.server_data.specs.declared.reply.Reply.{Reply}
 use Rattle.evidence_words.specs.Entries.{Entry}
-use Rattle.evidence_words.specs.IfaceLives.{Met, entry_of, opening_entry, shown, now_in}
-use Rattle.evidence_words.specs.Inputs.{Site}
+use Rattle.evidence_words.specs.IfaceLives.{entry_of, opening_entry, shown, now_in}
 use Rattle.lease_evidence.specs.Exchanges.{Numbered, seen_in}
-use Rattle.lease_evidence.specs.HeldLeases.{IsAsGranted, IsPlain4}
-use Rattle.lease_evidence.specs.KeptNeeds.{HasNoOrigin}
+use Rattle.lease_evidence.specs.HeldLeases.{IsAsGranted}
 use Rattle.lease_evidence.specs.LeaseBasis.{CalmFor, FirstAck}
 use Rattle.lease_evidence.proofs.KeptNeedsProofs.{plain_leases_as_granted}
-use Rattle.lab_peer.specs.declared.binding.Bound4.{Bound4}
 use Rattle.lab_peer.specs.Bindings.{binding_of, is_over, lease_end}
 use Rattle.lab_peer.specs.Granting.{IsBoundUntil, IsNoLater}
-use Rattle.lab_peer.specs.Hearing.{PeerState}
 use Rattle.lab_schedule.specs.Schedules.{Schedule}
 use Rattle.lab_model.specs.Labs.{Lab}
 use Rattle.lab_laws.specs.HeardReplies.{IsFrameHere, IsOfReply}

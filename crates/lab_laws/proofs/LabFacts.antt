@@ -1,5 +1,5 @@
 -- What holds of a lab after each line: what its clients sent was said, and what its peer made is its reply.
-use Rattle.std.proofs.Common.{◌≡◌, ℕ, zero, suc, ◌≤◌, ◌<◌, ◌^◌, max, List, [], ◌∷◌, ◌++◌, map, length, lit<, Option, Some, None, IfSome, inl, inr, refl, sym, ap, subst, ◌∙◌, arith}
+use Rattle.std.proofs.Common.{◌≡◌, ℕ, zero, suc, ◌≤◌, ◌<◌, ◌^◌, List, [], ◌∷◌, map, length, lit<, Option, Some, None, IfSome, inr, refl, sym, ap, subst, ◌∙◌, arith}
 use Rattle.std.specs.Prelude.{flat_map, option_map, option_to_list}
 use Rattle.std.specs.List.{AllByRecursion, Contains, slice_get}
 use Rattle.std.proofs.lemmas.Simd.{map-map}
@@ -12,14 +12,12 @@ use Rattle.net_types.specs.declared.address.Mac.{Mac}
 use Rattle.net_types.specs.Marks.{AreBytes}
 use Rattle.v4_message.specs.declared.writing.Kind4.TheVariants.{Request}
 use Rattle.v4_message.specs.declared.writing.Said4.{Said4}
-use Rattle.v4_frames.specs.declared.sent.Sent4.{Sent4}
 use Rattle.world.specs.declared.wakes.Event.{Event}
 use Rattle.world.specs.declared.wakes.Event.TheVariants as wakes
 use Rattle.settings.specs.declared.interfaces.Managed.{Managed}
 use Rattle.settings.specs.Fitting.{FitsManaged}
-use Rattle.client_model.specs.Clients.{Client, Sending, client_turned, opening, sends_of}
+use Rattle.client_model.specs.Clients.{Client, Sending, client_turned, sends_of}
 use Rattle.client_model.specs.HostDuid.{host_duid}
-use Rattle.client_model.specs.IfaceSteps.{IfaceStep}
 use Rattle.client_model.specs.IfaceTurns.{Turn, iface_turned}
 use Rattle.client_model.specs.Interfaces.{opened}
 use Rattle.server_data.specs.declared.reply.ReplyKind.TheVariants.{Ack}
@@ -27,9 +25,8 @@ use Rattle.server_data.specs.declared.reply.Reply.{Reply}
 use Rattle.server_data.specs.ReadBack.{FitsReply}
 use Rattle.server_data.specs.ServerFrames.{server_frame}
 use Rattle.lab_peer.specs.Bindings.{lease_end}
-use Rattle.lab_peer.specs.ClientFrames.{client_sent}
-use Rattle.lab_peer.specs.Granting.{IsAnswer, IsBoundUntil}
-use Rattle.lab_peer.specs.Hearing.{PeerState, Response, hears, made}
+use Rattle.lab_peer.specs.Granting.{IsAnswer}
+use Rattle.lab_peer.specs.Hearing.{Response, hears, made}
 use Rattle.lab_peer.proofs.Bound.{acks_bind, answers_its_client, keeps_its_pool}
 use Rattle.lab_schedule.specs.declared.event.LabEvent.{LabEvent}
 use Rattle.lab_schedule.specs.declared.event.LabEvent.TheVariants.{Tick, Carrier, Release, Give, Hear}

@@ -1,9 +1,9 @@
 -- The exchange that a client of a lab has open began no later than each REQUEST of its number.
-use Rattle.std.proofs.Common.{◌≡◌, ℕ, ◌≤◌, true, List, [], ◌∷◌, map, Option, Some, None, IfSome, refl, sym, ap, subst, ◌∙◌, arith}
+use Rattle.std.proofs.Common.{◌≡◌, ℕ, ◌≤◌, List, [], ◌∷◌, map, Option, None, IfSome, refl, sym, ap, subst, ◌∙◌, arith}
 use Rattle.std.specs.List.{AllByRecursion}
 use Rattle.lease_text.specs.Bounds.{IsTyped}
 use Rattle.lease_text.specs.Leases.{LeaseContent}
-use Rattle.v4_message.specs.Requests.{AskContent, AskFits}
+use Rattle.v4_message.specs.Requests.{AskContent}
 use Rattle.v4_message.specs.declared.writing.Said4.{Said4}
 use Rattle.v4_frames.specs.declared.sent.Sent4.{Sent4}
 use Rattle.world.specs.declared.wakes.Event.TheVariants.{Quiet}
@@ -13,7 +13,7 @@ use Rattle.client_model.specs.ClientSettings.{ask_of}
 use Rattle.client_model.specs.IfaceTurns.{Turn, iface_turned}
 use Rattle.client_model.specs.Messages.{Said}
 use Rattle.client_model.proofs.AskFitting.{ask_fits}
-use Rattle.evidence_words.specs.Entries.{Entry, Offer}
+use Rattle.evidence_words.specs.Entries.{Offer}
 use Rattle.evidence_words.specs.IfaceLives.{shown}
 use Rattle.evidence_words.specs.Inputs.{offers_at}
 use Rattle.evidence_words.proofs.Offers.{Offered}

@@ -1,5 +1,5 @@
 -- Each message of DHCPv4 that a row of the table says is one that some client may say.
-use Rattle.std.proofs.Common.{◌≡◌, ℕ, ◌+◌, ◌*◌, ◌≤◌, ◌<◌, ◌||◌, ◌&&◌, not, Bool, true, false, List, Option, Some, None, IfSome, refl, nat_eq, nat_le, eqb, arith}
+use Rattle.std.proofs.Common.{◌≡◌, ℕ, ◌+◌, ◌*◌, ◌≤◌, ◌||◌, ◌&&◌, not, Bool, true, false, List, Option, Some, None, IfSome, refl, nat_le, arith}
 use Rattle.std.specs.Prelude.{if◌then◌else◌, ◌==◌}
 use Rattle.std.specs.Option.{is_some}
 use Rattle.std.proofs.lemmas.Bool.Decides.{nat_tests}
@@ -47,7 +47,7 @@ use Rattle.v4_client.specs.Inputs.{stood, entered, begins, begin_row, off_row, r
 use Rattle.v4_client.specs.Moments.{expiry, renewal_at, rebinding_at, standing_until, doubled}
 use Rattle.v4_client.specs.Saying.{no_address, every_address, sent_of}
 use Rattle.v4_client.specs.Sound.{FitsState}
-use Rattle.v4_client.specs.Steps.{rests, to_init, expires, selecting, discovers, new_xid, requesting, rebooting, new_exchange, renewing, rebinding, refused, declines, standing_news}
+use Rattle.v4_client.specs.Steps.{rests, to_init, expires, selecting, discovers, new_xid, requesting, rebooting, new_exchange, renewing, rebinding, declines, standing_news}
 use Rattle.v4_client.specs.Ticks.{detects, tick_row}
 use Rattle.lab_peer.specs.ClientFrames.{is_of_a_client, speaker}
 

@@ -30,9 +30,8 @@ use Rattle.client_model.specs.Messages.{Said, Dhcp4, Arp, Dhcp6}
 use Rattle.client_model.proofs.SameInterfaces.{opened_is_same, turned_is_same}
 use Rattle.lab_peer.specs.ClientFrames.{ask_in, ask_fits, if_of_a_client, if_said, client_sent}
 use Rattle.lab_peer.proofs.ClientsRead.{each_client_is_read}
-use Rattle.lab_laws.specs.LabClients.{FitsStart, FitsTurn}
 use Rattle.lab_laws.specs.Messages.{Start, step_after}
-use Rattle.lab_laws.specs.Reading.{IsReadAs, IsReadFrom, EachMessageIsRead}
+use Rattle.lab_laws.specs.Reading.{IsReadAs, EachMessageIsRead}
 use Rattle.lab_laws.proofs.SaidTurns.{FairOn, FairSaid, life_fair}
 
 -- ---- other frames

@@ -1,7 +1,7 @@
 -- The messages that are read in the frames of a lab's clients are those that each interface says.
-use Rattle.std.proofs.Common.{◌≡◌, ℕ, suc, ◌<◌, ◌^◌, Bool, true, false, List, [], ◌∷◌, ◌++◌, map, length, Option, Some, None, refl, sym, ap, ap₂, subst, ◌∙◌, arith, append_assoc, if◌then◌else◌}
+use Rattle.std.proofs.Common.{◌≡◌, ℕ, suc, Bool, true, false, List, [], ◌∷◌, ◌++◌, map, Option, Some, None, refl, sym, ap, ap₂, subst, ◌∙◌, arith, append_assoc, if◌then◌else◌}
 use Rattle.std.specs.Prelude.{◌==◌, AllPairs, flat_map, reverse}
-use Rattle.std.specs.List.{AllByRecursion, Contains}
+use Rattle.std.specs.List.{AllByRecursion}
 use Rattle.std.proofs.lemmas.Bool.Decides.{nat_tests}
 use Rattle.std.proofs.lemmas.Grind.{flat_map-append}
 use Rattle.std.proofs.lemmas.List.{append-nil, reverse-append}
@@ -11,13 +11,11 @@ use Rattle.net_types.specs.declared.interface.IfSpec.{IfSpec}
 use Rattle.machine.specs.Moment.{moment_of}
 use Rattle.v4_message.specs.Requests.{AskContent}
 use Rattle.v4_message.specs.declared.writing.Said4.{Said4}
-use Rattle.v4_frames.specs.declared.sent.Sent4.{Sent4}
 use Rattle.v4_client.specs.Settings.{SettingsContent}
 use Rattle.world.specs.declared.wakes.Event.TheVariants as wakes
 use Rattle.settings.specs.declared.interfaces.Managed.{Managed}
-use Rattle.client_model.specs.declared.interfaces.Iface.{Iface}
 use Rattle.client_model.specs.ClientSettings.{ask_of}
-use Rattle.client_model.specs.Clients.{Client, Sending, client_turned, sends_of, spelled, steps_of}
+use Rattle.client_model.specs.Clients.{Client, Sending, client_turned, sends_of, spelled}
 use Rattle.client_model.specs.HostDuid.{host_duid}
 use Rattle.client_model.specs.IfaceSteps.{IfaceStep}
 use Rattle.client_model.specs.IfaceTurns.{Turn, iface_turned}
@@ -28,7 +26,7 @@ use Rattle.lease_evidence.proofs.Spoken.{message_said}
 use Rattle.lab_schedule.specs.declared.event.LabEvent.{LabEvent}
 use Rattle.lab_schedule.specs.declared.event.LabEvent.TheVariants.{Tick, Carrier, Release, Give, Hear}
 use Rattle.lab_schedule.specs.Schedules.{Schedule}
-use Rattle.lab_model.specs.Exchanges.{Message, message_in, message_with, messages_of, xids_unlike}
+use Rattle.lab_model.specs.Exchanges.{Message, message_in, message_with, messages_of}
 use Rattle.lab_model.specs.Labs.{Lab, beginning, clients_turned, lab_after, lab_opened, lab_step, numbered, peer_heard, raised, turn_given, turn_with}
 use Rattle.lab_laws.specs.LabClients.{AreApart, AreClients, FitsStart, FitsTurn}
 use Rattle.lab_laws.specs.Lives.{start_in, turn_of, turns_onto, with_turn}

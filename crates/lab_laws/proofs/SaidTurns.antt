@@ -1,5 +1,5 @@
 -- Each message that an interface says in its opening and in a turn is one that some client may say, and fits its fields.
-use Rattle.std.proofs.Common.{◌≡◌, ℕ, ◌<◌, ◌^◌, Bool, true, false, List, [], ◌∷◌, ◌++◌, map, Option, Some, None, IfSome, option_map, refl, sym, ap, subst, ◌∙◌, lit<}
+use Rattle.std.proofs.Common.{◌≡◌, ℕ, ◌<◌, ◌^◌, Bool, true, false, List, [], ◌∷◌, ◌++◌, map, Option, Some, None, IfSome, option_map, refl, sym, subst, ◌∙◌}
 use Rattle.std.specs.Prelude.{option_to_list, ◌==◌}
 use Rattle.std.specs.List.{AllByRecursion}
 use Rattle.machine.specs.Moment.{is_due}
@@ -26,10 +26,9 @@ use Rattle.v4_client.specs.declared.states.Tell.{Tell}
 use Rattle.v4_client.specs.declared.states.Tell.TheVariants.{Server}
 use Rattle.v4_client.specs.declared.states.Turn4.{Turn4}
 use Rattle.v4_client.specs.Calls.{answer_to, arp_step, brought, carrier_step, heard_step, rebind_step, release_step}
-use Rattle.v4_client.specs.Clients.{ClientContent, bound_terms, client_made, held_terms, kept_terms, turn_of}
+use Rattle.v4_client.specs.Clients.{ClientContent, bound_terms, held_terms, kept_terms, turn_of}
 use Rattle.v4_client.specs.Due.{due_of}
 use Rattle.v4_client.specs.Granting.{kept_values}
-use Rattle.v4_client.specs.History.{tick_step}
 use Rattle.v4_client.specs.Inputs.{unsent_row}
 use Rattle.v4_client.specs.Messages.{Arrival}
 use Rattle.v4_client.specs.Moves.{kept_after}
@@ -42,13 +41,12 @@ use Rattle.v4_client.proofs.SoundClients.{moved_sound, brought_sound, values_fit
 use Rattle.v4_client.proofs.SoundSteps.{tick_sound, rests_sound, heard_sound, arp_sound, begin_sound, rebind_sound, off_sound, release_sound, unsent_sound}
 use Rattle.world.specs.declared.wakes.Event.{Event}
 use Rattle.world.specs.declared.wakes.Event.TheVariants.{Frame, Carrier, Duplicate, Release, Rebind, Stop, Quiet, End}
-use Rattle.v6_client.specs.Moves.{OutContent}
 use Rattle.v6_client.specs.declared.states.Carrier6.TheVariants as carrier6
 use Rattle.v6_client.specs.Runs.{Turned6, tick_turned, hears_turned, carrier_turned, contested_turned, release_turned, rebind_turned}
 use Rattle.script_model.specs.IfaceSets.{is_in, is_up}
 use Rattle.client_model.specs.declared.interfaces.Iface.{Iface}
 use Rattle.client_model.specs.declared.steps.News.TheVariants.{Stopped}
-use Rattle.client_model.specs.ClientSettings.{runs_dhcp4, settings_of}
+use Rattle.client_model.specs.ClientSettings.{runs_dhcp4}
 use Rattle.client_model.specs.ClientSettings6.{runs_dhcp6}
 use Rattle.client_model.specs.Messages.{Said, Dhcp4, Arp, Dhcp6}
 use Rattle.client_model.specs.Dhcp4Steps.{holds_lease, said_in, dhcp4_step, dhcp4_packet, dhcp4_takes, arrival_at, begin_dhcp4, rebind_dhcp4, drop_dhcp4, stop_dhcp4, tick_dhcp4, arms, begin_local}
@@ -64,7 +62,7 @@ use Rattle.lease_evidence.proofs.ArrivalFits as heard
 use Rattle.lease_evidence.proofs.ArrivalFits.{FitsHeard}
 use Rattle.lease_evidence.proofs.SayFits as fields
 use Rattle.lease_evidence.proofs.SayFits.{FitsFields, FitsGrant, FitsStep}
-use Rattle.lease_evidence.proofs.Spoken.{AreOther, IsOther, are_arp, are_dhcp6}
+use Rattle.lease_evidence.proofs.Spoken.{IsOther, are_arp, are_dhcp6}
 use Rattle.lab_peer.specs.ClientFrames.{is_of_a_client}
 use Rattle.lab_laws.specs.Messages.{Start, step_after}
 use Rattle.lab_laws.specs.LabClients.{FitsStart, FitsTurn}

@@ -1,6 +1,6 @@
 -- That no two clients of a lab hold one leased address at one moment, and that each lease ends no later than the peer's binding (RFC 2131, sections 2.2 and
 -- 4.3.1).
-use Rattle.std.specs.Prelude.{◌≡◌, ℕ, List, [], ◌∷◌, ◌++◌, IfSome}
+use Rattle.std.specs.Prelude.{◌≡◌, List, [], ◌∷◌, ◌++◌, IfSome}
 use Rattle.std.specs.List.{AllByRecursion}
 use Rattle.net_types.specs.declared.address.Ip4.{Ip4}
 use Rattle.v4_client.specs.Clients.{held_of}

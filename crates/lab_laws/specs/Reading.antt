@@ -1,5 +1,5 @@
 -- What the peer of a lab reads in the frames of a client, over its life (RFC 2131, section 4.4.1, table 5).
-use Rattle.std.specs.Prelude.{◌≡◌, ℕ, true, List, [], Option, Some, None}
+use Rattle.std.specs.Prelude.{◌≡◌, ℕ, true, List, [], Some, None}
 use Rattle.std.specs.List.{AllByRecursion, Contains}
 use Rattle.net_types.specs.declared.address.Mac.{Mac}
 use Rattle.settings.specs.declared.interfaces.Managed.{Managed}
