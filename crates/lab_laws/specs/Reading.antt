@@ -27,7 +27,8 @@ IsReadAs mac (Dhcp6 sent) frame = client_sent frame ≡ None
 
 abbrev pub IsReadFrom : Beginning → Said → Type 0
 IsReadFrom beginning say =
-    IsReadAs beginning.managed.spec.mac say (frame_of beginning.managed.spec (ask_of beginning.duid beginning.managed) say)
+    IsReadAs beginning.managed.spec.mac say
+    (frame_of beginning.managed.spec (ask_of beginning.duid beginning.managed) say)
 
 -- In each life the peer reads what an interface says.
 abbrev pub EachMessageIsRead : Type 0
