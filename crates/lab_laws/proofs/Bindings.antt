@@ -72,11 +72,13 @@ last_begins : (unlike : Bool) → Begins (last_line unlike ∷ [])
 last_begins true held = tt
 last_begins false held = tt
 
-behind_clients : (before : ℕ) (sends : List Sending) (rest more : List LabLine) → ApartFrom [] (rest ++ more) → ApartFrom [] ((client_lines before sends ++ rest) ++ more)
+behind_clients : (before : ℕ) (sends : List Sending) (rest more : List LabLine) → ApartFrom [] (rest ++ more)
+    → ApartFrom [] ((client_lines before sends ++ rest) ++ more)
 behind_clients before [] rest more h = h
 behind_clients before (sending ∷ sends) rest more h = behind_clients (before + 1) sends rest more h
 
-behind_peer : (before : ℕ) (makes : Option (List ℕ)) (rest more : List LabLine) → ApartFrom [] (rest ++ more) → ApartFrom [] ((peer_lines before makes ++ rest) ++ more)
+behind_peer : (before : ℕ) (makes : Option (List ℕ)) (rest more : List LabLine) → ApartFrom [] (rest ++ more)
+    → ApartFrom [] ((peer_lines before makes ++ rest) ++ more)
 behind_peer before None rest more h = h
 behind_peer before (Some bytes) rest more h = h
 
@@ -135,7 +137,8 @@ module _ (managed : List Managed) (schedule : Schedule) (are : AreClients manage
 
   -- ---- right after a turn
 
-  module _ (lab : Lab) (turns : List Turn) (so : LabSo managed schedule lab turns) (clock : lab.clock ≡ moment_in (begin managed schedule) turns) (well : AllWell turns) where
+  module _ (lab : Lab) (turns : List Turn) (so : LabSo managed schedule lab turns) (clock : lab.clock ≡ moment_in (begin managed schedule) turns)
+      (well : AllWell turns) where
     one_ends : (one : Managed) → Contains managed one → EndsWithBinding lab (iface turns one)
     one_ends one among = by (held_of (iface turns one).dhcp4) refl
       where
@@ -201,7 +204,8 @@ module _ (managed : List Managed) (schedule : Schedule) (are : AreClients manage
     abbrev SoNext : LabEvent → Lab → List Turn → Type 0
     SoNext event lab turns = LabSo managed schedule (next event lab) (with_turn (turn_of event lab) turns)
 
-    line_ends : (event : LabEvent) (lab : Lab) (turns : List Turn) → SoNext event lab turns → AllWell (with_turn (turn_of event lab) turns) → EndAfterTurn event (next event lab)
+    line_ends : (event : LabEvent) (lab : Lab) (turns : List Turn) → SoNext event lab turns → AllWell (with_turn (turn_of event lab) turns)
+        → EndAfterTurn event (next event lab)
     line_ends (Tick at salt) lab turns so well = each_ends (next (Tick at salt) lab) (with_turn (turn_of (Tick at salt) lab) turns) so refl well
     line_ends (Carrier at salt iface up) lab turns so well =
         each_ends (next (Carrier at salt iface up) lab) (with_turn (turn_of (Carrier at salt iface up) lab) turns) so refl well
@@ -211,7 +215,8 @@ module _ (managed : List Managed) (schedule : Schedule) (are : AreClients manage
         each_ends (next (Give at salt iface frame) lab) (with_turn (turn_of (Give at salt iface frame) lab) turns) so refl well
     line_ends (Hear at frame) lab turns so well = tt
 
-    all_end : (events : List LabEvent) (lab : Lab) (turns : List Turn) → LabSo managed schedule lab turns → AllWell (turns_onto events lab turns) → EndAfterTurns events lab
+    all_end : (events : List LabEvent) (lab : Lab) (turns : List Turn) → LabSo managed schedule lab turns → AllWell (turns_onto events lab turns)
+        → EndAfterTurns events lab
     all_end [] lab turns so well = tt
     all_end (event ∷ events) lab turns so well =
         let later : SoNext event lab turns = line_so managed schedule are pool event lab turns so in (
@@ -255,6 +260,7 @@ no_address_twice managed schedule are fits ends =
     let first : Lab = (lab_opened managed schedule).lab in
     let so : LabSo managed schedule first [] = first_so managed schedule are fits.pool in
     let well = all_well managed schedule are fits.pool (ends_unlike managed schedule ends) in
-    let apart : HoldApart [] first.client.ifaces = all_apart managed schedule are first [] so refl (wells_before managed schedule are schedule.events first [] well) in
+    let apart : HoldApart [] first.client.ifaces =
+    all_apart managed schedule are first [] so refl (wells_before managed schedule are schedule.events first [] well) in
     step_begins (no_lab schedule.pool) (lab_opened managed schedule) (lines_from schedule.events first) apart
     (lines_begin managed schedule are fits.pool schedule.events first [] so well apart) []

@@ -97,7 +97,8 @@ module _ (managed : List Managed) (schedule : Schedule) where
   abbrev pub WasSaid : List Turn → (clock : ℕ) → Sending → Type 0
   WasSaid turns clock sending = (sent : Sent4) → client_sent sending.bytes ≡ Some sent → IsSaidBy turns clock sent
 
-  pub still_said : (turn : Turn) (turns : List Turn) (clock : ℕ) (sending : Sending) → clock ≤ turn.at → WasSaid turns clock sending → WasSaid (turn ∷ turns) turn.at sending
+  pub still_said : (turn : Turn) (turns : List Turn) (clock : ℕ) (sending : Sending) → clock ≤ turn.at → WasSaid turns clock sending
+      → WasSaid (turn ∷ turns) turn.at sending
   still_said turn turns clock sending le was sent is =
       let by : IsSaidBy turns clock sent = was sent is in
       record {
@@ -106,7 +107,8 @@ module _ (managed : List Managed) (schedule : Schedule) where
         from = by.from;
         fits = by.fits;
         at = by.at;
-        was = still_in turn.at (step_after (start by.one) (turn ∷ turns)).said (record { at = by.at; said = sent.said }) (timed_after (start by.one) turns) by.was;
+        was = still_in turn.at (step_after (start by.one) (turn ∷ turns)).said (record { at = by.at; said = sent.said })
+            (timed_after (start by.one) turns) by.was;
         before = omega (arith, le, by.before);
       }
 
@@ -151,7 +153,8 @@ module _ (managed : List Managed) (schedule : Schedule) where
     client_said : (one : Managed) → Contains managed one → AllByRecursion (WasSaid turns now) (sends_of (step_after (start one) turns))
     client_said one among =
         subst (AllByRecursion (WasSaid turns now)) (sym (sends_so (start one) turns))
-        (frames_said one among (step_after (start one) turns).said (each_is_read (start one) turns (starts_fit managed schedule clients one among) fit) (said_last (start one) turns))
+        (frames_said one among (step_after (start one) turns).said (each_is_read (start one) turns (starts_fit managed schedule clients one among) fit)
+        (said_last (start one) turns))
 
     some_said : (some : List Managed) → AllByRecursion (Contains managed) some
         → AllByRecursion (WasSaid turns now) (flat_map sends_of (map (λ (one : Managed). step_after (start one) turns) some))

@@ -126,7 +126,8 @@ module _ (managed : List Managed) (schedule : Schedule) where
     to = a.to;
     at = a.at;
     said = a.said;
-    was = still_in turn.at (step_after (start managed schedule a.one) (turn ∷ turns)).said (record { at = a.at; said = a.said }) (timed_after (start managed schedule a.one) turns) a.was;
+    was = still_in turn.at (step_after (start managed schedule a.one) (turn ∷ turns)).said (record { at = a.at; said = a.said })
+        (timed_after (start managed schedule a.one) turns) a.was;
     request = a.request;
     same_xid = a.same_xid;
     before = a.before;
@@ -177,7 +178,8 @@ module _ (managed : List Managed) (schedule : Schedule) where
   steps_of_turn : (turn : Turn) (turns : List Turn)
       → map (iface_turned (own managed schedule) turn) (clients managed schedule turns).ifaces
       ≡ map (λ (one : Managed). step_after (start managed schedule one) (turn ∷ turns)) managed
-  steps_of_turn turn turns = map-map (iface_turned (own managed schedule) turn) (λ (one : Managed). (step_after (start managed schedule one) turns).iface) managed
+  steps_of_turn turn turns =
+      map-map (iface_turned (own managed schedule) turn) (λ (one : Managed). (step_after (start managed schedule one) turns).iface) managed
 
   sends_of_turn : (turn : Turn) (turns : List Turn) (client : Client) → client ≡ clients managed schedule turns
       → (client_turned turn client).sends ≡ flat_map sends_of (map (λ (one : Managed). step_after (start managed schedule one) (turn ∷ turns)) managed)
@@ -221,8 +223,8 @@ module _ (managed : List Managed) (schedule : Schedule) where
     later_made : AllByRecursion (IsReply after turns) lab.made
     later_made = all_map (IsReply lab turns) (IsReply after turns) (λ bytes r. goes_reply lab after onward turns bytes r) lab.made so.made
 
-  module _ (are : AreClients managed) (pool : FitsPool schedule.pool) (turns : List Turn) (lab : Lab) (so : LabSo lab turns) (now : ℕ) (le : lab.clock ≤ now) (sending : Sending)
-      (was : WasSaid managed schedule turns lab.clock sending) where
+  module _ (are : AreClients managed) (pool : FitsPool schedule.pool) (turns : List Turn) (lab : Lab) (so : LabSo lab turns) (now : ℕ) (le : lab.clock ≤ now)
+      (sending : Sending) (was : WasSaid managed schedule turns lab.clock sending) where
     abbrev response : Response
     response = hears now sending.bytes lab.peer
 
@@ -236,7 +238,8 @@ module _ (managed : List Managed) (schedule : Schedule) where
         let by : IsSaidBy managed schedule turns lab.clock answer.sent = was answer.sent answer.heard in
         let fit = replies_fit now sending.bytes lab.peer answer.sent reply (subst FitsPool (sym so.pool) pool) answer.heard by.fits says in
         let to : reply.chaddr ≡ by.one.spec.mac = answer.to_client ∙ by.from in
-        let octets : AreBytes reply.chaddr.bytes = subst (λ (mac : Mac). AreBytes mac.bytes) (sym to) (one_of FitsManaged managed by.one are.fit by.among).mac.range in
+        let octets : AreBytes reply.chaddr.bytes =
+        subst (λ (mac : Mac). AreBytes mac.bytes) (sym to) (one_of FitsManaged managed by.one are.fit by.among).mac.range in
         record {
           reply = reply;
           frame = refl;
@@ -272,7 +275,8 @@ module _ (managed : List Managed) (schedule : Schedule) where
       fit = so.fit;
       rising = so.rising;
       sent = later_sent turns lab heard_lab so onward le;
-      made = all_join (IsReply heard_lab turns) lab.made (option_to_list (made response)) (later_made turns lab heard_lab so onward) (says_made response.says refl);
+      made = all_join (IsReply heard_lab turns) lab.made (option_to_list (made response)) (later_made turns lab heard_lab so onward)
+          (says_made response.says refl);
       given = goes_given lab heard_lab onward turns so.given;
     }
 
@@ -354,10 +358,12 @@ module _ (managed : List Managed) (schedule : Schedule) where
         turned_so are (turn_with (raised at lab) salt wakes.Quiet []) turns lab (plain at salt wakes.Quiet lab turns so) (rises at lab) so
         (λ addr mac end. goes addr mac end (Tick at salt) lab) tt
     line_so (Carrier at salt iface up) lab turns so =
-        turned_so are (turn_with (raised at lab) salt (wakes.Carrier iface.number up) []) turns lab (plain at salt (wakes.Carrier iface.number up) lab turns so) (rises at lab) so
+        turned_so are (turn_with (raised at lab) salt (wakes.Carrier iface.number up) []) turns lab
+        (plain at salt (wakes.Carrier iface.number up) lab turns so) (rises at lab) so
         (λ addr mac end. goes addr mac end (Carrier at salt iface up) lab) tt
     line_so (Release at salt iface) lab turns so =
-        turned_so are (turn_with (raised at lab) salt (wakes.Release iface.number) []) turns lab (plain at salt (wakes.Release iface.number) lab turns so) (rises at lab) so
+        turned_so are (turn_with (raised at lab) salt (wakes.Release iface.number) []) turns lab (plain at salt (wakes.Release iface.number) lab turns so)
+        (rises at lab) so
         (λ addr mac end. goes addr mac end (Release at salt iface) lab) tt
     line_so (Give at salt iface frame) lab turns so =
         given_so at salt iface lab turns so (numbered frame lab.made) (found (IsReply lab turns) frame lab.made so.made)

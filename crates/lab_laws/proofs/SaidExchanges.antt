@@ -32,7 +32,8 @@ module _ (iface : ℕ) where
   open_is (message ∷ past) = by (message.iface == iface) (open_is past)
     where
       by : (on : Bool) → open_number iface past ≡ open_after (messages_on iface past)
-          → (if on then goes_on_by message.said else open_number iface past) ≡ open_after (if on then message.said ∷ messages_on iface past else messages_on iface past)
+          → (if on then goes_on_by message.said else open_number iface past) ≡ open_after
+          (if on then message.said ∷ messages_on iface past else messages_on iface past)
       by true e = refl
       by false e = e
 
@@ -62,7 +63,8 @@ module _ (iface : ℕ) where
   numbers_are [] = refl
   numbers_are (message ∷ past) =
       more_number message (exchanges past) (begins message past)
-      ∙ one_way message.said.xid (message.iface == iface) (begins message past) (begins_one message.said (messages_on iface past)) (numbers_on iface (exchanges past))
+      ∙ one_way message.said.xid (message.iface == iface) (begins message past) (begins_one message.said (messages_on iface past))
+      (numbers_on iface (exchanges past))
       (numbers (messages_on iface past)) (λ on. begins_is message past (same message.iface iface on)) (numbers_are past)
       ∙ sym (more_said message.said (messages_on iface past) (message.iface == iface))
 
@@ -94,7 +96,8 @@ module _ (iface : ℕ) where
       let parts = either (is_same (record { iface = iface; xid = xid }) other) (list_any (is_same (record { iface = iface; xid = xid })) others) h in
       by (other.iface == iface) refl parts.0 (lacks xid others parts.1)
     where
-      by : (on : Bool) → (other.iface == iface) ≡ on → is_same (record { iface = iface; xid = xid }) other ≡ false → has_number xid (numbers_on iface others) ≡ false
+      by : (on : Bool) → (other.iface == iface) ≡ on → is_same (record { iface = iface; xid = xid }) other ≡ false
+          → has_number xid (numbers_on iface others) ≡ false
           → has_number xid (if on then other.xid ∷ numbers_on iface others else numbers_on iface others) ≡ false
       by true is unlike rest =
           or_none (xid == other.xid) (has_number xid (numbers_on iface others))

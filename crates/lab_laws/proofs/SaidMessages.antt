@@ -194,7 +194,8 @@ module _ (managed : List Managed) (schedule : Schedule) where
         ap (messages_on iface) (flat_map-append message_in (sends_of (step turns one)) (frames turns ones)) ∙ on_both iface (mine one) (read turns ones)
         ∙ ap (λ (messages : List Message). messages_on iface messages ++ messages_on iface (read turns ones)) (mine_is one fits)
 
-    absent : (iface : ℕ) (ones : List Managed) → AllByRecursion (λ one. (index one == iface) ≡ false) ones → Starts ones → messages_on iface (read turns ones) ≡ []
+    absent : (iface : ℕ) (ones : List Managed) → AllByRecursion (λ one. (index one == iface) ≡ false) ones → Starts ones
+        → messages_on iface (read turns ones) ≡ []
     absent iface [] others starts = refl
     absent iface (one ∷ ones) others starts =
         read_more iface one ones starts.0
@@ -206,7 +207,8 @@ module _ (managed : List Managed) (schedule : Schedule) where
       read_more (index one) one ones starts.0
           ∙ ap₂ (λ (a b : List Said4). a ++ b) (here (start one).beginning (index one) (same_number (index one)) (step turns one).said)
           (absent (index one) ones
-          (all_map (λ other. (index one == index other) ≡ false) (λ other. (index other == index one) ≡ false) (λ other h. flipped (index one) (index other) h) ones unlike.0)
+          (all_map (λ other. (index one == index other) ≡ false) (λ other. (index other == index one) ≡ false)
+          (λ other h. flipped (index one) (index other) h) ones unlike.0)
           starts.1)
           ∙ append-nil (saids (step turns one).said),
       all_both (λ other. (index one == index other) ≡ false) (Says turns ones) (Says turns (one ∷ ones))
@@ -259,7 +261,8 @@ module _ (managed : List Managed) (schedule : Schedule) where
       client = gone managed schedule turn turns lab.client tells.client;
       said = all_both (Says (turn ∷ turns) managed) (λ one. messages_on (index one) (messages_of lab.sent) ≡ messages_after (start one) turns)
           (λ one. messages_on (index one) (messages_of (lab.sent ++ (client_turned turn lab.client).sends)) ≡ messages_after (start one) (turn ∷ turns))
-          (says_more (turn ∷ turns) lab.sent (client_turned turn lab.client).sends (λ one. messages_after (start one) turns) (sends_so turn turns lab.client tells.client))
+          (says_more (turn ∷ turns) lab.sent (client_turned turn lab.client).sends (λ one. messages_after (start one) turns)
+          (sends_so turn turns lab.client tells.client))
           managed (each_says (turn ∷ turns) fit managed unlike starts) tells.said;
     }
 
@@ -283,7 +286,8 @@ module _ (managed : List Managed) (schedule : Schedule) where
     step_tells : (event : LabEvent) (lab : Lab) (turns : List Turn) → AllByRecursion FitsTurn (with_turn (turn_of event lab) turns) → Tells lab turns
         → Tells (lab_step event lab).lab (with_turn (turn_of event lab) turns)
     step_tells (Tick at salt) lab turns fit tells = turn_tells (turn_with (raised at lab) salt wakes.Quiet []) turns lab fit tells
-    step_tells (Carrier at salt iface up) lab turns fit tells = turn_tells (turn_with (raised at lab) salt (wakes.Carrier iface.number up) []) turns lab fit tells
+    step_tells (Carrier at salt iface up) lab turns fit tells =
+        turn_tells (turn_with (raised at lab) salt (wakes.Carrier iface.number up) []) turns lab fit tells
     step_tells (Release at salt iface) lab turns fit tells = turn_tells (turn_with (raised at lab) salt (wakes.Release iface.number) []) turns lab fit tells
     step_tells (Give at salt iface frame) lab turns fit tells = turn_tells (turn_given (raised at lab) salt iface (numbered frame lab.made)) turns lab fit tells
     step_tells (Hear at frame) lab turns fit tells = heard_tells (raised at lab) (numbered frame lab.sent) lab turns tells
@@ -292,7 +296,8 @@ module _ (managed : List Managed) (schedule : Schedule) where
     before None turns fit = fit
     before (Some turn) turns fit = fit.1
 
-    earlier_fit : (events : List LabEvent) (lab : Lab) (turns : List Turn) → AllByRecursion FitsTurn (turns_onto events lab turns) → AllByRecursion FitsTurn turns
+    earlier_fit : (events : List LabEvent) (lab : Lab) (turns : List Turn) → AllByRecursion FitsTurn (turns_onto events lab turns)
+        → AllByRecursion FitsTurn turns
     earlier_fit [] lab turns fit = fit
     earlier_fit (event ∷ events) lab turns fit =
         before (turn_of event lab) turns (earlier_fit events (lab_step event lab).lab (with_turn (turn_of event lab) turns) fit)

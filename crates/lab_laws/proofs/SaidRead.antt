@@ -32,5 +32,6 @@ module _ (beginning : Beginning) where
 pub each_is_read : (start : Start) (turns : List Turn) → FitsStart start → AllByRecursion FitsTurn turns
     → AllByRecursion (IsRead start.beginning.managed start.beginning.duid) (step_after start turns).said
 each_is_read start turns fits all =
-    all_both (FairSaid start.beginning.managed.spec.mac) (IsReadFrom start.beginning) (IsRead start.beginning.managed start.beginning.duid) (read_so start.beginning)
+    all_both (FairSaid start.beginning.managed.spec.mac) (IsReadFrom start.beginning) (IsRead start.beginning.managed start.beginning.duid)
+    (read_so start.beginning)
     (step_after start turns).said (life_fair start turns fits all).1 (each_message_is_read start turns fits all)

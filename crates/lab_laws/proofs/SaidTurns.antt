@@ -153,7 +153,8 @@ module _ (mac : Mac) where
       by_parts (Some say) None h g = (record { fits = h; own = g.0; mac_is = g.1 ∙ is }, tt)
       by_parts (Some say) (Some arp) h g = (record { fits = h; own = g.0; mac_is = g.1 ∙ is }, (tt, tt))
 
-  stepped : (at : ℕ) (iface : Iface) (step : Step4) → FitIface iface → IsSoundStep (kept_terms iface.dhcp4) iface.dhcp4.state step → FitsStep step → OwnStepOf iface.dhcp4.settings.site.iface.mac step
+  stepped : (at : ℕ) (iface : Iface) (step : Step4) → FitIface iface → IsSoundStep (kept_terms iface.dhcp4) iface.dhcp4.state step → FitsStep step
+      → OwnStepOf iface.dhcp4.settings.site.iface.mac step
       → Fair (dhcp4_step at iface step)
   stepped at iface step f goes fits own = (
     (
@@ -393,7 +394,8 @@ resting_fit beginning fits none = (
   },
 )
 
-pub opening_fair : (up at salt : ℕ) → at < 10 ^ 15 → (beginning : Beginning) → FitsBeginning beginning → beginning.kept4 ≡ None → FairOn beginning.managed.spec.mac (opened up at salt beginning)
+pub opening_fair : (up at salt : ℕ) → at < 10 ^ 15 → (beginning : Beginning) → FitsBeginning beginning → beginning.kept4 ≡ None
+    → FairOn beginning.managed.spec.mac (opened up at salt beginning)
 opening_fair up at salt early beginning fits none =
     then_fair mac (opening_told has (resting beginning)) (carrier_at_opening has at salt) (resting_fit beginning fits none, tt) (by has)
   where
@@ -409,7 +411,8 @@ opening_fair up at salt early beginning fits none =
 
 -- ---- a life
 
-pub life_fair : (start : Start) (turns : List Turn) → FitsStart start → AllByRecursion FitsTurn turns → FairOn start.beginning.managed.spec.mac (step_after start turns)
+pub life_fair : (start : Start) (turns : List Turn) → FitsStart start → AllByRecursion FitsTurn turns
+    → FairOn start.beginning.managed.spec.mac (step_after start turns)
 life_fair start [] fits all = opening_fair start.up start.at start.salt fits.at start.beginning fits.fits fits.none
 life_fair start (turn ∷ turns) fits all =
     turn_fair start.beginning.managed.spec.mac start.own turn all.0 (step_after start turns).iface (life_fair start turns fits all.1).0

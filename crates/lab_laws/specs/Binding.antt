@@ -29,8 +29,8 @@ pub record IsGranted (lab : Lab) (at frame : ℕ) (reply : Reply) : Type 0 where
 abbrev pub granted_until : Lab → (at : ℕ) → Option ℕ
 granted_until lab at = lease_end lab.peer.pool.lease (raised at lab)
 
--- The peer grants an address by one line and again by a later one. Where neither lease is over after some lines more, both
--- are one client's.
+-- The peer grants an address by one line and again by a later one. Where neither lease is over after some lines more,
+-- both are one client's.
 abbrev pub NoTwoAreGranted : Type 0
 NoTwoAreGranted = (lab : Lab) (at frame : ℕ) (one : Reply) (between : List LabEvent)
     (later_at later_frame : ℕ) (other : Reply) (later : List LabEvent)

@@ -1,5 +1,5 @@
-//! What is true of a lab: the messages of its clients, what its peer has bound, and the leases that are held. Definitions and
-//! their proofs, no code.
+//! What is true of a lab: the messages of its clients, what its peer has bound, and the leases that are held.
+//! Definitions and their proofs, no code.
 #![tactic(auto)]
 
 mod laws;
