@@ -22,7 +22,7 @@ pub record EndsUnlike (managed : List Managed) (schedule : Schedule) : Type 0 wh
 
 -- ---- addresses
 
--- Of the `lease` lines after one `at` line, no two have one address. Those so far have these.
+-- The `lease` lines below each `at` line have unlike addresses. Those so far have these.
 abbrev pub ApartFrom : (held : List Ip4) → List LabLine → Type 0
 ApartFrom held [] = Unit {0}
 ApartFrom held (At moment ∷ lines) = ApartFrom [] lines

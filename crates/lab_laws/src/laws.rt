@@ -53,14 +53,14 @@ pub fn acks_are_heard()
     ensures octets { FramesAreOctets }
 {}
 
-/// Law: where the text of a lab ends with `xids unlike`, no two clients hold one leased address at one moment: no two
-/// `lease` lines after one `at` line have the same address (RFC 2131, section 2.2).
+/// Law: where the text of a lab ends with `xids unlike`, no two clients hold one leased address at one moment: the
+/// `lease` lines below each `at` line have unlike addresses (RFC 2131, section 2.2).
 pub fn no_address_is_held_twice()
     ensures { NoAddressTwice }
 {}
 
-/// Law: and after the start, and after each line that gives the clients a turn, each lease that is held ends no later
-/// than the peer's binding of its address to that client (RFC 2131, section 4.3.1).
+/// Law: and whenever the clients had a turn, or began, each lease that one of them holds ends no later than the peer's
+/// binding of its address to that client (RFC 2131, section 4.3.1).
 pub fn leases_end_with_their_bindings()
     ensures { LeasesEndWithBindings }
 {}
