@@ -59,8 +59,8 @@ pub fn no_address_is_held_twice()
     ensures { NoAddressTwice }
 {}
 
-/// Law: and whenever the clients had a turn, or began, each lease that one of them holds ends no later than the peer's
-/// binding of its address to that client (RFC 2131, section 4.3.1).
+/// Law: and whenever the clients had a turn, or began, no lease that one of them holds outlasts the peer's binding of
+/// its address to that client (RFC 2131, section 4.3.1).
 pub fn leases_end_with_their_bindings()
     ensures { LeasesEndWithBindings }
 {}
