@@ -69,7 +69,7 @@ granted_here lab at frame reply g =
     subst (λ (there : Option Sending). IsBoundUntil reply.yiaddr reply.chaddr (granted_until lab at) (peer_heard (raised at lab) there lab).lab.peer) (sym g.there)
     (acks_bind (raised at lab) g.sending.bytes lab.peer reply g.says g.is_ack)
 
-one_binding : (addr : Ip4) (a b : Mac) (end other : Option ℕ) (peer : PeerState) → IsBoundUntil addr a end peer → IsBoundUntil addr b other peer → a ≡ b
+pub one_binding : (addr : Ip4) (a b : Mac) (end other : Option ℕ) (peer : PeerState) → IsBoundUntil addr a end peer → IsBoundUntil addr b other peer → a ≡ b
 one_binding addr a b end other peer h i = sym h.of_client ∙ ap (λ (bound : Bound4). bound.mac) (one_is h.bound i.bound (sym h.is ∙ i.is)) ∙ i.of_client
   where
     one_is : (x y : Bound4) → Some x ≡ Some y → x ≡ y

@@ -7,3 +7,4 @@ pub mod FramesHeard
 pub mod AcksHeard
 pub mod HeardBack
 pub mod ServerOctets
+pub mod FramesMade

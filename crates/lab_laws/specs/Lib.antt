@@ -3,3 +3,4 @@ pub mod Numbers
 pub mod Binding
 pub mod Lives
 pub mod HeardReplies
+pub mod Made
