@@ -3,4 +3,7 @@
 
 mod laws;
 
-pub use laws::{acks_are_heard, frames_are_made, messages_follow, no_two_are_granted, requests_are_first, what_is_bound_lasts};
+pub use laws::{
+    acks_are_heard, frames_are_made, messages_follow, no_two_are_granted, requests_are_first,
+    what_is_bound_lasts,
+};
