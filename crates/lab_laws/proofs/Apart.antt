@@ -24,14 +24,14 @@ after_each step made [] = refl
 after_each step made (x ∷ xs) = ap (λ (ifaces : List Iface). (step (made x)).iface ∷ ifaces) (after_each step made xs)
 
 module _ (managed : List Managed) (schedule : Schedule) where
-  abbrev own : List Mac
+  abbrev pub own : List Mac
   own = map (λ spec. spec.mac) schedule.ifaces
 
   -- the clients after these turns
-  abbrev clients : List Turn → Client
+  abbrev pub clients : List Turn → Client
   clients turns = record { own = own; ifaces = map (λ one. (step_after (start_in schedule managed one) turns).iface) managed }
 
-  opens_so : (lab_opened managed schedule).lab.client ≡ clients []
+  pub opens_so : (lab_opened managed schedule).lab.client ≡ clients []
   opens_so =
       ap (λ (ifaces : List Iface). record { own = own; ifaces = ifaces })
       (after_each (opened schedule.begin.up (moment_of schedule.begin.at) schedule.begin.salt) (beginning (host_duid managed None)) managed)
@@ -41,10 +41,10 @@ module _ (managed : List Managed) (schedule : Schedule) where
       ap (λ (ifaces : List Iface). record { own = own; ifaces = ifaces })
       (after_each (iface_turned own turn) (λ (one : Managed). (step_after (start_in schedule managed one) turns).iface) managed)
 
-  gone : (turn : Turn) (turns : List Turn) (client : Client) → client ≡ clients turns → (client_turned turn client).client ≡ clients (turn ∷ turns)
+  pub gone : (turn : Turn) (turns : List Turn) (client : Client) → client ≡ clients turns → (client_turned turn client).client ≡ clients (turn ∷ turns)
   gone turn turns client is = ap (λ (c : Client). (client_turned turn c).client) is ∙ turns_so turn turns
 
-  heard_so : (now : ℕ) (frame : Option Sending) (lab : Lab) → (peer_heard now frame lab).lab.client ≡ lab.client
+  pub heard_so : (now : ℕ) (frame : Option Sending) (lab : Lab) → (peer_heard now frame lab).lab.client ≡ lab.client
   heard_so now None lab = refl
   heard_so now (Some sending) lab = refl
 

@@ -3,6 +3,14 @@ pub mod FollowedTurns
 pub mod Numbers
 pub mod Bounds
 pub mod Apart
+pub mod Lived
+pub mod Timed
+pub mod OpenExchanges
+pub mod SaidRead
+pub mod FramesSaid
+pub mod LabFacts
+pub mod Grants
+pub mod Bindings
 pub mod FramesHeard
 pub mod AcksHeard
 pub mod HeardBack

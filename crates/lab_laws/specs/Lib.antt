@@ -2,5 +2,7 @@ pub mod Messages
 pub mod Numbers
 pub mod Binding
 pub mod Lives
+pub mod LabClients
+pub mod HeldInLabs
 pub mod HeardReplies
 pub mod Made

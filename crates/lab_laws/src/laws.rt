@@ -1,6 +1,7 @@
 //! What is true of labs. These functions do nothing: their contracts are the laws.
 
 ghost use Rattle.lab_laws.specs.Binding.{NoTwoAreGranted, StaysBoundInLab};
+ghost use Rattle.lab_laws.specs.HeldInLabs.{LeasesEndWithBindings, NoAddressTwice};
 ghost use Rattle.lab_laws.specs.HeardReplies.{AcksAreReplies, AcksComeInFrames, FramesAreOctets};
 ghost use Rattle.lab_laws.specs.Lives.{ClientsLiveApart};
 ghost use Rattle.lab_laws.specs.Made.{FramesAreMade, GrantsAreApart, GrantsStand};
@@ -48,4 +49,16 @@ pub fn frames_are_made()
     ensures made { FramesAreMade }
     ensures stand { GrantsStand }
     ensures apart { GrantsAreApart }
+{}
+
+/// Law: where the text of a lab ends with `xids unlike`, no two clients hold one leased address at one moment: no two `lease` lines
+/// after one `at` line have the same address (RFC 2131, section 2.2).
+pub fn no_address_is_held_twice()
+    ensures { NoAddressTwice }
+{}
+
+/// Law: and after the start, and after each line that gives the clients a turn, each lease that is held ends no later than the
+/// peer's binding of its address to that client (RFC 2131, section 4.3.1).
+pub fn leases_end_with_their_bindings()
+    ensures { LeasesEndWithBindings }
 {}
