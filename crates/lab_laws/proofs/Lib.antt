@@ -16,3 +16,4 @@ pub mod AcksHeard
 pub mod HeardBack
 pub mod ServerOctets
 pub mod FramesMade
+pub mod LastLines

@@ -1,7 +1,7 @@
 //! What is true of labs. These functions do nothing: their contracts are the laws.
 
 ghost use Rattle.lab_laws.specs.Binding.{NoTwoAreGranted, StaysBoundInLab};
-ghost use Rattle.lab_laws.specs.HeldInLabs.{LeasesEndWithBindings, NoAddressTwice};
+ghost use Rattle.lab_laws.specs.HeldInLabs.{LeasesEndWithBindings, NoAddressTwice, UnlikeIsRead};
 ghost use Rattle.lab_laws.specs.HeardReplies.{AcksAreReplies, AcksComeInFrames, FramesAreOctets};
 ghost use Rattle.lab_laws.specs.Lives.{ClientsLiveApart};
 ghost use Rattle.lab_laws.specs.Made.{FramesAreMade, GrantsAreApart, GrantsStand};
@@ -61,4 +61,9 @@ pub fn no_address_is_held_twice()
 /// peer's binding of its address to that client (RFC 2131, section 4.3.1).
 pub fn leases_end_with_their_bindings()
     ensures { LeasesEndWithBindings }
+{}
+
+/// Law: where the bytes of the text of a lab end with the line `xids unlike`, that is its last line.
+pub fn last_line_is_read()
+    ensures { UnlikeIsRead }
 {}

@@ -4,7 +4,7 @@
 mod laws;
 
 pub use laws::{
-    acks_are_heard, clients_live_apart, frames_are_made, leases_end_with_their_bindings,
+    acks_are_heard, clients_live_apart, frames_are_made, last_line_is_read, leases_end_with_their_bindings,
     messages_follow, no_address_is_held_twice, no_two_are_granted, requests_are_first,
     what_is_bound_lasts,
 };
