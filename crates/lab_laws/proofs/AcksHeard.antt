@@ -94,7 +94,8 @@ module _ (settings : SettingsContent) (exchange : Exchange4) (arrival : Arrival)
   by_mine true is e = by_server settings exchange arrival terms is (answering settings exchange.xid arrival) e
   by_mine false is e =
       absurd (no_ack
-      (subst (λ (m : Bool). reply_by settings exchange arrival (if m then unless_blacklisted settings (address_at SERVER_IDENTIFIER arrival.message.instances) else None) ≡ answer.Ack terms)
+      (subst (λ (m : Bool). reply_by settings exchange arrival (if m then unless_blacklisted settings
+      (address_at SERVER_IDENTIFIER arrival.message.instances) else None) ≡ answer.Ack terms)
       is e))
     where
       no_ack : answer.Nothing ≡ answer.Ack terms → ⊥

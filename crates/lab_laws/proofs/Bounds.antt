@@ -66,7 +66,8 @@ stays_bound_in_lab addr mac end events lab bound = all_stand addr mac end events
 granted_here : (lab : Lab) (at frame : ℕ) (reply : Reply) → IsGranted lab at frame reply
     → IsBoundUntil reply.yiaddr reply.chaddr (granted_until lab at) (lab_step (Hear at frame) lab).lab.peer
 granted_here lab at frame reply g =
-    subst (λ (there : Option Sending). IsBoundUntil reply.yiaddr reply.chaddr (granted_until lab at) (peer_heard (raised at lab) there lab).lab.peer) (sym g.there)
+    subst (λ (there : Option Sending). IsBoundUntil reply.yiaddr reply.chaddr (granted_until lab at) (peer_heard (raised at lab) there lab).lab.peer)
+    (sym g.there)
     (acks_bind (raised at lab) g.sending.bytes lab.peer reply g.says g.is_ack)
 
 pub one_binding : (addr : Ip4) (a b : Mac) (end other : Option ℕ) (peer : PeerState) → IsBoundUntil addr a end peer → IsBoundUntil addr b other peer → a ≡ b

@@ -1,19 +1,15 @@
 -- Each frame of a client that the peer reads is a message that the client said.
-use Rattle.std.proofs.Common.{◌≡◌, ℕ, zero, suc, ◌≤◌, ◌⊎◌, inl, inr, List, [], ◌∷◌, ◌++◌, map, Option, Some, None, IfSome, refl, sym, ap, subst, ◌∙◌, arith}
+use Rattle.std.proofs.Common.{◌≡◌, ℕ, ◌≤◌, ◌⊎◌, inl, inr, List, [], ◌∷◌, map, Option, Some, IfSome, refl, sym, subst, ◌∙◌, arith}
 use Rattle.std.specs.Prelude.{flat_map}
-use Rattle.std.specs.List.{AllByRecursion, Contains, slice_get}
+use Rattle.std.specs.List.{AllByRecursion, Contains}
 use Rattle.std.proofs.lemmas.List.Elements.{All-contains_itself, recursion_from_All}
-use Rattle.net_types.proofs.AllLaws.{all_both, all_join, all_map}
-use Rattle.v4_message.specs.Requests.{AskContent}
-use Rattle.v4_message.specs.declared.writing.Said4.{Said4}
+use Rattle.net_types.proofs.AllLaws.{all_join}
 use Rattle.v4_frames.specs.declared.sent.Sent4.{Sent4}
 use Rattle.v4_frames.specs.InRange.{FitsSent}
 use Rattle.machine.specs.Moment.{moment_of}
 use Rattle.settings.specs.declared.interfaces.Managed.{Managed}
-use Rattle.client_model.specs.declared.interfaces.Iface.{Iface}
 use Rattle.client_model.specs.ClientSettings.{ask_of}
-use Rattle.client_model.specs.Clients.{Sending, frame_of, sends_of, spelled}
-use Rattle.client_model.specs.IfaceSteps.{IfaceStep}
+use Rattle.client_model.specs.Clients.{Sending, sends_of, spelled}
 use Rattle.client_model.specs.IfaceTurns.{Turn}
 use Rattle.client_model.specs.Interfaces.{resting}
 use Rattle.client_model.specs.Messages.{Said, Arp, Dhcp4, Dhcp6}
@@ -101,7 +97,8 @@ module _ (managed : List Managed) (schedule : Schedule) where
   abbrev pub WasSaid : List Turn → (clock : ℕ) → Sending → Type 0
   WasSaid turns clock sending = (sent : Sent4) → client_sent sending.bytes ≡ Some sent → IsSaidBy turns clock sent
 
-  pub still_said : (turn : Turn) (turns : List Turn) (clock : ℕ) (sending : Sending) → clock ≤ turn.at → WasSaid turns clock sending → WasSaid (turn ∷ turns) turn.at sending
+  pub still_said : (turn : Turn) (turns : List Turn) (clock : ℕ) (sending : Sending) → clock ≤ turn.at → WasSaid turns clock sending
+      → WasSaid (turn ∷ turns) turn.at sending
   still_said turn turns clock sending le was sent is =
       let by : IsSaidBy turns clock sent = was sent is in
       record {
@@ -110,7 +107,8 @@ module _ (managed : List Managed) (schedule : Schedule) where
         from = by.from;
         fits = by.fits;
         at = by.at;
-        was = still_in turn.at (step_after (start by.one) (turn ∷ turns)).said (record { at = by.at; said = sent.said }) (timed_after (start by.one) turns) by.was;
+        was = still_in turn.at (step_after (start by.one) (turn ∷ turns)).said (record { at = by.at; said = sent.said })
+            (timed_after (start by.one) turns) by.was;
         before = omega (arith, le, by.before);
       }
 
@@ -155,7 +153,8 @@ module _ (managed : List Managed) (schedule : Schedule) where
     client_said : (one : Managed) → Contains managed one → AllByRecursion (WasSaid turns now) (sends_of (step_after (start one) turns))
     client_said one among =
         subst (AllByRecursion (WasSaid turns now)) (sym (sends_so (start one) turns))
-        (frames_said one among (step_after (start one) turns).said (each_is_read (start one) turns (starts_fit managed schedule clients one among) fit) (said_last (start one) turns))
+        (frames_said one among (step_after (start one) turns).said (each_is_read (start one) turns (starts_fit managed schedule clients one among) fit)
+        (said_last (start one) turns))
 
     some_said : (some : List Managed) → AllByRecursion (Contains managed) some
         → AllByRecursion (WasSaid turns now) (flat_map sends_of (map (λ (one : Managed). step_after (start one) turns) some))

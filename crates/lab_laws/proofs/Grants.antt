@@ -1,16 +1,14 @@
 -- A lease that a client of a lab holds was granted by the peer, and ends no later than its binding.
-use Rattle.std.proofs.Common.{◌≡◌, ℕ, ◌+◌, ◌*◌, ◌≤◌, ◌<◌, ◌⊎◌, inl, inr, ◌||◌, Bool, true, false, List, [], ◌∷◌, map, length, Option, Some, None, IfSome, refl, sym, ap, subst, ◌∙◌, arith, get_or, nat_lt}
+use Rattle.std.proofs.Common.{◌≡◌, ℕ, ◌+◌, ◌*◌, ◌≤◌, ◌<◌, inl, inr, ◌||◌, Bool, true, false, List, [], ◌∷◌, map, length, Option, Some, None, IfSome, refl, sym, ap, subst, ◌∙◌, arith, get_or, nat_lt}
 use Rattle.std.specs.Prelude.{◌==◌, AllPairs, if◌then◌else◌}
 use Rattle.std.specs.List.{AllByRecursion, Contains}
 use Rattle.std.proofs.lemmas.Bool.Decides.{nat_tests}
 use Rattle.std.proofs.lemmas.List.{get_or_default}
 use Rattle.machine.specs.Since.{Always, Since}
-use Rattle.net_types.proofs.CaseLaws.{split}
 use Rattle.net_types.specs.declared.address.Ip4.{Ip4}
-use Rattle.net_types.specs.declared.address.Mac.{Mac}
 use Rattle.lease_text.specs.declared.lease.TheConstants.{INFINITE_LEASE}
 use Rattle.lease_text.specs.declared.lease.Terms4.{Terms4}
-use Rattle.lease_text.specs.Leases.{LeaseContent, terms_of}
+use Rattle.lease_text.specs.Leases.{LeaseContent}
 use Rattle.v4_client.specs.Answers.{is_unexpired}
 use Rattle.v4_client.specs.Clients.{held_of}
 use Rattle.world.specs.declared.wakes.Event.{Event}
@@ -20,17 +18,13 @@ use Rattle.client_model.specs.declared.interfaces.Iface.{Iface}
 use Rattle.client_model.specs.IfaceTurns.{Turn}
 use Rattle.server_data.specs.declared.reply.Reply.{Reply}
 use Rattle.evidence_words.specs.Entries.{Entry}
-use Rattle.evidence_words.specs.IfaceLives.{Met, entry_of, opening_entry, shown, now_in}
-use Rattle.evidence_words.specs.Inputs.{Site}
+use Rattle.evidence_words.specs.IfaceLives.{entry_of, opening_entry, shown, now_in}
 use Rattle.lease_evidence.specs.Exchanges.{Numbered, seen_in}
-use Rattle.lease_evidence.specs.HeldLeases.{IsAsGranted, IsPlain4}
-use Rattle.lease_evidence.specs.KeptNeeds.{HasNoOrigin}
+use Rattle.lease_evidence.specs.HeldLeases.{IsAsGranted}
 use Rattle.lease_evidence.specs.LeaseBasis.{CalmFor, FirstAck}
 use Rattle.lease_evidence.proofs.KeptNeedsProofs.{plain_leases_as_granted}
-use Rattle.lab_peer.specs.declared.binding.Bound4.{Bound4}
 use Rattle.lab_peer.specs.Bindings.{binding_of, is_over, lease_end}
 use Rattle.lab_peer.specs.Granting.{IsBoundUntil, IsNoLater}
-use Rattle.lab_peer.specs.Hearing.{PeerState}
 use Rattle.lab_schedule.specs.Schedules.{Schedule}
 use Rattle.lab_model.specs.Labs.{Lab}
 use Rattle.lab_laws.specs.HeardReplies.{IsFrameHere, IsOfReply}
@@ -62,8 +56,10 @@ one_client managed apart a b here there same = by_order (nat_lt here.0 there.0) 
     same_place i j one other = grind (arith, nat_tests, one, other)
 
     by_order : (before : Bool) → nat_lt here.0 there.0 ≡ before → (after : Bool) → nat_lt there.0 here.0 ≡ after → a ≡ b
-    by_order true lt after e = absurd ((apart_at here.0 there.0 lt there.1).macs (ap (λ (m : Managed). m.spec.mac) (here_by a) ∙ same ∙ sym (ap (λ (m : Managed). m.spec.mac) (there_by a))))
-    by_order false lt true gt = absurd ((apart_at there.0 here.0 gt here.1).macs (ap (λ (m : Managed). m.spec.mac) (there_by a) ∙ sym same ∙ sym (ap (λ (m : Managed). m.spec.mac) (here_by a))))
+    by_order true lt after e = absurd ((apart_at here.0 there.0 lt there.1).macs
+        (ap (λ (m : Managed). m.spec.mac) (here_by a) ∙ same ∙ sym (ap (λ (m : Managed). m.spec.mac) (there_by a))))
+    by_order false lt true gt = absurd ((apart_at there.0 here.0 gt here.1).macs
+        (ap (λ (m : Managed). m.spec.mac) (there_by a) ∙ sym same ∙ sym (ap (λ (m : Managed). m.spec.mac) (here_by a))))
     by_order false lt false gt =
         sym (here_by a) ∙ ap (λ (k : ℕ). get_or managed k a) (same_place here.0 there.0 lt gt) ∙ there_by a
 
@@ -125,18 +121,22 @@ module _ (managed : List Managed) (schedule : Schedule) (are : AreClients manage
   }
 
   -- the REQUEST that the peer heard is one of this client, and its exchange had begun then
-  began_before : (turn : Turn) (turns : List Turn) → TurnsSo (turn ∷ turns) → (opened : Numbered) → (seen_in (site life) (Past (turn ∷ turns))).current ≡ Some opened
+  began_before : (turn : Turn) (turns : List Turn) → TurnsSo (turn ∷ turns) → (opened : Numbered)
+      → (seen_in (site life) (Past (turn ∷ turns))).current ≡ Some opened
       → (heard : ℕ) (reply : Reply) → reply.xid ≡ opened.exchange.xid → reply.chaddr ≡ one.spec.mac → IsAsked managed schedule turns heard reply
       → opened.exchange.first ≤ heard
   began_before turn turns so opened is heard reply same_xid to asked =
       let own : asked.one ≡ one = one_client managed are.apart asked.one one asked.among among (sym asked.to ∙ to) in
       let message : Timed = record { at = asked.at; said = asked.said } in
-      let was : IsIn message (timed_after life turns) = subst (λ (client : Managed). IsIn message (timed_after (start managed schedule client) turns)) own asked.was in
+      let was : IsIn message (timed_after life turns) =
+      subst (λ (client : Managed). IsIn message (timed_after (start managed schedule client) turns)) own asked.was in
       let here : IsIn message (timed_after life (turn ∷ turns)) = still_in turn.at (step_after life (turn ∷ turns)).said message (timed_after life turns) was in
-      let known : OpenSo (seen_in (site life) (Past (turn ∷ turns))).current turn.at (timed_after life (turn ∷ turns)) = open_after life fits (turn ∷ turns) so.fit so.rising so.well in
+      let known : OpenSo (seen_in (site life) (Past (turn ∷ turns))).current turn.at (timed_after life (turn ∷ turns)) =
+      open_after life fits (turn ∷ turns) so.fit so.rising so.well in
       let first : AllByRecursion (NotBefore opened) (timed_after life (turn ∷ turns)) =
       subst (λ (current : Option Numbered). IfSome current (λ x. AllByRecursion (NotBefore x) (timed_after life (turn ∷ turns)))) is known.first in
-      let le : opened.exchange.first ≤ asked.at = of_each (NotBefore opened) message (timed_after life (turn ∷ turns)) first here asked.request (asked.same_xid ∙ same_xid) in
+      let le : opened.exchange.first ≤ asked.at =
+      of_each (NotBefore opened) message (timed_after life (turn ∷ turns)) first here asked.request (asked.same_xid ∙ same_xid) in
       omega (arith, le, asked.before)
 
   granted_in : (turn : Turn) (turns : List Turn) → TurnsSo (turn ∷ turns) → (opened : Numbered) (terms : Terms4)
@@ -146,7 +146,8 @@ module _ (managed : List Managed) (schedule : Schedule) (are : AreClients manage
       let e : Entry = entry_of (record { turn = turn; offers = map (offer life) (step_after life (turn ∷ turns)).said }) in
       let here : IsFrameHere (site life) e = acks_come_in_frames (site life) opened.exchange e terms ack.good.grants in
       let r : IsReply managed schedule lab turns turn.bytes = by turn.event _ here.len here.is so.given.0 in
-      let of : IsOfReply one.spec.mac opened.exchange terms r.reply = acks_of_peer (site life) opened.exchange e terms r.reply r.frame r.fits r.lease ack.good.grants in
+      let of : IsOfReply one.spec.mac opened.exchange terms r.reply =
+      acks_of_peer (site life) opened.exchange e terms r.reply r.frame r.fits r.lease ack.good.grants in
       record {
         reply = r.reply;
         of_reply = of;
@@ -159,7 +160,8 @@ module _ (managed : List Managed) (schedule : Schedule) (are : AreClients manage
           → IsReply managed schedule lab turns turn.bytes
       by event index len is given = subst (λ (ev : Event). IsGiven managed schedule lab (record turn { event = ev }) turns) is given
 
-  found : (turns : List Turn) → TurnsSo turns → (opened : Numbered) (terms : Terms4) → Since (CalmFor (site life) opened) (FirstAck (site life) opened terms) (Past turns)
+  found : (turns : List Turn) → TurnsSo turns → (opened : Numbered) (terms : Terms4)
+      → Since (CalmFor (site life) opened) (FirstAck (site life) opened terms) (Past turns)
       → IsGrantedBy opened terms
   found [] so opened terms (inl ack) =
       absurd (no_frame (acks_come_in_frames (site life) opened.exchange (opening_entry (opening life)) terms ack.good.grants))
@@ -208,7 +210,8 @@ module _ (managed : List Managed) (schedule : Schedule) (are : AreClients manage
       }
 
   -- the lease that the client holds right after a turn
-  pub lease_bound : (turns : List Turn) → LabSo managed schedule lab turns → lab.clock ≡ moment_in (begin managed schedule) turns → GoWell (messages_after life turns)
+  pub lease_bound : (turns : List Turn) → LabSo managed schedule lab turns → lab.clock ≡ moment_in (begin managed schedule) turns
+      → GoWell (messages_after life turns)
       → (lease : LeaseContent) → held_of (step_after life turns).iface.dhcp4 ≡ Some lease
       → IsBoundUntil lease.net.ip one.spec.mac (lease_end lease.lease lease.first) lab.peer
   lease_bound turns so clock well lease held =
@@ -222,4 +225,5 @@ module _ (managed : List Managed) (schedule : Schedule) (are : AreClients manage
       let b : IsBoundUntil known.basis.terms.net.ip one.spec.mac (lease_end known.basis.terms.lease known.basis.opened.exchange.first) lab.peer =
       bound_still known.basis.opened known.basis.terms g unexpired in
       subst (λ (first : ℕ). IsBoundUntil lease.net.ip one.spec.mac (lease_end lease.lease first) lab.peer) (sym known.first)
-      (subst (λ (terms : Terms4). IsBoundUntil terms.net.ip one.spec.mac (lease_end terms.lease known.basis.opened.exchange.first) lab.peer) (sym known.terms) b)
+      (subst (λ (terms : Terms4). IsBoundUntil terms.net.ip one.spec.mac (lease_end terms.lease known.basis.opened.exchange.first) lab.peer)
+      (sym known.terms) b)

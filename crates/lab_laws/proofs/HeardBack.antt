@@ -38,7 +38,8 @@ use Rattle.lab_laws.proofs.AcksHeard.{ack_of_reply}
 
 -- ---- an ACK that a client takes
 
-heard_on : (site : Site) (event : Event) (bytes : List ℕ) (h : HeardMessage) → message_on site event bytes ≡ Some h → heard4_in site.managed.spec.mac bytes ≡ Some h
+heard_on : (site : Site) (event : Event) (bytes : List ℕ) (h : HeardMessage) → message_on site event bytes ≡ Some h
+    → heard4_in site.managed.spec.mac bytes ≡ Some h
 heard_on site (Frame other len) bytes h e = passes (index_at site == other) (heard4_in site.managed.spec.mac bytes) h e
 heard_on site (Carrier other up) bytes h e = absurd cc
 heard_on site (Duplicate other addr) bytes h e = absurd cc
@@ -71,7 +72,8 @@ is_test : (test : Bool) (found : Option HeardMessage) (h : HeardMessage) → (if
 is_test true found h e = refl
 is_test false found h e = absurd cc
 
-frame_here : (site : Site) (event : Event) (bytes : List ℕ) (h : HeardMessage) → message_on site event bytes ≡ Some h → (len : ℕ) × (event ≡ Frame (index_at site) len)
+frame_here : (site : Site) (event : Event) (bytes : List ℕ) (h : HeardMessage) → message_on site event bytes ≡ Some h
+    → (len : ℕ) × (event ≡ Frame (index_at site) len)
 frame_here site (Frame other len) bytes h e =
     (len, ap (λ (n : ℕ). Frame n len) (sym (same_number (index_at site) other (is_test (index_at site == other) (heard4_in site.managed.spec.mac bytes) h e))))
 frame_here site (Carrier other up) bytes h e = absurd cc
@@ -159,7 +161,11 @@ module _ (peer : PeerState) (fits : FitsPool peer.pool) where
       number = wanted_fits sent.said.asked sent.said.ciaddr sent_fits.asked sent_fits.ciaddr
 
       by : (another free : Bool)
-          → (if another then silent peer else (if free then record { peer = with_binding at sent.said addr peer; says = Some (reply_to sent.said peer Ack addr) }
+          → (if another then silent peer else (if free then record {
+            peer = with_binding at sent.said addr peer;
+            says = Some
+                (reply_to sent.said peer Ack addr);
+          }
           else record { peer = peer; says = Some (reply_to sent.said peer Nak addr) })).says ≡ Some reply
           → Fits reply
       by true free e = absurd cc
@@ -169,7 +175,8 @@ module _ (peer : PeerState) (fits : FitsPool peer.pool) where
   by_kind at sent reply kinds.Release sent_fits e = absurd cc
 
 -- What the peer says to a message that fits has fields of their width.
-pub replies_fit : (at : ℕ) (frame : List ℕ) (peer : PeerState) (sent : Sent4) (reply : Reply) → FitsPool peer.pool → client_sent frame ≡ Some sent → FitsSent sent
+pub replies_fit : (at : ℕ) (frame : List ℕ) (peer : PeerState) (sent : Sent4) (reply : Reply) → FitsPool peer.pool → client_sent frame ≡ Some sent
+    → FitsSent sent
     → (hears at frame peer).says ≡ Some reply → FitsReply reply × (reply.lease < 2 ^ 32)
 replies_fit at frame peer sent reply pool is fits says =
     by_kind peer pool at sent reply sent.said.kind fits (subst (λ (heard : Option Sent4). (hears_sent at heard peer).says ≡ Some reply) is says)

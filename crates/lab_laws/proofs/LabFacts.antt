@@ -1,5 +1,5 @@
 -- What holds of a lab after each line: what its clients sent was said, and what its peer made is its reply.
-use Rattle.std.proofs.Common.{◌≡◌, ℕ, zero, suc, ◌≤◌, ◌<◌, ◌^◌, max, List, [], ◌∷◌, ◌++◌, map, length, lit<, Option, Some, None, IfSome, inl, inr, refl, sym, ap, subst, ◌∙◌, arith}
+use Rattle.std.proofs.Common.{◌≡◌, ℕ, zero, suc, ◌≤◌, ◌<◌, ◌^◌, List, [], ◌∷◌, map, length, lit<, Option, Some, None, IfSome, inr, refl, sym, ap, subst, ◌∙◌, arith}
 use Rattle.std.specs.Prelude.{flat_map, option_map, option_to_list}
 use Rattle.std.specs.List.{AllByRecursion, Contains, slice_get}
 use Rattle.std.proofs.lemmas.Simd.{map-map}
@@ -12,14 +12,12 @@ use Rattle.net_types.specs.declared.address.Mac.{Mac}
 use Rattle.net_types.specs.Marks.{AreBytes}
 use Rattle.v4_message.specs.declared.writing.Kind4.TheVariants.{Request}
 use Rattle.v4_message.specs.declared.writing.Said4.{Said4}
-use Rattle.v4_frames.specs.declared.sent.Sent4.{Sent4}
 use Rattle.world.specs.declared.wakes.Event.{Event}
 use Rattle.world.specs.declared.wakes.Event.TheVariants as wakes
 use Rattle.settings.specs.declared.interfaces.Managed.{Managed}
 use Rattle.settings.specs.Fitting.{FitsManaged}
-use Rattle.client_model.specs.Clients.{Client, Sending, client_turned, opening, sends_of}
+use Rattle.client_model.specs.Clients.{Client, Sending, client_turned, sends_of}
 use Rattle.client_model.specs.HostDuid.{host_duid}
-use Rattle.client_model.specs.IfaceSteps.{IfaceStep}
 use Rattle.client_model.specs.IfaceTurns.{Turn, iface_turned}
 use Rattle.client_model.specs.Interfaces.{opened}
 use Rattle.server_data.specs.declared.reply.ReplyKind.TheVariants.{Ack}
@@ -27,9 +25,8 @@ use Rattle.server_data.specs.declared.reply.Reply.{Reply}
 use Rattle.server_data.specs.ReadBack.{FitsReply}
 use Rattle.server_data.specs.ServerFrames.{server_frame}
 use Rattle.lab_peer.specs.Bindings.{lease_end}
-use Rattle.lab_peer.specs.ClientFrames.{client_sent}
-use Rattle.lab_peer.specs.Granting.{IsAnswer, IsBoundUntil}
-use Rattle.lab_peer.specs.Hearing.{PeerState, Response, hears, made}
+use Rattle.lab_peer.specs.Granting.{IsAnswer}
+use Rattle.lab_peer.specs.Hearing.{Response, hears, made}
 use Rattle.lab_peer.proofs.Bound.{acks_bind, answers_its_client, keeps_its_pool}
 use Rattle.lab_schedule.specs.declared.event.LabEvent.{LabEvent}
 use Rattle.lab_schedule.specs.declared.event.LabEvent.TheVariants.{Tick, Carrier, Release, Give, Hear}
@@ -129,7 +126,8 @@ module _ (managed : List Managed) (schedule : Schedule) where
     to = a.to;
     at = a.at;
     said = a.said;
-    was = still_in turn.at (step_after (start managed schedule a.one) (turn ∷ turns)).said (record { at = a.at; said = a.said }) (timed_after (start managed schedule a.one) turns) a.was;
+    was = still_in turn.at (step_after (start managed schedule a.one) (turn ∷ turns)).said (record { at = a.at; said = a.said })
+        (timed_after (start managed schedule a.one) turns) a.was;
     request = a.request;
     same_xid = a.same_xid;
     before = a.before;
@@ -180,7 +178,8 @@ module _ (managed : List Managed) (schedule : Schedule) where
   steps_of_turn : (turn : Turn) (turns : List Turn)
       → map (iface_turned (own managed schedule) turn) (clients managed schedule turns).ifaces
       ≡ map (λ (one : Managed). step_after (start managed schedule one) (turn ∷ turns)) managed
-  steps_of_turn turn turns = map-map (iface_turned (own managed schedule) turn) (λ (one : Managed). (step_after (start managed schedule one) turns).iface) managed
+  steps_of_turn turn turns =
+      map-map (iface_turned (own managed schedule) turn) (λ (one : Managed). (step_after (start managed schedule one) turns).iface) managed
 
   sends_of_turn : (turn : Turn) (turns : List Turn) (client : Client) → client ≡ clients managed schedule turns
       → (client_turned turn client).sends ≡ flat_map sends_of (map (λ (one : Managed). step_after (start managed schedule one) (turn ∷ turns)) managed)
@@ -224,8 +223,8 @@ module _ (managed : List Managed) (schedule : Schedule) where
     later_made : AllByRecursion (IsReply after turns) lab.made
     later_made = all_map (IsReply lab turns) (IsReply after turns) (λ bytes r. goes_reply lab after onward turns bytes r) lab.made so.made
 
-  module _ (are : AreClients managed) (pool : FitsPool schedule.pool) (turns : List Turn) (lab : Lab) (so : LabSo lab turns) (now : ℕ) (le : lab.clock ≤ now) (sending : Sending)
-      (was : WasSaid managed schedule turns lab.clock sending) where
+  module _ (are : AreClients managed) (pool : FitsPool schedule.pool) (turns : List Turn) (lab : Lab) (so : LabSo lab turns) (now : ℕ) (le : lab.clock ≤ now)
+      (sending : Sending) (was : WasSaid managed schedule turns lab.clock sending) where
     abbrev response : Response
     response = hears now sending.bytes lab.peer
 
@@ -239,7 +238,8 @@ module _ (managed : List Managed) (schedule : Schedule) where
         let by : IsSaidBy managed schedule turns lab.clock answer.sent = was answer.sent answer.heard in
         let fit = replies_fit now sending.bytes lab.peer answer.sent reply (subst FitsPool (sym so.pool) pool) answer.heard by.fits says in
         let to : reply.chaddr ≡ by.one.spec.mac = answer.to_client ∙ by.from in
-        let octets : AreBytes reply.chaddr.bytes = subst (λ (mac : Mac). AreBytes mac.bytes) (sym to) (one_of FitsManaged managed by.one are.fit by.among).mac.range in
+        let octets : AreBytes reply.chaddr.bytes =
+        subst (λ (mac : Mac). AreBytes mac.bytes) (sym to) (one_of FitsManaged managed by.one are.fit by.among).mac.range in
         record {
           reply = reply;
           frame = refl;
@@ -275,7 +275,8 @@ module _ (managed : List Managed) (schedule : Schedule) where
       fit = so.fit;
       rising = so.rising;
       sent = later_sent turns lab heard_lab so onward le;
-      made = all_join (IsReply heard_lab turns) lab.made (option_to_list (made response)) (later_made turns lab heard_lab so onward) (says_made response.says refl);
+      made = all_join (IsReply heard_lab turns) lab.made (option_to_list (made response)) (later_made turns lab heard_lab so onward)
+          (says_made response.says refl);
       given = goes_given lab heard_lab onward turns so.given;
     }
 
@@ -357,10 +358,12 @@ module _ (managed : List Managed) (schedule : Schedule) where
         turned_so are (turn_with (raised at lab) salt wakes.Quiet []) turns lab (plain at salt wakes.Quiet lab turns so) (rises at lab) so
         (λ addr mac end. goes addr mac end (Tick at salt) lab) tt
     line_so (Carrier at salt iface up) lab turns so =
-        turned_so are (turn_with (raised at lab) salt (wakes.Carrier iface.number up) []) turns lab (plain at salt (wakes.Carrier iface.number up) lab turns so) (rises at lab) so
+        turned_so are (turn_with (raised at lab) salt (wakes.Carrier iface.number up) []) turns lab
+        (plain at salt (wakes.Carrier iface.number up) lab turns so) (rises at lab) so
         (λ addr mac end. goes addr mac end (Carrier at salt iface up) lab) tt
     line_so (Release at salt iface) lab turns so =
-        turned_so are (turn_with (raised at lab) salt (wakes.Release iface.number) []) turns lab (plain at salt (wakes.Release iface.number) lab turns so) (rises at lab) so
+        turned_so are (turn_with (raised at lab) salt (wakes.Release iface.number) []) turns lab (plain at salt (wakes.Release iface.number) lab turns so)
+        (rises at lab) so
         (λ addr mac end. goes addr mac end (Release at salt iface) lab) tt
     line_so (Give at salt iface frame) lab turns so =
         given_so at salt iface lab turns so (numbered frame lab.made) (found (IsReply lab turns) frame lab.made so.made)

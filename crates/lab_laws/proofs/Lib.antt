@@ -6,7 +6,6 @@ pub mod Apart
 pub mod Lived
 pub mod Timed
 pub mod OpenExchanges
-pub mod SaidRead
 pub mod FramesSaid
 pub mod LabFacts
 pub mod Grants
@@ -15,5 +14,11 @@ pub mod FramesHeard
 pub mod AcksHeard
 pub mod HeardBack
 pub mod ServerOctets
+pub mod OwnRows
+pub mod SaidTurns
+pub mod SaidFrames
+pub mod SaidRead
+pub mod SaidExchanges
+pub mod SaidMessages
 pub mod FramesMade
 pub mod LastLines

@@ -1,6 +1,6 @@
 -- The life of a client of a lab, in the words of the evidence.
-use Rattle.std.proofs.Common.{◌≡◌, ℕ, ◌<◌, ◌^◌, Bool, true, false, not, List, [], ◌∷◌, map, Option, Some, None, refl, sym, ap, subst, ◌∙◌, arith}
-use Rattle.std.specs.Prelude.{filter, ◌==◌}
+use Rattle.std.proofs.Common.{◌≡◌, ℕ, ◌<◌, ◌^◌, true, false, not, List, [], ◌∷◌, map, None, refl, sym, ap, ◌∙◌, arith}
+use Rattle.std.specs.Prelude.{◌==◌}
 use Rattle.std.specs.List.{AllByRecursion, Contains, list_any}
 use Rattle.std.proofs.lemmas.Bool.Decides.{nat_tests}
 use Rattle.std.proofs.lemmas.List.Elements.{All-contains, All-from_recursion}
@@ -14,13 +14,12 @@ use Rattle.client_model.specs.declared.interfaces.Iface.{Iface}
 use Rattle.client_model.specs.ClientSettings.{ask_of}
 use Rattle.client_model.specs.Clients.{frame_of}
 use Rattle.client_model.specs.HostDuid.{host_duid}
-use Rattle.client_model.specs.IfaceSteps.{IfaceStep}
 use Rattle.client_model.specs.IfaceTurns.{Turn, iface_turned}
 use Rattle.client_model.specs.Messages.{Said}
 use Rattle.client_model.proofs.HostDuids.{host_duid_fits}
-use Rattle.evidence_words.specs.Entries.{Entry, Offer, offers_on}
-use Rattle.evidence_words.specs.IfaceLives.{Opening, Met, site_of, opening_entry, entry_of, shown, opens, iface_after, has_failed, failed_last, IsSaid, IsLived}
-use Rattle.evidence_words.specs.Inputs.{Site, offers_at}
+use Rattle.evidence_words.specs.Entries.{Offer, offers_on}
+use Rattle.evidence_words.specs.IfaceLives.{Opening, Met, site_of, entry_of, shown, iface_after, failed_last, IsSaid, IsLived}
+use Rattle.evidence_words.specs.Inputs.{Site}
 use Rattle.lab_schedule.specs.Schedules.{Schedule}
 use Rattle.lab_laws.specs.LabClients.{AreClients, FitsStart, FitsTurn}
 use Rattle.lab_laws.specs.Lives.{start_in}

@@ -71,7 +71,8 @@ module _ (reply : Reply) (chaddr : Are reply.chaddr.bytes) where
   fields =
       let begin = then (two 2 1 (omega arith) (omega arith)) (two 6 0 (omega arith) (omega arith)) in
       let cookie = then (two 0x63 0x82 (omega arith) (omega arith)) (two 0x53 0x63 (omega arith) (omega arith)) in
-      then (then (then (then (then (then (then begin (quad reply.xid)) (zeros 8)) (quad (given_by reply.kind reply.yiaddr).number)) (zeros 8)) chaddr) (zeros 202)) cookie
+      then (then (then (then (then (then (then begin (quad reply.xid)) (zeros 8)) (quad (given_by reply.kind reply.yiaddr).number)) (zeros 8)) chaddr)
+      (zeros 202)) cookie
 
   says : AllByRecursion IsSmall (reply_options reply)
   says = (

@@ -1,5 +1,5 @@
 -- The messages of DHCPv4 that a client says in a life, each with its moment; and that its open exchange began with the first REQUEST of its number.
-use Rattle.std.proofs.Common.{◌≡◌, ℕ, ◌+◌, ◌≤◌, Bool, true, false, List, [], ◌∷◌, map, Option, Some, None, IfSome, refl, sym, ap, subst, ◌∙◌, arith}
+use Rattle.std.proofs.Common.{◌≡◌, ℕ, ◌+◌, ◌≤◌, true, false, List, [], ◌∷◌, map, Option, Some, None, IfSome, refl, sym, ap, subst, ◌∙◌, arith}
 use Rattle.std.specs.Prelude.{◌==◌}
 use Rattle.std.specs.List.{AllByRecursion}
 use Rattle.std.proofs.lemmas.Bool.{eqb-true}
@@ -106,7 +106,8 @@ begun_so at count said timed none = record {
   first = ((λ is same. omega arith), all_before timed none);
 }
   where
-    all_before : (more : List Timed) → NoRequest said.xid (saids more) → AllByRecursion (NotBefore (record { number = count; exchange = exchange_of at said })) more
+    all_before : (more : List Timed) → NoRequest said.xid (saids more)
+        → AllByRecursion (NotBefore (record { number = count; exchange = exchange_of at said })) more
     all_before [] h = tt
     all_before (t ∷ more) h = ((λ is same. absurd (h.0 is same)), all_before more h.1)
 
@@ -120,7 +121,8 @@ goes_on_so now at said x timed le same so = record {
 }
 
 -- the message before a REQUEST that doesn't go on with the open exchange is no REQUEST of its number
-first_by : (said : Said4) (current : Option Numbered) (timed : List Timed) → LastIsOpen current timed → (IsOpenWith said.xid current → ⊥) → IsFirst said (saids timed)
+first_by : (said : Said4) (current : Option Numbered) (timed : List Timed) → LastIsOpen current timed → (IsOpenWith said.xid current → ⊥)
+    → IsFirst said (saids timed)
 first_by said current [] last other = tt
 first_by said current (t ∷ timed) last other = λ is same. other (subst (λ (xid : ℕ). IsOpenWith xid current) same (last is))
 
@@ -143,7 +145,8 @@ module _ (now at : ℕ) (said : Said4) (timed : List Timed) (le : now ≤ at) (i
       by None e h = begins_so (seen.count + 1) None h (λ bad. bad)
       by (Some x) e h =
           split (said.xid == x.exchange.xid)
-          (λ same. rw same (subst (λ (c : Option Numbered). OpenSo c at New) (sym e) (goes_on_so now at said x timed le (eqb-true said.xid x.exchange.xid same) h)))
+          (λ same. rw same (subst (λ (c : Option Numbered). OpenSo c at New) (sym e)
+          (goes_on_so now at said x timed le (eqb-true said.xid x.exchange.xid same) h)))
           (λ unlike. rw unlike (begins_so (seen.count + 1) (Some x) h (λ bad. apart said.xid x.exchange.xid unlike (sym bad))))
 
 said_so : (now at : ℕ) (said : Said4) (seen : Seen) (timed : List Timed) → now ≤ at → GoWell (said ∷ saids timed) → OpenSo seen.current now timed
@@ -160,7 +163,8 @@ said_so now at said seen timed le well so = by said.kind refl
     by Release e = closed_so at said timed (unlike_kinds Release e (λ bad. absurd cc))
 
 -- what is said in a turn
-pub all_so : (now at : ℕ) (said : List Said) (seen : Seen) (timed : List Timed) → now ≤ at → GoWell (said_onto said (saids timed)) → OpenSo seen.current now timed
+pub all_so : (now at : ℕ) (said : List Said) (seen : Seen) (timed : List Timed) → now ≤ at → GoWell (said_onto said (saids timed))
+    → OpenSo seen.current now timed
     → OpenSo (show at (map message_said said) seen).current at (timed_onto at said timed)
 all_so now at [] seen timed le well so = later_open seen.current now at timed le so
 all_so now at (Dhcp4 say ∷ said) seen timed le well so =

@@ -35,7 +35,8 @@ pub record IsFrameHere (site : Site) (e : Entry) : Type 0 where
 
 -- No other input has an ACK.
 abbrev pub AcksComeInFrames : Type 0
-AcksComeInFrames = (site : Site) (exchange : Exchange4) (e : Entry) (terms : Terms4) → reply_at site exchange e ≡ answers.Ack terms → IsFrameHere site e
+AcksComeInFrames = (site : Site) (exchange : Exchange4) (e : Entry) (terms : Terms4)
+    → reply_at site exchange e ≡ answers.Ack terms → IsFrameHere site e
 
 -- The frames of replies to a hardware address of octets are octets.
 abbrev pub FramesAreOctets : Type 0

@@ -1,5 +1,5 @@
--- That no two clients of a lab hold one leased address at one moment, and that each lease ends no later than the peer's binding (RFC 2131, sections 2.2 and
--- 4.3.1).
+-- That no two clients of a lab hold one leased address at one moment, and that each lease ends no later than the peer's
+-- binding (RFC 2131, sections 2.2 and 4.3.1).
 use Rattle.std.specs.Prelude.{◌≡◌, ℕ, List, [], ◌∷◌, ◌++◌, codes, IfSome}
 use Rattle.std.specs.List.{AllByRecursion}
 use Rattle.net_types.specs.declared.address.Ip4.{Ip4}
@@ -28,26 +28,28 @@ UnlikeIsRead = (managed : List Managed) (schedule : Schedule) (front : List ℕ)
 
 -- ---- addresses
 
--- Of the `lease` lines after one `at` line, no two have one address. Those so far have these.
+-- The `lease` lines below each `at` line have unlike addresses. Those so far have these.
 abbrev pub ApartFrom : (held : List Ip4) → List LabLine → Type 0
 ApartFrom held [] = Unit {0}
 ApartFrom held (At moment ∷ lines) = ApartFrom [] lines
 ApartFrom held (ClientFrame number bytes ∷ lines) = ApartFrom held lines
 ApartFrom held (PeerFrame number bytes ∷ lines) = ApartFrom held lines
-ApartFrom held (Lease iface net ∷ lines) = AllByRecursion (λ other. net.ip ≡ other → ⊥) held × ApartFrom (net.ip ∷ held) lines
+ApartFrom held (Lease iface net ∷ lines) =
+    AllByRecursion (λ other. net.ip ≡ other → ⊥) held × ApartFrom (net.ip ∷ held) lines
 ApartFrom held (XidsUnlike ∷ lines) = ApartFrom held lines
 ApartFrom held (XidsRepeat ∷ lines) = ApartFrom held lines
 
 abbrev pub NoAddressTwice : Type 0
-NoAddressTwice = (managed : List Managed) (schedule : Schedule) → AreClients managed → FitsSchedule schedule → EndsUnlike managed schedule
-    → ApartFrom [] (lab_lines managed schedule)
+NoAddressTwice = (managed : List Managed) (schedule : Schedule) → AreClients managed → FitsSchedule schedule
+    → EndsUnlike managed schedule → ApartFrom [] (lab_lines managed schedule)
 
 -- ---- ends
 
 -- The lease that a client holds ends no later than the binding of its address to that client's hardware address.
 abbrev pub EndsWithBinding : Lab → Iface → Type 0
 EndsWithBinding lab iface =
-    IfSome (held_of iface.dhcp4) (λ lease. IsBoundUntil lease.net.ip iface.managed.spec.mac (lease_end lease.lease lease.first) lab.peer)
+    IfSome (held_of iface.dhcp4)
+    (λ lease. IsBoundUntil lease.net.ip iface.managed.spec.mac (lease_end lease.lease lease.first) lab.peer)
 
 abbrev pub EachEndsWithBinding : Lab → Type 0
 EachEndsWithBinding lab = AllByRecursion (EndsWithBinding lab) lab.client.ifaces
@@ -62,8 +64,10 @@ EndAfterTurn (Hear at frame) lab = Unit {0}
 
 abbrev pub EndAfterTurns : List LabEvent → Lab → Type 0
 EndAfterTurns [] lab = Unit {0}
-EndAfterTurns (event ∷ events) lab = EndAfterTurn event (lab_step event lab).lab × EndAfterTurns events (lab_step event lab).lab
+EndAfterTurns (event ∷ events) lab =
+    EndAfterTurn event (lab_step event lab).lab × EndAfterTurns events (lab_step event lab).lab
 
 abbrev pub LeasesEndWithBindings : Type 0
-LeasesEndWithBindings = (managed : List Managed) (schedule : Schedule) → AreClients managed → FitsSchedule schedule → EndsUnlike managed schedule
+LeasesEndWithBindings = (managed : List Managed) (schedule : Schedule) → AreClients managed → FitsSchedule schedule
+    → EndsUnlike managed schedule
     → let first = (lab_opened managed schedule).lab in EachEndsWithBinding first × EndAfterTurns schedule.events first

@@ -1,5 +1,5 @@
 -- The clients of a lab, and the turns that they get there.
-use Rattle.std.specs.Prelude.{◌≡◌, ℕ, ◌<◌, ◌^◌, List, None, AllPairs}
+use Rattle.std.specs.Prelude.{◌≡◌, ◌<◌, ◌^◌, List, None, AllPairs}
 use Rattle.net_types.specs.Marks.{AreBytes}
 use Rattle.settings.specs.declared.interfaces.Managed.{Managed}
 use Rattle.settings.specs.Fitting.{AreManaged}

@@ -3,6 +3,7 @@ pub mod Numbers
 pub mod Binding
 pub mod Lives
 pub mod LabClients
+pub mod Reading
 pub mod HeldInLabs
 pub mod HeardReplies
 pub mod Made
