@@ -20,3 +20,5 @@ pub mod SaidFrames
 pub mod SaidRead
 pub mod SaidExchanges
 pub mod SaidMessages
+pub mod FramesMade
+pub mod LastLines

@@ -1,8 +1,9 @@
 -- That no two clients of a lab hold one leased address at one moment, and that each lease ends no later than the peer's
 -- binding (RFC 2131, sections 2.2 and 4.3.1).
-use Rattle.std.specs.Prelude.{◌≡◌, List, [], ◌∷◌, ◌++◌, IfSome}
+use Rattle.std.specs.Prelude.{◌≡◌, ℕ, List, [], ◌∷◌, ◌++◌, codes, IfSome}
 use Rattle.std.specs.List.{AllByRecursion}
 use Rattle.net_types.specs.declared.address.Ip4.{Ip4}
+use Rattle.net_types.specs.TextLines.{ended}
 use Rattle.v4_client.specs.Clients.{held_of}
 use Rattle.settings.specs.declared.interfaces.Managed.{Managed}
 use Rattle.client_model.specs.declared.interfaces.Iface.{Iface}
@@ -11,7 +12,7 @@ use Rattle.lab_peer.specs.Granting.{IsBoundUntil}
 use Rattle.lab_schedule.specs.declared.event.LabEvent.{LabEvent}
 use Rattle.lab_schedule.specs.declared.event.LabEvent.TheVariants.{Tick, Carrier, Release, Give, Hear}
 use Rattle.lab_schedule.specs.Schedules.{FitsSchedule, Schedule}
-use Rattle.lab_model.specs.LabLines.{LabLine, At, ClientFrame, PeerFrame, Lease, XidsUnlike, XidsRepeat, lab_lines}
+use Rattle.lab_model.specs.LabLines.{LabLine, At, ClientFrame, PeerFrame, Lease, XidsUnlike, XidsRepeat, lab_lines, lab_text}
 use Rattle.lab_model.specs.Labs.{Lab, lab_opened, lab_step}
 use Rattle.lab_laws.specs.LabClients.{AreClients}
 
@@ -19,6 +20,11 @@ use Rattle.lab_laws.specs.LabClients.{AreClients}
 pub record EndsUnlike (managed : List Managed) (schedule : Schedule) : Type 0 where
   pub front : List LabLine
   pub is : lab_lines managed schedule ≡ front ++ XidsUnlike ∷ []
+
+-- so where the bytes of the text do
+abbrev pub UnlikeIsRead : Type 0
+UnlikeIsRead = (managed : List Managed) (schedule : Schedule) (front : List ℕ)
+    → lab_text managed schedule ≡ front ++ ended (codes "xids unlike") → EndsUnlike managed schedule
 
 -- ---- addresses
 

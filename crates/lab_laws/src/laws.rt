@@ -1,9 +1,10 @@
 //! What is true of labs. These functions do nothing: their contracts are the laws.
 
 ghost use Rattle.lab_laws.specs.Binding.{NoTwoAreGranted, StaysBoundInLab};
-ghost use Rattle.lab_laws.specs.HeldInLabs.{LeasesEndWithBindings, NoAddressTwice};
+ghost use Rattle.lab_laws.specs.HeldInLabs.{LeasesEndWithBindings, NoAddressTwice, UnlikeIsRead};
 ghost use Rattle.lab_laws.specs.HeardReplies.{AcksAreReplies, AcksComeInFrames, FramesAreOctets};
 ghost use Rattle.lab_laws.specs.Lives.{ClientsLiveApart};
+ghost use Rattle.lab_laws.specs.Made.{FramesAreMade, GrantsAreApart, GrantsStand};
 ghost use Rattle.lab_laws.specs.Messages.{MessagesFollow};
 ghost use Rattle.lab_laws.specs.Numbers.{RequestsAreFirst};
 ghost use Rattle.lab_laws.specs.Reading.{EachMessageIsRead, NumbersAreUnlike};
@@ -53,6 +54,14 @@ pub fn acks_are_heard()
     ensures octets { FramesAreOctets }
 {}
 
+/// Law: each frame of the peer is made by a line that came, and is that of what the peer says there. The address of an ACK stays bound to
+/// its client until the lease is over, so that two ACKs of one address whose leases aren't over are to one client.
+pub fn frames_are_made()
+    ensures made { FramesAreMade }
+    ensures stand { GrantsStand }
+    ensures apart { GrantsAreApart }
+{}
+
 /// Law: where the text of a lab ends with `xids unlike`, no two clients hold one leased address at one moment: the
 /// `lease` lines below each `at` line have unlike addresses (RFC 2131, section 2.2).
 pub fn no_address_is_held_twice()
@@ -63,4 +72,9 @@ pub fn no_address_is_held_twice()
 /// its address to that client (RFC 2131, section 4.3.1).
 pub fn leases_end_with_their_bindings()
     ensures { LeasesEndWithBindings }
+{}
+
+/// Law: where the bytes of the text of a lab end with the line `xids unlike`, that is its last line.
+pub fn last_line_is_read()
+    ensures { UnlikeIsRead }
 {}
