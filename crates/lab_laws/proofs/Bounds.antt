@@ -17,7 +17,7 @@ use Rattle.lab_model.specs.Labs.{Lab, lab_after, lab_step, numbered, peer_heard,
 use Rattle.lab_laws.specs.Binding.{StaysBoundInLab, IsGranted, granted_until, NoTwoAreGranted}
 
 -- an end that has come at a moment has come at a later one
-over_later : (end : Option ℕ) (at now : ℕ) → at ≤ now → is_over end at ≡ true → is_over end now ≡ true
+pub over_later : (end : Option ℕ) (at now : ℕ) → at ≤ now → is_over end at ≡ true → is_over end now ≡ true
 over_later None at now le over = absurd cc
 over_later (Some end) at now le over = grind (arith, nat_tests, le)
 
@@ -25,19 +25,19 @@ rises : (a b : ℕ) → a ≤ max a b
 rises a b = grind arith
 
 module _ (addr : Ip4) (mac : Mac) (end : Option ℕ) where
-  abbrev Stands : Lab → Type 0
+  abbrev pub Stands : Lab → Type 0
   Stands lab = (is_over end lab.clock ≡ true) ⊎ IsBoundUntil addr mac end lab.peer
 
   -- the clock doesn't go back, and what is bound stays so
-  record Goes (before after : Lab) : Type 0 where
-    clock : before.clock ≤ after.clock
-    stays : IsBoundUntil addr mac end before.peer → Stands after
+  pub record Goes (before after : Lab) : Type 0 where
+    pub clock : before.clock ≤ after.clock
+    pub stays : IsBoundUntil addr mac end before.peer → Stands after
 
   heard : (now : ℕ) (frame : Option Sending) (lab : Lab) → lab.clock ≤ now → Goes lab (peer_heard now frame lab).lab
   heard now None lab le = record { clock = le; stays = λ bound. inr bound }
   heard now (Some sending) lab le = record { clock = le; stays = λ bound. stays_bound addr mac end now sending.bytes lab.peer bound }
 
-  goes : (event : LabEvent) (lab : Lab) → Goes lab (lab_step event lab).lab
+  pub goes : (event : LabEvent) (lab : Lab) → Goes lab (lab_step event lab).lab
   goes (Tick at salt) lab = record { clock = rises lab.clock (moment_of at); stays = λ bound. inr bound }
   goes (Carrier at salt iface up) lab = record { clock = rises lab.clock (moment_of at); stays = λ bound. inr bound }
   goes (Release at salt iface) lab = record { clock = rises lab.clock (moment_of at); stays = λ bound. inr bound }
@@ -48,7 +48,7 @@ module _ (addr : Ip4) (mac : Mac) (end : Option ℕ) where
       by (Some bytes) = record { clock = rises lab.clock (moment_of at); stays = λ bound. inr bound }
   goes (Hear at frame) lab = heard (raised at lab) (numbered frame lab.sent) lab (rises lab.clock (moment_of at))
 
-  stands_on : (before after : Lab) → Goes before after → Stands before → Stands after
+  pub stands_on : (before after : Lab) → Goes before after → Stands before → Stands after
   stands_on before after g stands = elim stands [
     | inl over ↦ inl (over_later end before.clock after.clock g.clock over)
     | inr bound ↦ g.stays bound
@@ -66,10 +66,11 @@ stays_bound_in_lab addr mac end events lab bound = all_stand addr mac end events
 granted_here : (lab : Lab) (at frame : ℕ) (reply : Reply) → IsGranted lab at frame reply
     → IsBoundUntil reply.yiaddr reply.chaddr (granted_until lab at) (lab_step (Hear at frame) lab).lab.peer
 granted_here lab at frame reply g =
-    subst (λ (there : Option Sending). IsBoundUntil reply.yiaddr reply.chaddr (granted_until lab at) (peer_heard (raised at lab) there lab).lab.peer) (sym g.there)
+    subst (λ (there : Option Sending). IsBoundUntil reply.yiaddr reply.chaddr (granted_until lab at) (peer_heard (raised at lab) there lab).lab.peer)
+    (sym g.there)
     (acks_bind (raised at lab) g.sending.bytes lab.peer reply g.says g.is_ack)
 
-one_binding : (addr : Ip4) (a b : Mac) (end other : Option ℕ) (peer : PeerState) → IsBoundUntil addr a end peer → IsBoundUntil addr b other peer → a ≡ b
+pub one_binding : (addr : Ip4) (a b : Mac) (end other : Option ℕ) (peer : PeerState) → IsBoundUntil addr a end peer → IsBoundUntil addr b other peer → a ≡ b
 one_binding addr a b end other peer h i = sym h.of_client ∙ ap (λ (bound : Bound4). bound.mac) (one_is h.bound i.bound (sym h.is ∙ i.is)) ∙ i.of_client
   where
     one_is : (x y : Bound4) → Some x ≡ Some y → x ≡ y

@@ -23,7 +23,7 @@ or_first : (a b : Bool) → (a || b) ≡ false → (a ≡ false) × (b ≡ false
 or_first false b h = (refl, h)
 or_first true b h = absurd cc
 
-unlike_rest : (said : Said4) (past : List Said4) → are_unlike (numbers (said ∷ past)) ≡ true → are_unlike (numbers past) ≡ true
+pub unlike_rest : (said : Said4) (past : List Said4) → are_unlike (numbers (said ∷ past)) ≡ true → are_unlike (numbers past) ≡ true
 unlike_rest said past h = by (begins_one said past) h
   where
     by : (b : Bool) → are_unlike (if b then said.xid ∷ numbers past else numbers past) ≡ true → are_unlike (numbers past) ≡ true

@@ -2,3 +2,7 @@ pub mod Messages
 pub mod Numbers
 pub mod Binding
 pub mod Lives
+pub mod LabClients
+pub mod Reading
+pub mod HeldInLabs
+pub mod HeardReplies

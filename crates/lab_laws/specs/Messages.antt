@@ -1,4 +1,5 @@
--- The messages of DHCPv4 that an interface says in a life, and which of them may follow which with one transaction number (RFC 2131, section 4.4).
+-- The messages of DHCPv4 that an interface says in a life, and which of them may follow which with one transaction
+-- number (RFC 2131, section 4.4).
 use Rattle.std.specs.Prelude.{◌≡◌, ℕ, ◌⊎◌, List, [], ◌∷◌}
 use Rattle.net_types.specs.declared.address.Mac.{Mac}
 use Rattle.v4_message.specs.declared.writing.Kind4.{Kind4}
@@ -10,7 +11,8 @@ use Rattle.client_model.specs.Interfaces.{opened}
 use Rattle.client_model.specs.KeptLeases.{Beginning}
 use Rattle.client_model.specs.Messages.{Said, Arp, Dhcp4, Dhcp6}
 
--- how an interface begins: its beginning, the hardware addresses of all interfaces, which have carrier, the moment and the salt
+-- how an interface begins: its beginning, the hardware addresses of all interfaces, which have carrier, the moment
+-- and the salt
 pub record Start : Type 0 where
   pub own : List Mac
   pub beginning : Beginning
@@ -35,8 +37,8 @@ abbrev pub messages_after : Start → List Turn → List Said4
 messages_after start [] = said_onto (step_after start []).said []
 messages_after start (turn ∷ turns) = said_onto (step_after start (turn ∷ turns)).said (messages_after start turns)
 
--- A message may come after one of this kind with the same number: a DISCOVER after a DISCOVER alone, and a REQUEST after a DISCOVER or
--- a REQUEST.
+-- A message may come after one of this kind with the same number: a DISCOVER after a DISCOVER alone, and a REQUEST
+-- after a DISCOVER or a REQUEST.
 abbrev pub MayCome : (kind last : Kind4) → Type 0
 MayCome Discover last = last ≡ Discover
 MayCome Request last = (last ≡ Discover) ⊎ (last ≡ Request)

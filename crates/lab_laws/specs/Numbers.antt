@@ -1,4 +1,5 @@
--- The exchanges of one client by their transaction numbers (RFC 2131, section 2, xid), as the last line of a lab's text counts them.
+-- The exchanges of one client by their transaction numbers (RFC 2131, section 2, xid), as the last line of a lab's text
+-- counts them.
 use Rattle.std.specs.Prelude.{◌≡◌, ℕ, Bool, true, not, ◌==◌, ◌&&◌, ◌||◌, List, [], ◌∷◌, Option, None, if◌then◌else◌}
 use Rattle.std.specs.List.{list_any}
 use Rattle.v4_message.specs.declared.writing.Kind4.TheVariants.{Request}
@@ -37,5 +38,5 @@ IsFirst said (last ∷ past) = last.kind ≡ Request → last.xid ≡ said.xid �
 
 -- Where no number comes again, a REQUEST that doesn't go on with another one is the first with its number.
 abbrev pub RequestsAreFirst : Type 0
-RequestsAreFirst = (said : Said4) (past : List Said4) → said.kind ≡ Request → FollowEach (said ∷ past) → are_unlike (numbers (said ∷ past)) ≡ true
-    → IsFirst said past → NoRequest said.xid past
+RequestsAreFirst = (said : Said4) (past : List Said4) → said.kind ≡ Request → FollowEach (said ∷ past)
+    → are_unlike (numbers (said ∷ past)) ≡ true → IsFirst said past → NoRequest said.xid past
