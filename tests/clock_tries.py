@@ -95,7 +95,7 @@ class Suspended(Host):
 
 
 def set_uptime(net, asleep):
-    """What the host has been up, of which it was suspended for so many seconds. The file stays, for the mount is of it."""
+    """How long the host has been up, so many seconds of it suspended. The file stays, for the mount is of it."""
     with open(net.path("uptime"), "w", encoding="ascii") as file:
         file.write(f"{time.monotonic() + asleep:.2f} 0.00\n")
 
@@ -160,7 +160,8 @@ class Waiting:
         peer = Peer(seconds)
         files = net.path(f"files-{seconds}-{number}")
         os.mkdir(files)
-        words = [net.program, "live", str(peer.port), str(peer.socket.getsockname()[1]), files, "/bin/true", f"c0={MAC}"]
+        ports = [str(peer.port), str(peer.socket.getsockname()[1])]
+        words = [net.program, "live", *ports, files, "/bin/true", f"c0={MAC}"]
         write_lines(net.path("conf"), [*QUICK, "script /dev/null"])
         with open(net.path("conf"), "rb") as lines, open(self.log, "wb") as log:
             self.child = subprocess.Popen(words, stdin=lines, stdout=log, stderr=subprocess.DEVNULL)
@@ -208,7 +209,8 @@ def waits(net, score):
             expect("there is none", len(late) >= DAEMONS)
             # a busy machine may be late for any of them
             expect(f"late by {sorted(late)} ms", 0 <= min(late) <= LATEST_MS)
-        print(f"         {len(late)} waits, late by {statistics.median(late):.0f} ms, at most {max(late)} ms", flush=True)
+        median = statistics.median(late)
+        print(f"         {len(late)} waits, late by {median:.0f} ms, at most {max(late)} ms", flush=True)
 
 
 def hooks(net, score):

@@ -1,4 +1,4 @@
-"""Figures of the daemon with the link, beside those of dhcpcd and udhcpc: they say something on an idle machine alone."""
+"""Figures of the daemon with the link, beside those of dhcpcd and udhcpc. They count on an idle machine alone."""
 
 import datetime
 import os
@@ -11,14 +11,13 @@ import subprocess
 import time
 
 from hosts import CLIENT, END_SECONDS, LINK, ROUTER
-from hosts import Apart, Failure, Host, Server, expect, read, run, wait_for, write_lines
-from link_tries import QUICK, Dhcpd, await_lease
+from hosts import Failure, Server, expect, read, run, wait_for, write_lines
+from link_tries import QUICK, Dhcpd
 
 RUNS = 10  # of each client whose time is taken
 IDLE_SECONDS = 100  # in which wakeups are counted
 SETTLED_SECONDS = 12  # after which a client is at rest
 ROUTES = 110
-ROUTES_MS = 200
 
 UDHCPC = """#!/bin/sh
 [ "$1" != bound ] || ip address add "$ip/$mask" dev "$interface"
@@ -126,12 +125,12 @@ def wakeups(numbers):
 
 
 def sizes(net, score):
-    """Memory and wakeups of a client that is at rest, with a lease of an hour."""
+    """Memory and wakeups at rest of this client and of dhcpcd, with a lease of an hour."""
     if not Dhcpd.is_there():
         score.skip("a client at rest", "no dhcpd")
         return
     Dhcpd(net, 3600)
-    for name, command in clients(net).items():
+    for name, command in list(clients(net).items())[:2]:
         client = Running(net, command)
         try:
             with score.step(f"{name} is at rest"):
@@ -144,8 +143,8 @@ def sizes(net, score):
                 expect("it isn't the same processes", numbers == client.numbers())
             whole = sum(sum_of(r"^VmRSS:\s*(\d+)", number, "status") for number in numbers)
             shared = sum(sum_of(r"^Pss:\s*(\d+)", number, "smaps_rollup") for number in numbers)
-            line = f"{len(numbers)} processes, {whole} KiB, with what is shared counted once {shared}; {minutes:.1f} wakeups a minute"
-            print(f"         {line}", flush=True)
+            memory = f"{len(numbers)} processes, {whole} KiB, with what is shared counted once {shared}"
+            print(f"         {memory}; {minutes:.1f} wakeups a minute", flush=True)
         finally:
             client.end()
 
@@ -174,7 +173,7 @@ def routes(net, score):
             stamps = [re.match(r"\[(\S+)\] (?:\d+: c0 +inet 10\.77|198\.18)", line) for line in lines]
             moments = [seconds_of(found.group(1)) for found in stamps if found][: ROUTES + 1]
             took.append(1000 * (moments[-1] - moments[0]))
-    print(f"         {statistics.median(took):.0f} ms, {min(took):.0f} to {max(took):.0f}; {ROUTES_MS} are asked for", flush=True)
+    print(f"         {statistics.median(took):.0f} ms, {min(took):.0f} to {max(took):.0f}", flush=True)
 
 
-FIGURE_TRIES = [times, sizes, routes]
+FIGURE_TRIES = [times, routes, sizes]

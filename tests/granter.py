@@ -3,9 +3,9 @@
 
     tests/granter.py INTERFACE [tag=HEX] [seconds=N] [valid=N]
 
-Grants each client one address of each family, of DHCPv4 for so many seconds (600) and of DHCPv6 with so many as valid time
-(600). Its frames have the bytes of `tag` between addresses and kind, as a tag of a VLAN. A line a message says when it came, by
-the steady clock, and which it is. It is ended by a signal.
+Grants each client one address of each family, of DHCPv4 for so many seconds (600) and of DHCPv6 with so many as valid
+time (600). Its frames have the bytes of `tag` between addresses and kind, as a tag of a VLAN. A line a message says when it
+came, by the steady clock, and which it is. It is ended by a signal.
 """
 
 import socket

@@ -17,6 +17,7 @@ from restart_tries import DEFAULT_ROUTE, address_row, last_life, restart
 QUICK = ["nodelay", "noarp", "noipv4ll"]
 SLACK = 5  # seconds that the kernel keeps an address longer than the lease is
 OTHERS = "198.51.100.7/24"
+REJECTS = "route 1 2001:db8:100::/56 reject metric 1001"
 
 
 def is_leased(net, family=4):
@@ -91,9 +92,15 @@ def lifetimes(net, score):
     await_lease(net)
     with score.step("with all processes killed the kernel ends the address by itself"):
         wait_for("a lifetime", lambda: left(net, 4))
+        script = os.path.join(host.folder, "host")
+        run("ip", "netns", "exec", CLIENT, script, "host-add", *REJECTS.split())
         host.crash()
         server.end()
         wait_for("its end", lambda: not is_leased(net), seconds=10 + SLACK + 2)
+    with score.step("a route that rejects, which has no lifetime in the kernel, goes with the next run"):
+        expect("it is gone", any(route.startswith("unreachable") for route in net.routes()))
+        host.start()
+        wait_for("its end", lambda: not net.routes())
 
 
 def deprecated(net, score):
@@ -567,18 +574,19 @@ def resolver(net, score):
     """Whom the host asks for names."""
     Server(net)
     told_of = net.path("told")
-    words = [LINK, "--folder", net.path("host"), "--configuration", net.path("conf"), "--program", net.program, "--resolv"]
+    words = ["--folder", net.path("host"), "--configuration", net.path("conf"), "--program", net.program, "--resolv"]
     write_lines(net.path("conf"), QUICK)
     quiet = {"stdout": subprocess.DEVNULL, "stderr": subprocess.DEVNULL}
     resolved = "mkdir -p /run/systemd/resolve && exec"
+    without = {net.path("none"): "/usr/sbin"}
     ways = {
         "resolvconf": ({stand_in(net, "resolvconf"): "/usr/sbin"}, "-a dhcpcd-link", "-d dhcpcd-link"),
-        "resolvectl": ({stand_in(net, "resolvectl"): "/usr/bin", net.path("none"): "/usr/sbin"}, f"dns c0 {ROUTER}", "revert c0"),
+        "resolvectl": ({stand_in(net, "resolvectl"): "/usr/bin", **without}, f"dns c0 {ROUTER}", "revert c0"),
     }
     os.mkdir(net.path("none"))
     for name, (places, first, last) in ways.items():
         write_lines(told_of, [])
-        apart = hidden(net, places, "sh", "-c", f'mount -t tmpfs none /run && {resolved} "$@"', "sh", *words, "c0")
+        apart = hidden(net, places, "sh", "-c", f'mount -t tmpfs none /run && {resolved} "$@"', "sh", LINK, *words, "c0")
         child = net.start(CLIENT, apart, **quiet)
         with score.step(f"{name} is told of the servers, and of their end"):
             wait_for("its words", lambda: f"{name} {first}\n" in read(told_of))

@@ -1,4 +1,4 @@
-"""Servers that dnsmasq doesn't stand for: Kea, one whose frames have a priority tag, and one of IPv6 that grants no second."""
+"""Servers that dnsmasq doesn't stand for: Kea, one whose frames have a tag, and one of IPv6 that grants no second."""
 
 import os
 import re
@@ -67,7 +67,8 @@ KEA = """
     "subnet6": [ { "id": 1, "subnet": "2001:db8:77::/64", "interface": "s0",
         "pools": [ { "pool": "2001:db8:77::100-2001:db8:77::120" } ],
         "pd-pools": [ { "prefix": "2001:db8:100::", "prefix-len": 40, "delegated-len": 56 } ] } ],
-    "loggers": [ { "name": "kea-dhcp6", "severity": "DEBUG", "debuglevel": 55, "output_options": [ { "output": "stdout" } ] } ]
+    "loggers": [ { "name": "kea-dhcp6", "severity": "DEBUG", "debuglevel": 55,
+        "output_options": [ { "output": "stdout" } ] } ]
 } }
 """
 
@@ -108,8 +109,7 @@ def kea(net, score):
     with score.step("a stop gives both back"):
         host.stop()
         expect("rows stay", not net.leased(6) and not shared() and not net.routes())
-        said = wait_for("the release", lambda: re.findall(r"received RELEASE|DHCP6_PACKET_RECEIVED.*RELEASE", read(net.path("kea"))))
-        expect(f"{said}", said)
+        wait_for("the release", lambda: re.search(r"DHCP6_PACKET_RECEIVED.*RELEASE", read(net.path("kea"))))
     server.terminate()
 
 

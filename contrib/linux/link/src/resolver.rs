@@ -1,4 +1,4 @@
-//! Whom the host asks for names: resolvconf(8) or resolvectl(1) is told where it is there, or else /etc/resolv.conf linked.
+//! Whom the host asks for names: resolvconf(8) or resolvectl(1) is told where it is there, else /etc/resolv.conf linked.
 
 use crate::folder;
 use crate::say;
@@ -124,8 +124,8 @@ fn is_interface(text: &str) -> bool {
     (1..16).contains(&text.len()) && !text.starts_with('-') && text.chars().all(is_plain)
 }
 
-/// What a file of name servers says: addresses, and domains to search. All else in it, as a program without rights may have
-/// written it, is passed over.
+/// What a file of name servers says: addresses, and domains to search. All else in it is passed over, since a program
+/// without rights writes it.
 #[derive(Debug, Default, PartialEq, Eq)]
 struct Names {
     servers: Vec<String>,
