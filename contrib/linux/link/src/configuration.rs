@@ -132,12 +132,9 @@ fn findings(file: &Path, bytes: &[u8], passed: bool, noticed: &str, refused: &st
     let mut found = form(file, bytes);
     for line in noticed.lines() {
         let words: Vec<&str> = line.splitn(3, ' ').collect();
-        match words[..] {
-            ["notice", number, word] => {
-                let number = number.parse().unwrap_or(0);
-                found.push(of_line(number, &format!("`{word}` does nothing"), false));
-            }
-            _ => {}
+        if let ["notice", number, word] = words[..] {
+            let number = number.parse().unwrap_or(0);
+            found.push(of_line(number, &format!("`{word}` does nothing"), false));
         }
     }
     let told = refused.trim_end();

@@ -63,7 +63,7 @@ impl Resolver {
         let said = read(&self.file).unwrap_or_default();
         match self.way {
             Way::Resolvconf(path) => resolvconf(path, &said).run(),
-            Way::Resolvectl => resolvectl(&self.interface, &said).iter().fold(true, |well, job| job.run() && well),
+            Way::Resolvectl => resolvectl(&self.interface, &said).iter().filter(|job| !job.run()).count() == 0,
             Way::Link => self.link(),
         }
     }
