@@ -17,6 +17,7 @@ from restart_tries import DEFAULT_ROUTE, address_row, last_life, restart
 QUICK = ["nodelay", "noarp", "noipv4ll"]
 SLACK = 5  # seconds that the kernel keeps an address longer than the lease is
 OTHERS = "198.51.100.7/24"
+REJECTS = "route 1 2001:db8:100::/56 reject metric 1001"
 
 
 def is_leased(net, family=4):
@@ -91,9 +92,15 @@ def lifetimes(net, score):
     await_lease(net)
     with score.step("with all processes killed the kernel ends the address by itself"):
         wait_for("a lifetime", lambda: left(net, 4))
+        script = os.path.join(host.folder, "host")
+        run("ip", "netns", "exec", CLIENT, script, "host-add", *REJECTS.split())
         host.crash()
         server.end()
         wait_for("its end", lambda: not is_leased(net), seconds=10 + SLACK + 2)
+    with score.step("a route that rejects, which has no lifetime in the kernel, goes with the next run"):
+        expect("it is gone", any(route.startswith("unreachable") for route in net.routes()))
+        host.start()
+        wait_for("its end", lambda: not net.routes())
 
 
 def deprecated(net, score):
@@ -475,6 +482,10 @@ class Dhcpd:
         words = ["-f", "-4", "-cf", net.path("dhcpd.conf"), "-lf", net.path("dhcpd.leases"), "-pf", net.path("pid"), "s0"]
         self.child = net.start(SERVER, ["dhcpd", *words], stderr=subprocess.DEVNULL)
 
+    @staticmethod
+    def is_there():
+        return shutil.which("dhcpd")
+
     def end(self):
         self.child.kill()
         self.child.wait()
@@ -482,7 +493,7 @@ class Dhcpd:
 
 def many(net, score):
     """110 classless routes of ISC's server."""
-    if not shutil.which("dhcpd"):
+    if not Dhcpd.is_there():
         score.skip("110 routes", "no dhcpd")
         return
     routes = [f"24, 198, 18, {n}, {ROUTER.replace('.', ', ')}" for n in range(110)]
@@ -501,7 +512,7 @@ def many(net, score):
 
 def short(net, score):
     """Leases of ten seconds, of ISC's server."""
-    if not shutil.which("dhcpd"):
+    if not Dhcpd.is_there():
         score.skip("leases of ten seconds", "no dhcpd")
         return
     server = Dhcpd(net, 10)
@@ -530,24 +541,96 @@ def rogue(net, score):
         expect(f"there is {left_there}", not left_there)
 
 
+# What stands for a program of the host: it writes its words down, and what it reads.
+STAND_IN = ["#!/bin/sh", 'echo "${0##*/} $@" >>TOLD', "cat >>TOLD"]
+
+
+def stand_in(net, name):
+    """A folder with that program alone."""
+    folder = net.path(f"with-{name}")
+    os.makedirs(folder, exist_ok=True)
+    write_lines(os.path.join(folder, name), [line.replace("TOLD", net.path("told")) for line in STAND_IN])
+    os.chmod(os.path.join(folder, name), 0o755)
+    return folder
+
+
+def hidden(net, places, *words):
+    """Words run in a mount namespace of their own, where folders are in others' places, so that this host isn't told.
+
+    /usr/bin keeps its programs beside those of the folder."""
+    mounts = []
+    for folder, place in places.items():
+        if place == "/usr/bin":
+            old = net.path("usr-bin")
+            os.makedirs(old, exist_ok=True)
+            for name in set(os.listdir(place)) - set(os.listdir(folder)):
+                os.symlink(os.path.join(old, name), os.path.join(folder, name))
+            mounts.append(f"mount --bind /usr/bin {old}")
+        mounts.append(f"mount --bind {folder} {place}")
+    return ["unshare", "--mount", "sh", "-c", " && ".join([*mounts, 'exec "$@"']), "sh", *words]
+
+
 def resolver(net, score):
     """Whom the host asks for names."""
     Server(net)
     told_of = net.path("told")
-    script = ["#!/bin/sh", f'echo "$@" >>{told_of}', f'[ "$1" = -d ] || cat >>{told_of}']
-    write_lines(net.path("resolvconf"), script)
-    os.chmod(net.path("resolvconf"), 0o755)
-    words = [LINK, "--folder", net.path("host"), "--configuration", net.path("conf"), "--program", net.program, "--resolv"]
+    words = ["--folder", net.path("host"), "--configuration", net.path("conf"), "--program", net.program, "--resolv"]
     write_lines(net.path("conf"), QUICK)
-    # in a mount namespace of its own, so that this host's own isn't told
-    mount = f"mount -t tmpfs none /usr/sbin && cp {net.path('resolvconf')} /usr/sbin && exec \"$@\""
     quiet = {"stdout": subprocess.DEVNULL, "stderr": subprocess.DEVNULL}
-    child = net.start(CLIENT, ["unshare", "--mount", "sh", "-c", mount, "sh", *words, "c0"], **quiet)
-    with score.step("resolvconf is told of the servers, and of their end"):
-        wait_for("its words", lambda: "-a dhcpcd-link\n" in read(told_of) and f"nameserver {ROUTER}\n" in read(told_of))
-        child.terminate()
-        expect(f"status {child.wait(10)}", child.returncode == 0)
-        wait_for("its words", lambda: read(told_of).endswith("-d dhcpcd-link\n"), seconds=2)
+    resolved = "mkdir -p /run/systemd/resolve && exec"
+    without = {net.path("none"): "/usr/sbin"}
+    ways = {
+        "resolvconf": ({stand_in(net, "resolvconf"): "/usr/sbin"}, "-a dhcpcd-link", "-d dhcpcd-link"),
+        "resolvectl": ({stand_in(net, "resolvectl"): "/usr/bin", **without}, f"dns c0 {ROUTER}", "revert c0"),
+    }
+    os.mkdir(net.path("none"))
+    for name, (places, first, last) in ways.items():
+        write_lines(told_of, [])
+        apart = hidden(net, places, "sh", "-c", f'mount -t tmpfs none /run && {resolved} "$@"', "sh", LINK, *words, "c0")
+        child = net.start(CLIENT, apart, **quiet)
+        with score.step(f"{name} is told of the servers, and of their end"):
+            wait_for("its words", lambda: f"{name} {first}\n" in read(told_of))
+            if name == "resolvconf":
+                wait_for("what it read", lambda: f"nameserver {ROUTER}\n" in read(told_of))
+            else:
+                wait_for("a domain", lambda: f"{name} domain c0 example.org\n" in read(told_of))
+            child.terminate()
+            expect(f"status {child.wait(10)}", child.returncode == 0)
+            wait_for("its words", lambda: read(told_of).endswith(f"{name} {last}\n"), seconds=2)
 
 
-LINK_TRIES = [many, short, rogue, resolver, lifetimes, deprecated, others, rates, flood, tagged, plugged, told, service, rights, mtu]
+def resolved_once(net, score):
+    """The word `resolv`, by which a unit of root's tells the host."""
+    files = net.path("run/files")
+    os.makedirs(files)
+    write_lines(net.path("run/interfaces"), ["c0"])
+    told_of, etc = net.path("told"), net.path("etc")
+    os.mkdir(etc)
+    os.mkdir(net.path("none"))
+
+    def tell(places):
+        write_lines(told_of, [])
+        run("ip", "netns", "exec", CLIENT, *hidden(net, places, LINK, "resolv", net.path("run")))
+        return read(told_of)
+
+    resolvconf = {stand_in(net, "resolvconf"): "/usr/sbin"}
+    with score.step("resolvconf is told of what stands there, and of nothing else"):
+        write_lines(os.path.join(files, "resolv.conf"), [f"nameserver {ROUTER}", "options $(id)", "nameserver -x"])
+        said_to = tell(resolvconf)
+        expect(said_to, said_to == f"resolvconf -a dhcpcd-link\nnameserver {ROUTER}\n")
+    with score.step("a link in its place isn't followed"):
+        os.rename(os.path.join(files, "resolv.conf"), os.path.join(files, "other"))
+        os.symlink("other", os.path.join(files, "resolv.conf"))
+        said_to = tell(resolvconf)
+        expect(said_to, said_to == "resolvconf -d dhcpcd-link\n")
+    with score.step("without either /etc/resolv.conf is made a link where there is none, and left else"):
+        places = {etc: "/etc", net.path("none"): "/usr/sbin"}
+        tell(places)
+        expect("there is no link", os.readlink(os.path.join(etc, "resolv.conf")) == os.path.join(files, "resolv.conf"))
+        os.remove(os.path.join(etc, "resolv.conf"))
+        write_lines(os.path.join(etc, "resolv.conf"), ["nameserver 192.0.2.1"])
+        tell(places)
+        expect("it is another one", read(os.path.join(etc, "resolv.conf")) == "nameserver 192.0.2.1\n")
+
+
+LINK_TRIES = [many, short, rogue, resolver, resolved_once, lifetimes, deprecated, others, rates, flood, tagged, plugged, told, service, rights, mtu]

@@ -1,13 +1,15 @@
 //! What this program reads of the configuration: which interfaces it names, and `persistent`; and what the daemon finds
 //! wrong with it, told with the line's text.
 
+use std::fs::File;
+use std::io;
 use std::path::Path;
-use std::process::{Command, Stdio};
+use std::process::{Child, Command, Stdio};
 
 const BYTE_ORDER_MARK: &[u8] = b"\xef\xbb\xbf";
 /// The script of a configuration without hooks.
 const NO_HOOKS: &str = "/dev/null";
-/// The word that this program minds and the daemon doesn't know.
+/// The word that both programs mind.
 const PERSISTENT: &str = "persistent";
 
 /// What a configuration says here.
@@ -102,16 +104,22 @@ pub struct Finding {
     pub text: String,
 }
 
-/// What the daemon's own check finds, and what of the file's form an editor hides.
-pub fn check(program: &Path, file: &Path, bytes: &[u8]) -> std::io::Result<Vec<Finding>> {
-    let output = Command::new(program)
-        .arg("check")
-        .stdin(std::fs::File::open(file)?)
-        .stdout(Stdio::piped())
-        .stderr(Stdio::piped())
-        .output()?;
-    let text = |bytes: &[u8]| String::from_utf8_lossy(bytes).into_owned();
-    Ok(findings(file, bytes, output.status.success(), &text(&output.stdout), &text(&output.stderr)))
+/// The daemon's own check of a file, which goes on beside this program.
+pub struct Check(Child);
+
+impl Check {
+    pub fn start(program: &Path, file: &Path) -> io::Result<Check> {
+        let mut command = Command::new(program);
+        command.arg("check").stdin(File::open(file)?).stdout(Stdio::piped()).stderr(Stdio::piped());
+        command.spawn().map(Check)
+    }
+
+    /// What it finds, and what of the form of the file with these bytes an editor hides.
+    pub fn end(self, file: &Path, bytes: &[u8]) -> io::Result<Vec<Finding>> {
+        let output = self.0.wait_with_output()?;
+        let text = |bytes: &[u8]| String::from_utf8_lossy(bytes).into_owned();
+        Ok(findings(file, bytes, output.status.success(), &text(&output.stdout), &text(&output.stderr)))
+    }
 }
 
 fn findings(file: &Path, bytes: &[u8], passed: bool, noticed: &str, refused: &str) -> Vec<Finding> {
@@ -124,12 +132,9 @@ fn findings(file: &Path, bytes: &[u8], passed: bool, noticed: &str, refused: &st
     let mut found = form(file, bytes);
     for line in noticed.lines() {
         let words: Vec<&str> = line.splitn(3, ' ').collect();
-        match words[..] {
-            ["notice", number, word] => {
-                let number = number.parse().unwrap_or(0);
-                found.push(of_line(number, &format!("`{word}` does nothing"), false));
-            }
-            _ => {}
+        if let ["notice", number, word] = words[..] {
+            let number = number.parse().unwrap_or(0);
+            found.push(of_line(number, &format!("`{word}` does nothing"), false));
         }
     }
     let told = refused.trim_end();
@@ -202,8 +207,7 @@ mod tests {
     fn findings_have_the_file_the_line_and_its_text() {
         let text = b"\xef\xbb\xbfnodelay\r\nnoarp\r\ntimeout soon\r\n";
         let refused = "dhcpcd: configuration line 3: BadArgument\n";
-        let found =
-            findings(Path::new("conf"), text, false, "notice 1 \u{feff}nodelay\n", refused);
+        let found = findings(Path::new("conf"), text, false, "notice 1 \u{feff}nodelay\n", refused);
         let texts: Vec<&str> = found.iter().map(|one| one.text.as_str()).collect();
         assert_eq!(texts.len(), 4);
         assert!(texts[0].starts_with("conf:1: ") && texts[0].contains("BOM"));

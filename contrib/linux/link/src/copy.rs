@@ -1,10 +1,12 @@
 //! The daemon's transcript on standard output. A reader that is slow or gone holds up nothing here.
 
 use crate::say;
+use nix::sys::stat::{fstat, stat};
 use std::io::Write;
 use std::sync::mpsc::{channel, sync_channel, Receiver, SyncSender, TrySendError};
 use std::time::Duration;
 
+const NULL: &str = "/dev/null";
 /// How many pieces wait for a slow reader.
 const PIECES: usize = 256;
 /// How long the end waits for it.
@@ -20,6 +22,9 @@ impl Copy {
     pub fn start() -> Copy {
         let (pieces, coming) = sync_channel::<Vec<u8>>(PIECES);
         let (end, ended) = channel();
+        if goes_nowhere() {
+            return Copy { pieces: None, ended, lost: false };
+        }
         std::thread::spawn(move || {
             let mut out = std::io::stdout();
             for piece in coming {
@@ -51,4 +56,9 @@ impl Copy {
             let _ = self.ended.recv_timeout(END);
         }
     }
+}
+
+/// Whether standard output is the null device, as under the units.
+fn goes_nowhere() -> bool {
+    matches!((fstat(libc::STDOUT_FILENO), stat(NULL)), (Ok(out), Ok(null)) if out.st_rdev == null.st_rdev)
 }

@@ -158,13 +158,13 @@ const RTM_DELROUTE: u16 = 25;
 const NETLINK_KIND: u32 = 4;
 const ROUTE_PROTOCOL: u32 = 16 + 5;
 
-/// The filter of the kernel's events: of routes those with this protocol alone, and all else.
+/// The filter of the kernel's events: of routes the ends of those with this protocol alone, and all else.
 pub fn events(protocol: u8) -> Vec<sock_filter> {
     let loaded = |kind: u16| u32::from(u16::from_be_bytes(kind.to_ne_bytes()));
     let mut lines = Lines::default();
     lines
         .load(LOAD_HALF, NETLINK_KIND)
-        .test(IF_EQUAL, loaded(RTM_NEWROUTE), Place::Kind, Place::Next)
+        .test(IF_EQUAL, loaded(RTM_NEWROUTE), Place::Drop, Place::Next)
         .test(IF_EQUAL, loaded(RTM_DELROUTE), Place::Kind, Place::Take)
         .at(Place::Kind)
         .load(LOAD_BYTE, ROUTE_PROTOCOL)
@@ -300,7 +300,7 @@ mod tests {
             bytes.push(protocol);
             run(&events(16), &bytes, About::default()) != 0
         };
-        assert!(message(RTM_NEWROUTE, 16) && message(RTM_DELROUTE, 16) && message(20, 0));
-        assert!(!message(RTM_NEWROUTE, 186) && !message(RTM_DELROUTE, 2));
+        assert!(message(RTM_DELROUTE, 16) && message(20, 0));
+        assert!(!message(RTM_NEWROUTE, 16) && !message(RTM_NEWROUTE, 186) && !message(RTM_DELROUTE, 2));
     }
 }

@@ -17,6 +17,7 @@ mod journal;
 mod leases;
 mod mtu;
 mod netlink;
+mod notes;
 mod notify;
 mod packet;
 mod ports;
@@ -50,6 +51,7 @@ fn main() {
         Ok(Asked::Bridge { port, peer, interfaces }) => start::bridge(port, peer, &interfaces),
         Ok(Asked::Rows { folder, call }) => rows_call(&folder, &call),
         Ok(Asked::Hook { folder }) => hook(&folder),
+        Ok(Asked::Resolv { folder }) => resolver::tell_once(&folder),
         Ok(Asked::Help) => {
             println!("{}", words::USAGE);
             0

@@ -13,7 +13,7 @@ use crate::mtu::Mtus;
 use crate::notify::Notify;
 use crate::ports::Port;
 use crate::rates::Budget;
-use crate::resolver::Resolver;
+use crate::resolver::{self, Resolver, Telling};
 use crate::rows::{Entry, Row};
 use crate::say;
 use crate::signals::{Asks, Signals};
@@ -41,11 +41,10 @@ const STOP: Duration = Duration::from_secs(8);
 const STOP_AFTER_CALL: Duration = Duration::from_secs(6);
 /// Without an address for so long the service counts as ready all the same.
 const READY: Duration = Duration::from_secs(30);
-/// How often it is asked whether the host was suspended, by a clock that goes on then.
+/// How often it is asked at least whether the host was suspended, by a clock that goes on then.
 const ASLEEP: TimeSpec = TimeSpec::from_duration(Duration::from_secs(120));
 /// How long after a row of the daemon's what an earlier run left is looked at.
 const TIDY_AFTER: Duration = Duration::from_secs(2);
-const RESOLV: &str = "resolv.conf";
 const LEASE4: &str = ".lease4";
 const LEASE6: &str = ".lease6";
 
@@ -83,7 +82,7 @@ pub struct Run {
     copy: Copy,
     notify: Notify,
     mtus: Mtus,
-    resolver: Option<Resolver>,
+    resolver: Option<Telling>,
     stop: Standing<bool>,
     stop_by: Option<Instant>,
     look_at: Option<Instant>,
@@ -101,7 +100,7 @@ impl Run {
         let timer = TimerFd::new(ClockId::CLOCK_BOOTTIME, TimerFlags::TFD_NONBLOCK | TimerFlags::TFD_CLOEXEC)?;
         timer.set(Expiration::Interval(ASLEEP), TimerSetTimeFlags::empty())?;
         let first = parts.bridge.ports.first().map_or("", |port| port.name.as_str());
-        let resolver = Some(Resolver::new(parts.folder.files().join(RESOLV), first)).filter(|_| tells_resolver);
+        let resolver = tells_resolver.then(|| Telling::start(Resolver::new(&parts.folder.path, first)));
         let mut run = Run {
             mtus: Mtus::open(&parts.folder.path),
             parts,
@@ -137,7 +136,9 @@ impl Run {
             if let Some(end) = self.end.take() {
                 return self.end(&end);
             }
-            for source in wait(&self.sources(), self.due(now)) {
+            let sources = wait(&self.sources(), self.due(now));
+            self.mind_suspend();
+            for source in sources {
                 self.hear(source);
             }
         }
@@ -197,7 +198,8 @@ impl Run {
             Source::Transcript => self.hear_transcript(),
             Source::Files => self.hear_files(),
             Source::Calls => self.hear_call(),
-            Source::Timer => self.hear_timer(),
+            // that it woke is all
+            Source::Timer => drop(self.timer.wait()),
             Source::Port(at) => self.parts.bridge.hear_port(at, now),
         }
     }
@@ -312,8 +314,7 @@ impl Run {
         self.notify.status(&parts.join("; "));
     }
 
-    fn hear_timer(&mut self) {
-        let _ = self.timer.wait();
+    fn mind_suspend(&mut self) {
         if self.parts.clock.was_suspended() {
             say!(Notice, "the host was suspended: leases are confirmed");
             self.parts.bridge.tell_all(Told::Rebind);
@@ -347,7 +348,7 @@ impl Run {
 
     /// A file of the daemon is another one now, or gone.
     fn read_file(&mut self, name: &str) {
-        if name == RESOLV {
+        if name == resolver::FILE {
             if let Some(resolver) = &self.resolver {
                 resolver.tell();
             }

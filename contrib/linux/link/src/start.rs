@@ -2,7 +2,7 @@
 
 use crate::bridge::{self, Bridge, Hearing};
 use crate::clock::Clock;
-use crate::configuration::{self, Made, Named};
+use crate::configuration::{Check, Finding, Made, Named};
 use crate::daemon::{Daemon, Wire};
 use crate::folder::{Folder, Refused, HOST};
 use crate::netlink::request::Kernel;
@@ -12,6 +12,7 @@ use crate::signals::Signals;
 use crate::table::Table;
 use crate::words;
 use std::fs::File;
+use std::io;
 use std::path::Path;
 
 /// The daemon's own status of a configuration with a bad line.
@@ -45,8 +46,22 @@ pub fn run(asked: &words::Run) -> i32 {
 
 fn begin(asked: &words::Run) -> Result<Run, Stopped> {
     let signals = Signals::open().map_err(|error| format!("signals: {error}"))?;
-    let named = read_configuration(asked)?;
-    let (interfaces, missing) = chosen(asked, &named)?;
+    let file = &asked.configuration;
+    let bytes = std::fs::read(file).map_err(|error| format!("{}: {error}", file.display()))?;
+    let failed = |error: io::Error| Stopped::from(format!("{}: {error}", asked.program.display()));
+    let check = Check::start(&asked.program, file).map_err(failed)?;
+    let opened = open(asked, signals, &Named::read(&bytes));
+    tell(&check.end(file, &bytes).map_err(failed)?)?;
+    let mut parts = opened?;
+    let listener = crate::calls::listen(&parts.folder.path)
+        .map_err(|error| format!("{}: {error}", parts.folder.path.display()))?;
+    let daemon = start_daemon(asked, &mut parts)?;
+    Run::new(parts, daemon, listener, asked.tells_resolver).map_err(|error| Stopped::from(error.to_string()))
+}
+
+/// Opens all that a run needs before its daemon.
+fn open(asked: &words::Run, signals: Signals, named: &Named) -> Result<Parts, Stopped> {
+    let (interfaces, missing) = chosen(asked, named)?;
     let folder = Folder::make(&asked.folder, &interfaces).map_err(|refused| match refused {
         Refused::InUse => format!("another run has {}", asked.folder.display()),
         Refused::Failed(error) => format!("{}: {error}", asked.folder.display()),
@@ -55,35 +70,19 @@ fn begin(asked: &words::Run) -> Result<Run, Stopped> {
     let table = Table::open(&folder.path).map_err(|error| format!("{}: {error}", folder.path.display()))?;
     let wire = Wire::open_any().map_err(|error| format!("127.0.0.1: {error}"))?;
     let bridge = Bridge::open(wire, &interfaces, Hearing::Transcript)?;
-    let mut parts = Parts {
-        signals,
-        folder,
-        clock,
-        table,
-        bridge,
-        missing,
-        is_persistent: named.is_persistent,
-        hooks: named.hooks,
-    };
-    let listener = crate::calls::listen(&parts.folder.path)
-        .map_err(|error| format!("{}: {error}", parts.folder.path.display()))?;
-    let daemon = start_daemon(asked, &mut parts)?;
-    Run::new(parts, daemon, listener, asked.tells_resolver).map_err(|error| Stopped::from(error.to_string()))
+    let (is_persistent, hooks) = (named.is_persistent, named.hooks);
+    Ok(Parts { signals, folder, clock, table, bridge, missing, is_persistent, hooks })
 }
 
 /// Says what the daemon finds wrong with the configuration; one with a bad line ends it here.
-fn read_configuration(asked: &words::Run) -> Result<Named, Stopped> {
-    let file = &asked.configuration;
-    let bytes = std::fs::read(file).map_err(|error| format!("{}: {error}", file.display()))?;
-    let findings = configuration::check(&asked.program, file, &bytes)
-        .map_err(|error| format!("{}: {error}", asked.program.display()))?;
-    for finding in &findings {
+fn tell(findings: &[Finding]) -> Result<(), Stopped> {
+    for finding in findings {
         if finding.refuses {
             return Err(Stopped { status: BAD_CONFIGURATION, why: finding.text.clone() });
         }
         say!(Warning, "{}", finding.text);
     }
-    Ok(Named::read(&bytes))
+    Ok(())
 }
 
 /// The interfaces of the run, and those of the configuration that aren't there.

@@ -2,18 +2,16 @@
 
 use crate::leases::{Lease, Lifetimes, Moment};
 use crate::netlink::request::{Address, Kernel, Put, RouteMore};
+use crate::notes::{Change, Notes};
 use crate::rows::{Entry, Net, Route, Row, Way};
 use nix::net::if_::if_nametoindex;
 use std::collections::BTreeMap;
 use std::io;
 use std::net::IpAddr;
-use std::path::{Path, PathBuf};
+use std::path::Path;
 
-/// The files in the folder: the names of interfaces in the order of their numbers, and the rows that the daemon wants.
+/// The file in the folder that has the names of interfaces in the order of their numbers.
 pub const INTERFACES: &str = "interfaces";
-const ROWS: &str = "rows";
-/// What is another one after each boot, when the rows of the one before are gone.
-const BOOT: &str = "/proc/sys/kernel/random/boot_id";
 /// linux/if_addr.h: addresses that the kernel makes of others.
 const IFA_F_TEMPORARY: u32 = 0x01;
 const IFA_F_MANAGETEMPADDR: u32 = 0x100;
@@ -21,8 +19,7 @@ const IFA_F_MANAGETEMPADDR: u32 = 0x100;
 /// The tables of the host, as far as its interfaces here are concerned.
 pub struct Table {
     kernel: Kernel,
-    file: PathBuf,
-    boot: String,
+    notes: Notes,
     names: Vec<String>,
     wanted: Vec<Row>,
     /// What an earlier run left for this one: it stays until the daemon wants it again, or another in its place.
@@ -53,8 +50,7 @@ impl Table {
         let names = std::fs::read_to_string(folder.join(INTERFACES))?;
         let mut table = Table {
             kernel: Kernel::open()?,
-            file: folder.join(ROWS),
-            boot: std::fs::read_to_string(BOOT).unwrap_or_default().trim().to_string(),
+            notes: Notes::open(folder),
             names: names.lines().map(str::to_string).collect(),
             wanted: Vec::new(),
             left: Vec::new(),
@@ -65,35 +61,28 @@ impl Table {
         Ok(table)
     }
 
-    /// Reads the rows that an earlier process of this boot was to keep.
+    /// The rows that an earlier process of this boot was to keep.
     fn recall(&mut self) {
-        let text = std::fs::read_to_string(&self.file).unwrap_or_default();
-        let mut lines = text.lines();
-        if lines.next() != Some(&self.boot) {
-            return;
-        }
-        for line in lines {
-            let (name, row) = line.split_once(' ').unwrap_or((line, ""));
-            let place = self.names.iter().position(|other| other == name);
-            if let (Some(place), Ok(row)) = (place, row.parse::<Row>()) {
-                self.wanted.push(Row { place: place + 1, ..row });
-            }
-        }
+        let names = &self.names;
+        self.wanted = self.notes.read(|name| Some(names.iter().position(|other| other == name)? + 1));
     }
 
-    /// Writes the rows that are wanted down, whole or not at all.
-    fn note(&self) -> io::Result<()> {
-        let mut text = format!("{}\n", self.boot);
-        for row in self.wanted.iter().chain(&self.left) {
-            text.push_str(&format!("{} {row}\n", self.name(row)));
+    /// Writes all rows that are to be known after a crash down anew.
+    fn note_all(&mut self) -> io::Result<()> {
+        let Table { notes, names, wanted, left, .. } = self;
+        notes.write_anew(wanted.iter().chain(left.iter()).map(|row| (name_in(names, row), row)))
+    }
+
+    /// Writes one change down, which is made here already.
+    fn note(&mut self, change: Change, row: &Row) -> io::Result<()> {
+        if self.notes.is_long(self.wanted.len() + self.left.len()) {
+            return self.note_all();
         }
-        let aside = self.file.with_extension("new");
-        std::fs::write(&aside, text)?;
-        std::fs::rename(&aside, &self.file)
+        self.notes.append(change, name_in(&self.names, row), row)
     }
 
     fn name(&self, row: &Row) -> &str {
-        self.names.get(row.place.wrapping_sub(1)).map_or("", String::as_str)
+        name_in(&self.names, row)
     }
 
     fn index(&self, row: &Row) -> io::Result<u32> {
@@ -143,7 +132,7 @@ impl Table {
             self.left = rows.clone();
         }
         self.wanted = rows.into_iter().filter(|row| !self.left.contains(row)).collect();
-        self.note()?;
+        self.note_all()?;
         Ok(self.wanted.clone())
     }
 
@@ -171,7 +160,7 @@ impl Table {
         self.left = left;
         // routes go before the addresses that they are from
         over.iter().rev().map(|row| self.take_away(row)).fold(Ok(()), io::Result::and)?;
-        self.note()
+        self.note_all()
     }
 
     /// Adds a row; `Ok` where the host then has it.
@@ -185,7 +174,7 @@ impl Table {
         if !self.wanted.contains(row) {
             self.wanted.push(*row);
         }
-        self.note()?;
+        self.note(Change::Add, row)?;
         self.mend(row, now);
         Ok(())
     }
@@ -193,7 +182,7 @@ impl Table {
     /// Takes a row away; `Ok` where the host then hasn't it.
     pub fn remove(&mut self, row: &Row, now: Moment) -> io::Result<()> {
         self.wanted.retain(|other| other != row);
-        self.note()?;
+        self.note(Change::Remove, row)?;
         self.take_away(row)?;
         self.mend(row, now);
         Ok(())
@@ -356,6 +345,10 @@ impl Table {
     pub fn kernel(&mut self) -> &mut Kernel {
         &mut self.kernel
     }
+}
+
+fn name_in<'a>(names: &'a [String], row: &Row) -> &'a str {
+    names.get(row.place.wrapping_sub(1)).map_or("", String::as_str)
 }
 
 fn is_ip4(row: &Row) -> bool {

@@ -7,6 +7,7 @@ use std::path::{Path, PathBuf};
 pub const USAGE: &str = "usage: dhcpcd-link [--folder FOLDER] [--configuration FILE] [--program PROGRAM] [--resolv] \
 [INTERFACE..]
        dhcpcd-link bridge PORT PEER INTERFACE..
+       dhcpcd-link resolv [FOLDER]
        FOLDER/host host-list | host-add ROW.. | host-del ROW..";
 const FOLDER: &str = "/var/lib/dhcpcd-live";
 const CONFIGURATION: &str = "/etc/dhcpcd.conf";
@@ -29,9 +30,22 @@ pub struct Run {
 #[derive(Debug, PartialEq, Eq)]
 pub enum Asked {
     Run(Run),
-    Bridge { port: u16, peer: u16, interfaces: Vec<String> },
-    Rows { folder: PathBuf, call: Call },
-    Hook { folder: PathBuf },
+    Bridge {
+        port: u16,
+        peer: u16,
+        interfaces: Vec<String>,
+    },
+    Rows {
+        folder: PathBuf,
+        call: Call,
+    },
+    Hook {
+        folder: PathBuf,
+    },
+    /// The host is told once of the name servers of a run.
+    Resolv {
+        folder: PathBuf,
+    },
     Help,
 }
 
@@ -46,6 +60,7 @@ pub fn read(name: &Path, words: &[String]) -> Result<Asked, Usage> {
     }
     match words.first().map(String::as_str) {
         Some("bridge") => bridge(&words[1..]),
+        Some("resolv") => resolv(&words[1..]),
         Some("--help") => Ok(Asked::Help),
         _ => run(words),
     }
@@ -69,6 +84,14 @@ fn bridge(words: &[String]) -> Result<Asked, Usage> {
             _ => Err(Usage("a port is a number from 1 to 65535".to_string())),
         },
         _ => Err(Usage("an interface is missing".to_string())),
+    }
+}
+
+fn resolv(words: &[String]) -> Result<Asked, Usage> {
+    match words {
+        [] => Ok(Asked::Resolv { folder: FOLDER.into() }),
+        [folder] => Ok(Asked::Resolv { folder: folder.into() }),
+        _ => Err(Usage("there is more than a folder".to_string())),
     }
 }
 
@@ -128,6 +151,13 @@ mod tests {
         };
         assert_eq!(asked("/x/dhcpcd-link", text), Ok(Asked::Run(run)));
         assert!(asked("/x/dhcpcd-link", "--program").is_err() && asked("/x/dhcpcd-link", "--programs /p").is_err());
+    }
+
+    #[test]
+    fn the_host_is_told_of_a_folder() {
+        assert_eq!(asked("l", "resolv /f"), Ok(Asked::Resolv { folder: "/f".into() }));
+        assert_eq!(asked("l", "resolv"), Ok(Asked::Resolv { folder: FOLDER.into() }));
+        assert!(asked("l", "resolv /f /g").is_err());
     }
 
     #[test]
