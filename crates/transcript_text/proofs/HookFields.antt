@@ -12,7 +12,7 @@ use Rattle.net_types.proofs.ReadsLaws.{split_whole}
 use Rattle.world.specs.declared.reasons.Reason.{Reason}
 use Rattle.world.specs.declared.reasons.Reason.TheVariants.{Preinit, Carrier, NoCarrier, StaticLine, Bound, Reboot, Renew, Rebind, Nak, Expire, Timeout, Ipv4ll, Stop, Stop6, Stopped, Bound6, Reboot6, Renew6, Rebind6, Expire6, Delegated6}
 use Rattle.world.specs.Reasons.{reason_word}
-use Rattle.transcript_text.proofs.Fields.{cut, cut_whole}
+use Rattle.transcript_text.proofs.ReadFields.{cut, cut_whole}
 
 abbrev pub reasons : List Reason
 reasons = Preinit ∷ Carrier ∷ NoCarrier ∷ StaticLine ∷ Bound ∷ Reboot ∷ Renew ∷ Rebind ∷ Nak ∷ Expire ∷ Timeout ∷ Ipv4ll ∷ Stop ∷ Stop6 ∷ Stopped ∷ Bound6 ∷ Reboot6 ∷ Renew6 ∷ Rebind6 ∷ Expire6 ∷ Delegated6 ∷ []

@@ -1,9 +1,8 @@
 mod CarrierSteps
-mod Fields
 mod Holding
 mod HookFields
 mod LineReading
-pub mod LinesLaws
-mod Named
+mod ReadFields
 mod RowReading
 mod UpLaws
+pub mod LinesLaws

@@ -29,7 +29,7 @@ use Rattle.world.specs.Rows.{IsRow}
 use Rattle.script_model.specs.Lines as Model
 use Rattle.script_model.specs.Lines.{Line, line_words, outcome_text, event_text, up_text, reading_text, moment_text, poll_text, job_text}
 use Rattle.transcript_text.specs.Fits.{FitsLine, FitsEvent, FitsReading, FitsMoment, FitsPoll, FitsVariable, LinesApart}
-use Rattle.transcript_text.proofs.Fields.{after, cut, number_in, hex_in, ip6_in, net_in, mac_in, name_in, cut_number, cut_name, cut_file, cut_hex, file_lacks, number_found, number_whole, hex_whole, ip6_whole, net_whole, mac_whole, name_whole}
+use Rattle.transcript_text.proofs.ReadFields.{after, cut, number_in, hex_in, ip6_in, net_in, mac_in, name_in, cut_number, cut_name, cut_file, cut_hex, file_lacks, number_found, number_whole, hex_whole, ip6_whole, net_whole, mac_whole, name_whole}
 use Rattle.transcript_text.proofs.HookFields.{reason_in, reason_whole, cut_reason, cut_interface, cut_variable, variable_parts}
 use Rattle.transcript_text.proofs.UpLaws.{bits_of, numbers_in, up_whole}
 use Rattle.transcript_text.proofs.RowReading.{index_in, row_in, row_whole}

@@ -14,7 +14,7 @@ use Rattle.world.specs.declared.rows.Via.{Via}
 use Rattle.world.specs.declared.rows.Via.TheVariants.{OnLink, Reject, Gate4, Gate6}
 use Rattle.world.specs.Rows.{IsNet, LeadsTo, IsRow}
 use Rattle.world.specs.RowText.{row_text}
-use Rattle.transcript_text.proofs.Fields.{after, cut, number_in, net_in, gate_in, cut_number, cut_net, cut_ip4, cut_ip6, number_whole, net_whole, gate4_whole, gate6_whole}
+use Rattle.transcript_text.proofs.ReadFields.{after, cut, number_in, net_in, gate_in, cut_number, cut_net, cut_ip4, cut_ip6, number_whole, net_whole, gate4_whole, gate6_whole}
 
 abbrev pub index_in : List ℕ → IfIndex
 index_in text = record { number = number_in text }

@@ -1,4 +1,4 @@
 pub mod Carriers
 pub mod Fits
-pub mod Pieces
+pub mod LineFields
 pub mod Printed

@@ -3,9 +3,9 @@
 
 mod appending;
 mod carriers;
+mod fields;
 mod laws;
 mod lines;
-mod pieces;
 mod printing;
 
 pub use laws::lines_apart;
