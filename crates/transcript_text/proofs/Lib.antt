@@ -1,8 +1,10 @@
 mod CarrierSteps
+mod EventReads
+mod FieldReads
+mod FormLaws
 mod Holding
-mod HookFields
-mod LineReading
-mod ReadFields
-mod RowReading
-mod UpLaws
+mod LineReads
 pub mod LinesLaws
+mod NetTexts
+mod ShapeLaws
+mod UpLaws

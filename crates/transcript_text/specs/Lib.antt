@@ -1,4 +1,7 @@
 pub mod Carriers
+pub mod EventFields
 pub mod Fits
 pub mod LineFields
+pub mod LineShapes
 pub mod Printed
+pub mod Shapes
