@@ -36,7 +36,8 @@ use Rattle.row_texts.proofs.RowLaws.{row_finds}
 use Rattle.script_model.specs.Lines.{carrier_text, up_text}
 use Rattle.script_model.proofs.SpelledRows.{row_printed}
 use Rattle.transcript_text.specs.Fits.{FitsMoment, FitsPoll, FitsReading, IsWord}
-use Rattle.transcript_text.specs.LineFields.{bits_of, carrier_field, count_field, file_field, iface_field, index_field, job_field, lacks, moment_field, names_at, names_field, names_text, net_field, numbers_at, poll_field, printed_net_at, printed_row_at, reading_field, reason_field, reasons, row_field, told, up_at, up_field, variable_field}
+use Rattle.transcript_text.specs.FieldForms.{told}
+use Rattle.transcript_text.specs.LineFields.{bits_of, carrier_field, count_field, file_field, iface_field, index_field, job_field, lacks, moment_field, names_at, names_field, names_text, net_field, numbers_at, poll_field, printed_net_at, printed_row_at, reading_field, reason_field, reasons, row_field, up_at, up_field, variable_field}
 use Rattle.transcript_text.proofs.FormLaws.{bytes_reads, made_sound, one_lacks, one_reads, printed_reads, Sound, told_other, told_sound}
 use Rattle.transcript_text.proofs.NetTexts.{nets_apart}
 use Rattle.transcript_text.proofs.UpLaws.{up_whole}

@@ -1,5 +1,6 @@
 pub mod Carriers
 pub mod EventFields
+pub mod FieldForms
 pub mod Fits
 pub mod LineFields
 pub mod LineShapes

@@ -1,4 +1,4 @@
--- The fields that lines of a transcript have of their own: their texts, the values that have one, and how they are read.
+-- The fields that lines of a transcript have of their own: each with its text, the values that have one, and how it is read.
 use Rattle.std.specs.Prelude.{ℕ, ◌+◌, ◌-◌, ◌^◌, ◌<◌, nat_lt, Bool, true, false, not, ◌&&◌, List, [], ◌∷◌, ◌++◌, reverse, find, codes, decimal, bytes_eq, flat_map, Option, Some, None, option_map, IsTrue, if◌then◌else◌, ◌==◌}
 use Rattle.std.specs.List.{AllByRecursion, list_all}
 use Rattle.net_types.specs.declared.address.Net.{Net}
@@ -22,39 +22,10 @@ use Rattle.world.specs.StoreCalls.{Reading, Found, Missing, Unread}
 use Rattle.row_texts.specs.RowReading.{either, row_at}
 use Rattle.script_model.specs.Lines.{carrier_text, moment_text, outcome_text, poll_text, reading_text, up_text}
 use Rattle.field_laws.specs.Fields.{Field, parted}
+use Rattle.transcript_text.specs.FieldForms.{bytes_that, number_below, one_of, printed, split_at_last, told}
 use Rattle.transcript_text.specs.Fits.{FitsMoment, FitsPoll, FitsReading, FitsVariable, IsWord}
 
--- ---- forms of fields
-
--- a number below a limit
-abbrev pub number_below : ℕ → Field ℕ
-number_below limit = record { text = decimal; Fits = λ n. n < limit; at = number_at limit }
-
--- bytes that pass a test, as they are
-abbrev pub bytes_that : (List ℕ → Bool) → Field (List ℕ)
-bytes_that test = record { text = λ bytes. bytes; Fits = λ bytes. IsTrue (test bytes); at = λ text. guarded test (Some text) }
-
--- values of a word each
-abbrev pub one_of : {X : Type 0} → (X → List ℕ) → List X → Field X
-one_of word_of all = record {
-  text = word_of;
-  Fits = λ x. Unit {0};
-  at = λ text. find (λ x. bytes_eq text (word_of x)) all;
-}
-
--- this word is the value, and any other text is read otherwise
-abbrev pub told : {X : Type 0} → List ℕ → X → (List ℕ → Option X) → List ℕ → Option X
-told word x other text = if bytes_eq text word then Some x else other text
-
--- only the printed text of what is read
-abbrev pub printed : {X : Type 0} → (X → List ℕ) → (List ℕ → Option X) → List ℕ → Option X
-printed text_of read text = guarded (λ x. bytes_eq text (text_of x)) (read text)
-
--- what stands before and after the last separator
-unfoldable pub split_at_last : ℕ → List ℕ → Option (List ℕ × List ℕ)
-split_at_last separator text = option_map (λ p. (reverse p.1, reverse p.0)) (split_at_byte separator (reverse text))
-
--- ---- kinds of fields
+-- ---- numbers, names and words
 
 -- a number of the daemon's widest type
 abbrev pub count_field : Field ℕ
@@ -88,6 +59,8 @@ reasons =
 abbrev pub reason_field : Field Reason
 reason_field = one_of reason_word reasons
 
+-- ---- calls and jobs
+
 -- what a call was about, and whether it was done: what it was about may have blanks
 abbrev pub called : {X : Type 0} → Field X → Field (X × Bool)
 called about = record {
@@ -103,6 +76,8 @@ called about = record {
 -- which job, why it runs and on which interface
 abbrev pub job_field : Field (ℕ × (Reason × List ℕ))
 job_field = record (parted count_field (parted reason_field iface_field)) { Fits = λ job. IsWord job.0 × IsTrue (is_name job.1.1) }
+
+-- ---- lists
 
 -- a name after each blank
 abbrev pub names_text : List (List ℕ) → List ℕ
@@ -131,6 +106,8 @@ up_at text = printed up_text (λ text. guarded (λ up. nat_lt up (2 ^ 64)) (opti
 abbrev pub up_field : Field ℕ
 up_field = record { text = up_text; Fits = IsWord; at = up_at }
 
+-- ---- a word, or another text
+
 abbrev pub reading_field : Field Reading
 reading_field = record {
   text = reading_text;
@@ -151,6 +128,8 @@ moment_field = record {
   Fits = FitsMoment;
   at = told (codes "none") None (λ text. option_map Some (number_at (2 ^ 64) text));
 }
+
+-- ---- variables, rows and networks
 
 abbrev pub lacks : ℕ → List ℕ → Bool
 lacks byte text = list_all (λ b. not (b == byte)) text

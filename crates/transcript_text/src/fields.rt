@@ -1,7 +1,7 @@
 //! The fields that lines of a transcript have of their own, printed.
 ghost use Rattle.std.specs.Prelude.{◌≡◌, ◌++◌, ◌∷◌, map, codes};
 ghost use Rattle.std.specs.String.{string_bytes};
-ghost use Rattle.net_types.specs.AddressText.{ip6_text, net_text};
+ghost use Rattle.net_types.specs.AddressText.{net_text};
 ghost use Rattle.world.specs.Reasons.{reason_word};
 ghost use Rattle.world.specs.RowText.{row_text};
 ghost use Rattle.script_model.specs.Lines.{carrier_text, event_text, moment_text, outcome_text, poll_text, reading_text, up_text};
@@ -12,7 +12,7 @@ use crate::appending::{append_names, append_shown};
 use crate::carriers::append_carriers;
 use crate::lines::Reading;
 use line_grammar::AppendField;
-use net_types::{Hex, Ip6, Net, NoMemory, append_bytes, append_hex, append_number};
+use net_types::{Hex, Net, NoMemory, append_bytes, append_hex, append_number};
 use world::{Event, HostRow, Poll, Reason, reason_text};
 
 /// Bytes as they are.
@@ -120,9 +120,7 @@ impl AppendField for Came<'_> {
             Event::Carrier { iface, up } => {
                 Worded(b"carrier ", (iface, Carrier(up))).append(into)
             }
-            Event::Duplicate { iface, addr } => {
-                Worded(b"dup ", (iface, Address(addr))).append(into)
-            }
+            Event::Duplicate { iface, addr } => { Worded(b"dup ", (iface, addr)).append(into) }
             Event::Release { iface } => Worded(b"release ", iface).append(into),
             Event::Rebind { iface } => Worded(b"rebind ", iface).append(into),
             Event::Stop => append_bytes(b"stop", into),
@@ -211,18 +209,6 @@ pub struct AnyNet(pub Net);
 
 impl AppendField for AnyNet {
     ghost shown = { λ net. net_text net.0 };
-
-    fn append(&self, into: &mut Vec<u8>) -> Result<(), NoMemory> {
-        append_shown(self.0, into)
-    }
-}
-
-/// An address, made without memory.
-#[derive(Clone, Copy)]
-pub struct Address(pub Ip6);
-
-impl AppendField for Address {
-    ghost shown = { λ address. ip6_text address.0 };
 
     fn append(&self, into: &mut Vec<u8>) -> Result<(), NoMemory> {
         append_shown(self.0, into)

@@ -8,6 +8,6 @@ mod laws;
 mod lines;
 mod printing;
 
-pub use laws::lines_apart;
+pub use laws::{lines_apart, lines_are_read};
 pub use lines::{Reading, TranscriptLine};
 pub use printing::print_line;
