@@ -1,5 +1,5 @@
 -- The fields of lines: what is read is spelled so, and what is spelled so is read.
-use Rattle.std.proofs.Common.{◌≡◌, ℕ, ◌^◌, ◌<◌, Bool, true, false, cond, eqb, ltb, List, [], ◌∷◌, ◌++◌, flat_map, decimal, refl, sym, ◌∙◌, ap, subst, arith, append-nil, Option, Some, None, eqb-true}
+use Rattle.std.proofs.Common.{◌≡◌, ℕ, ◌^◌, ◌<◌, Bool, true, false, cond, eqb, ltb, List, [], ◌∷◌, ◌++◌, decimal, refl, sym, ◌∙◌, ap, subst, arith, Option, Some, None, eqb-true}
 use Rattle.std.specs.Prelude.{◌&&◌, codes, option_map}
 use Rattle.std.specs.List.{AllByRecursion, list_all}
 use Rattle.std.proofs.lemmas.Bool.{and_from, and_parts, ltb-true, lt-ltb}
@@ -38,7 +38,7 @@ use Rattle.script_model.proofs.SpelledRows.{row_printed}
 use Rattle.transcript_text.specs.Fits.{FitsMoment, FitsPoll, FitsReading, IsWord}
 use Rattle.transcript_text.specs.FieldForms.{told}
 use Rattle.transcript_text.specs.LineFields.{bits_of, carrier_field, count_field, file_field, iface_field, index_field, job_field, lacks, moment_field, names_at, names_field, names_text, net_field, numbers_at, poll_field, printed_net_at, printed_row_at, reading_field, reason_field, reasons, row_field, up_at, up_field, variable_field}
-use Rattle.transcript_text.proofs.FormLaws.{bytes_reads, made_sound, one_lacks, one_reads, printed_reads, Sound, told_other, told_sound}
+use Rattle.transcript_text.proofs.FormLaws.{bytes_reads, joined, made_sound, one_lacks, one_reads, printed_reads, Sound, told_other, told_sound}
 use Rattle.transcript_text.proofs.NetTexts.{nets_apart}
 use Rattle.transcript_text.proofs.UpLaws.{up_whole}
 
@@ -118,24 +118,18 @@ up_reads =
 
 -- ---- names of files
 
--- a list whose parts are joined is its first part, and each other one after a separator
-joined : {X : Type 0} (separator : ℕ) (text_of : X → List ℕ) (x : X) (xs : List X)
-    → list_text separator text_of (x ∷ xs) ≡ text_of x ++ flat_map (λ y. separator ∷ text_of y) xs
-unfolding list_text
-joined separator text_of x [] = sym (append-nil (text_of x))
-joined separator text_of x (y ∷ xs) = ap (λ text. text_of x ++ separator ∷ text) (joined separator text_of y xs)
-
 listed_reads : Reads (list_text 32 (λ (name : List ℕ). name)) (FitsList IsFileName) (list_at 32 file_field.at)
 listed_reads = list_reads 32 file_reads file_lacks
 
 names_whole : (names : List (List ℕ)) → AllByRecursion IsFileName names → names_at (names_text names) ≡ Some names
-unfolding names_at
+unfolding names_at list_text
 names_whole [] fits = refl
 names_whole (name ∷ names) fits =
     ap (list_at 32 file_field.at) (sym (joined 32 (λ n. n) name names)) ∙ listed_reads.whole (name ∷ names) (record { some = λ e. (cc); each = fits })
 
 after_blank : (rest : List ℕ) (names : List (List ℕ)) → (rest ≡ list_text 32 (λ n. n) names) × FitsList IsFileName names
     → (32 ∷ rest ≡ names_text names) × AllByRecursion IsFileName names
+unfolding list_text
 after_blank rest [] listed = absurd (listed.1.some refl)
 after_blank rest (name ∷ names) listed = (ap (λ text. 32 ∷ text) (listed.0 ∙ joined 32 (λ n. n) name names), listed.1.each)
 

@@ -1,7 +1,7 @@
 -- The laws of the forms of fields that lines of a transcript have of their own.
-use Rattle.std.proofs.Common.{◌≡◌, ℕ, Bool, true, false, cond, not, eqb, List, [], ◌∷◌, ◌++◌, reverse, refl, sym, ◌∙◌, ap, subst, append_assoc, Option, Some, None}
-use Rattle.std.specs.Prelude.{bytes_eq, find, option_map}
-use Rattle.std.specs.List.{list_all}
+use Rattle.std.proofs.Common.{◌≡◌, ℕ, Bool, true, false, cond, not, eqb, List, [], ◌∷◌, ◌++◌, reverse, refl, sym, ◌∙◌, ap, subst, append_assoc, append-nil, flat_map, Option, Some, None}
+use Rattle.std.specs.Prelude.{bytes_eq, find, map, option_map}
+use Rattle.std.specs.List.{join_with_byte, list_all}
 use Rattle.std.proofs.lemmas.Bool.{and_parts}
 use Rattle.std.proofs.lemmas.List.{reverse-append, reverse-reverse}
 use Rattle.std.proofs.lemmas.List.Folds.{list_all-append}
@@ -99,6 +99,14 @@ printed_reads text_of Fits read fits whole = record {
   whole = λ x has.
       ap (guarded (λ y. bytes_eq (text_of x) (text_of y))) (whole x has) ∙ ap (λ b. cond b (Some x) None) (same_bytes (text_of x));
 }
+
+-- ---- lists
+
+-- parts that are joined are the first one, and each other one after a separator
+pub joined : {X : Type 0} (separator : ℕ) (text_of : X → List ℕ) (x : X) (xs : List X)
+    → join_with_byte separator (map text_of (x ∷ xs)) ≡ text_of x ++ flat_map (λ y. separator ∷ text_of y) xs
+joined separator text_of x [] = sym (append-nil (text_of x))
+joined separator text_of x (y ∷ xs) = ap (λ text. text_of x ++ separator ∷ text) (joined separator text_of y xs)
 
 -- ---- the last separator
 

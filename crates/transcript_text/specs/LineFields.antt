@@ -1,10 +1,10 @@
 -- The fields that lines of a transcript have of their own: each with its text, the values that have one, and how it is read.
-use Rattle.std.specs.Prelude.{ℕ, ◌+◌, ◌-◌, ◌^◌, ◌<◌, nat_lt, Bool, true, false, not, ◌&&◌, List, [], ◌∷◌, ◌++◌, reverse, find, codes, decimal, bytes_eq, flat_map, Option, Some, None, option_map, IsTrue, if◌then◌else◌, ◌==◌}
+use Rattle.std.specs.Prelude.{ℕ, ◌+◌, ◌-◌, ◌^◌, nat_lt, Bool, true, false, not, ◌&&◌, List, [], ◌∷◌, ◌++◌, codes, flat_map, Option, Some, None, option_map, IsTrue, if◌then◌else◌, ◌==◌}
 use Rattle.std.specs.List.{AllByRecursion, list_all}
 use Rattle.net_types.specs.declared.address.Net.{Net}
 use Rattle.net_types.specs.declared.address.Net.TheVariants.{V4, V6}
 use Rattle.net_types.specs.AddressText.{FitsNet, net4_at, net_text}
-use Rattle.net_types.specs.Cutting.{◌>>=◌, after_word, guarded, list_at, pair_at, split_at_byte}
+use Rattle.net_types.specs.Cutting.{◌>>=◌, after_word, guarded, list_at, pair_at}
 use Rattle.net_types.specs.HexText.{hex_at}
 use Rattle.net_types.specs.Ip6Text.{printed_net6_at}
 use Rattle.net_types.specs.NameText.{is_name}
