@@ -6,6 +6,7 @@ use Rattle.std.proofs.Math.Seq.{take-length}
 use Rattle.script_model.specs.IfaceSets.{is_up}
 use Rattle.script_model.specs.Lines.{numbers_from, list_text, up_text}
 use Rattle.transcript_text.specs.Carriers.{next_text}
+use Rattle.transcript_text.proofs.FormLaws.{joined}
 
 -- those from a number on
 unfoldable pub listed : ℕ → ℕ → List ℕ
@@ -27,12 +28,8 @@ pub listed_down : (up i : ℕ) → i < 65 → is_up up i ≡ false → listed up
 unfolding listed
 listed_down up i h e = rw (numbers_step i h, e)
 
-pub list_text-cons : (i : ℕ) (rest : List ℕ) → list_text (i ∷ rest) ≡ decimal i ++ rest_text true rest
-list_text-cons i [] = sym (append-nil (decimal i))
-list_text-cons i (j ∷ rest) = ap (λ text. decimal i ++ 44 ∷ text) (list_text-cons j rest)
-
 pub rest_next : (some : Bool) (i : ℕ) (rest : List ℕ) → rest_text some (i ∷ rest) ≡ next_text some i ++ rest_text true rest
-rest_next false i rest = list_text-cons i rest
+rest_next false i rest = joined 44 decimal i rest
 rest_next true i rest = refl
 
 pub front_more : (old now more : List ℕ) → take (length old) now ≡ old → take (length old) (now ++ more) ≡ old

@@ -1,9 +1,10 @@
 mod CarrierSteps
-mod Fields
+mod EventReads
+mod FieldReads
+mod FormLaws
 mod Holding
-mod HookFields
-mod LineReading
+mod LineReads
 pub mod LinesLaws
-mod Named
-mod RowReading
+mod NetTexts
+mod ShapeLaws
 mod UpLaws

@@ -1,47 +1,37 @@
 -- The interfaces with carrier, read from their list.
-use Rattle.std.proofs.Common.{◌≡◌, ℕ, zero, suc, ◌+◌, ◌-◌, ◌*◌, ◌/◌, ◌%◌, ◌^◌, ◌<◌, Bool, true, false, eqb, List, [], ◌∷◌, filter, refl, sym, ◌∙◌, ap, subst, ◌≢◌, arith, lit<, eqb-true, cond}
+use Rattle.std.proofs.Common.{◌≡◌, ℕ, zero, suc, ◌+◌, ◌-◌, ◌*◌, ◌/◌, ◌%◌, ◌^◌, ◌<◌, Bool, true, false, eqb, List, [], ◌∷◌, filter, refl, sym, ◌∙◌, ap, subst, ◌≢◌, arith, eqb-true, cond}
 use Rattle.std.proofs.lemmas.Bool.{eqb-false}
 use Rattle.std.proofs.Math.Nat.{div-div-eq-div-mul}
 use Rattle.std.proofs.lemmas.Grind.{pow_more}
-use Rattle.std.specs.Prelude.{codes, unwrap_or}
+use Rattle.std.specs.Prelude.{codes, option_map, Some}
 use Rattle.std.specs.List.{AllByRecursion}
 use Rattle.net_types.specs.Numbers.{number_at, is_numeral}
 use Rattle.net_types.specs.Cutting as Cutting
-use Rattle.net_types.specs.Cutting.{list_at, FitsList}
+use Rattle.net_types.specs.Cutting.{list_at}
 use Rattle.net_types.proofs.ListLaws.{list_reads}
 use Rattle.net_types.proofs.NumberLaws.{number_reads}
 use Rattle.net_types.proofs.MarkLaws.{decimal_lacks}
 use Rattle.script_model.specs.IfaceSets.{is_up}
 use Rattle.script_model.specs.Lines.{numbers_from, list_text, up_text}
+use Rattle.transcript_text.specs.LineFields.{bits_of, numbers_at}
+use Rattle.transcript_text.proofs.FormLaws.{told_other}
 
--- the numbers of a list
-unfoldable pub numbers_in : List ℕ → List ℕ
-numbers_in text = unwrap_or (list_at 44 (number_at (2 ^ 64)) text) []
+numbers_some : (i : ℕ) (rest : List ℕ) → AllByRecursion (λ n. n < 65) (i ∷ rest) → numbers_at (list_text (i ∷ rest)) ≡ Some (i ∷ rest)
+unfolding numbers_at list_at number_at is_numeral Cutting.list_text
+numbers_some i rest small =
+    let law = list_reads 44 (number_reads 65 (omega arith)) (λ n fits. decimal_lacks n 44 (omega (arith, fits)) refl) in
+    told_other (list_at 44 (number_at 65)) (codes "-") [] (list_text (i ∷ rest)) (i ∷ rest) refl (law.whole (i ∷ rest) (record { some = λ e. (cc); each = small }))
 
--- the bits of the interfaces
-pub bits_of : List ℕ → ℕ
-bits_of [] = 0
-bits_of (i ∷ rest) = 2 ^ (i - 1) + bits_of rest
+numbers_whole : (list : List ℕ) → AllByRecursion (λ n. n < 65) list → numbers_at (list_text list) ≡ Some list
+unfolding numbers_at
+numbers_whole [] small = refl
+numbers_whole (i ∷ rest) small = numbers_some i rest small
 
-numbers_none : numbers_in (codes "-") ≡ []
-unfolding numbers_in list_at number_at is_numeral
-numbers_none = refl
-
-numbers_some : (i : ℕ) (rest : List ℕ) → AllByRecursion (λ n. n < 2 ^ 64) (i ∷ rest) → numbers_in (list_text (i ∷ rest)) ≡ i ∷ rest
-unfolding numbers_in Cutting.list_text
-numbers_some i rest h =
-    let law = list_reads 44 (number_reads (2 ^ 64) (omega arith)) (λ n small. decimal_lacks n 44 small refl) in
-    rw (law.whole (i ∷ rest) (record { some = λ e. (cc); each = h })) refl
-
-numbers_whole : (list : List ℕ) → AllByRecursion (λ n. n < 2 ^ 64) list → numbers_in (list_text list) ≡ list
-numbers_whole [] h = numbers_none
-numbers_whole (i ∷ rest) h = numbers_some i rest h
-
-listed_small : (p : ℕ → Bool) (first n : ℕ) → first + n < 2 ^ 64 → AllByRecursion (λ i. i < 2 ^ 64) (filter p (numbers_from first n))
+listed_small : (p : ℕ → Bool) (first n : ℕ) → first + n < 66 → AllByRecursion (λ i. i < 65) (filter p (numbers_from first n))
 listed_small p first zero h = tt
 listed_small p first (suc n) h =
-    let rest : AllByRecursion (λ i. i < 2 ^ 64) (filter p (numbers_from (suc first) n)) = listed_small p (suc first) n (omega arith) in
-    elim (p first) as (λ b. AllByRecursion (λ i. i < 2 ^ 64) (cond b (first ∷ filter p (numbers_from (suc first) n)) (filter p (numbers_from (suc first) n)))) [
+    let rest : AllByRecursion (λ i. i < 65) (filter p (numbers_from (suc first) n)) = listed_small p (suc first) n (omega arith) in
+    elim (p first) as (λ b. AllByRecursion (λ i. i < 65) (cond b (first ∷ filter p (numbers_from (suc first) n)) (filter p (numbers_from (suc first) n)))) [
       | true ↦ (omega arith, rest)
       | false ↦ rest
     ]
@@ -89,13 +79,10 @@ bits_from up k (suc n) h =
     let same : eqb (up / 2 ^ k % 2) 1 ≡ is_up up (k + 1) = ap (λ z. eqb (up / 2 ^ z % 2) 1) (sym before) in
     bits_step up k (filter (is_up up) (numbers_from (suc (k + 1)) n)) (is_up up (k + 1)) same ih
 
-up_whole_to : (up n : ℕ) → n < 100 → up < 2 ^ n → bits_of (numbers_in (list_text (filter (is_up up) (numbers_from 1 n)))) ≡ up
-up_whole_to up n few h =
-    let all : up / 2 ^ 0 ≡ up = omega arith in
-    let small : up / 2 ^ 0 < 2 ^ n = rw all h in
-    ap bits_of (numbers_whole (filter (is_up up) (numbers_from 1 n)) (listed_small (is_up up) 1 n (omega arith)))
-    ∙ bits_from up 0 n small ∙ (omega arith)
-
-pub up_whole : (up : ℕ) → up < 2 ^ 64 → bits_of (numbers_in (up_text up)) ≡ up
+pub up_whole : (up : ℕ) → up < 2 ^ 64 → option_map bits_of (numbers_at (up_text up)) ≡ Some up
 unfolding up_text
-up_whole up h = up_whole_to up 64 (lit< tt) h
+up_whole up small =
+    let all : up / 2 ^ 0 ≡ up = omega arith in
+    let within : up / 2 ^ 0 < 2 ^ 64 = rw all small in
+    ap (option_map bits_of) (numbers_whole (filter (is_up up) (numbers_from 1 64)) (listed_small (is_up up) 1 64 (omega arith)))
+    ∙ ap Some (bits_from up 0 64 within ∙ (omega arith))

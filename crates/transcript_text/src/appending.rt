@@ -1,6 +1,7 @@
 //! Appending to bytes. Where memory runs out the bytes are as before.
-ghost use Rattle.std.specs.Prelude.{◌≡◌, ◌++◌, OnOk, OnErr, IfSome};
-ghost use Rattle.transcript_text.specs.Pieces.{names_text};
+ghost use Rattle.std.specs.Prelude.{◌≡◌, ◌++◌, map, OnOk, OnErr, IfSome};
+ghost use Rattle.std.specs.String.{string_bytes};
+ghost use Rattle.transcript_text.specs.LineFields.{names_text};
 
 use arrayvec::ArrayString;
 use net_types::{NoMemory, append_bytes};
@@ -25,7 +26,7 @@ pub fn append_both(first: &[u8], second: &[u8], into: &mut Vec<u8>) -> Result<()
 
 /// The names of files, each after a blank.
 pub fn append_names(names: &[String], into: &mut Vec<u8>) -> Result<(), NoMemory>
-    ensures ok { OnOk result (into.new.items ≡ into.old.items ++ names_text names.now) }
+    ensures ok { OnOk result (into.new.items ≡ into.old.items ++ names_text (map string_bytes names.now)) }
     ensures err { OnErr result (into.new.items ≡ into.old.items) }
 {
     let len = into.len();

@@ -3,11 +3,11 @@
 
 mod appending;
 mod carriers;
+mod fields;
 mod laws;
 mod lines;
-mod pieces;
 mod printing;
 
-pub use laws::lines_apart;
+pub use laws::{lines_apart, lines_are_read};
 pub use lines::{Reading, TranscriptLine};
 pub use printing::print_line;
