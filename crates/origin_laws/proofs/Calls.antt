@@ -1,5 +1,6 @@
 -- Which lease a DHCPv6 client keeps after each call.
-use Rattle.std.proofs.Common.{◌≡◌, ◌⊎◌, inl, inr, ℕ, Bool, true, false, not, ◌&&◌, List, Option, Some, None, IfSome, option_map, refl, sym, ap, subst, ◌∙◌}
+use Rattle.std.proofs.Common.{◌≡◌, ◌⊎◌, inl, inr, ℕ, Bool, true, false, not, ◌&&◌, List, Option, Some, None, IfSome, option_map, refl, sym, subst, ◌∙◌}
+use Rattle.std.proofs.lemmas.Bool.{and_parts, both_ways}
 use Rattle.std.specs.Option.{option_and_then}
 use Rattle.machine.specs.Moment.{is_due}
 use Rattle.net_types.proofs.CaseLaws.{gated}
@@ -8,7 +9,6 @@ use Rattle.v6_message.specs.declared.kind.ServerKind6.{ServerKind6}
 use Rattle.v6_message.specs.declared.kind.ServerKind6.TheVariants.{Advertise, Reply}
 use Rattle.v6_message.specs.Replies.{Content6}
 use Rattle.lease6_text.specs.Leases.{Lease6Content}
-use Rattle.v6_client.specs.declared.exchange.Exchange6.{Exchange6}
 use Rattle.v6_client.specs.declared.states.Carrier6.{Carrier6}
 use Rattle.v6_client.specs.declared.states.Carrier6.TheVariants.{Up, Down}
 use Rattle.v6_client.specs.declared.states.Cause6.{Cause6}
@@ -16,48 +16,33 @@ use Rattle.v6_client.specs.declared.states.Cause6.TheVariants.{Lapse, Duplicate}
 use Rattle.v6_client.specs.declared.states.Keep6.{Keep6}
 use Rattle.v6_client.specs.declared.states.Keep6.TheVariants.{Stays, Clears, Takes}
 use Rattle.v6_client.specs.declared.states.Parting6.{Parting6}
+use Rattle.v6_client.specs.declared.states.State6.{State6}
+use Rattle.v6_client.specs.declared.states.State6.TheVariants.{Off, Waiting, Soliciting, Requesting, Bound, Renewing, Rebinding, Restarting, Declining}
 use Rattle.v6_client.specs.declared.states.Tell6.{Tell6}
-use Rattle.v6_client.specs.Answers.{counts, granted, is_taken, learnt, meeting_of, server_of}
-use Rattle.v6_client.specs.Calls.{carried_by, carrier_step, dates_in, due_of, fresh_in, pruned, pruned_lease, rebind_step, release_step, stands_at}
-use Rattle.v6_client.specs.Clients.{ClientContent, holds, is_at_end, is_restarting, turn_of}
+use Rattle.v6_client.specs.declared.turn.Turn6.{Turn6}
+use Rattle.v6_client.specs.Answers.{counts, granted, is_taken, learnt, meeting_of, reply_answer, server_of, takes_replies}
+use Rattle.v6_client.specs.Calls.{carried_by, carrier_step, dates_in, due_of, fresh_in, pruned_lease, rebind_step, release_step, stands_at}
+use Rattle.v6_client.specs.Clients.{ClientContent, holds, is_at_end, is_declining, is_restarting, turn_of}
+use Rattle.v6_client.specs.Hearing.{heard_row}
 use Rattle.v6_client.specs.Inputs.{duplicate_row}
 use Rattle.v6_client.specs.Items.{is_nonempty}
 use Rattle.v6_client.specs.Laws.{IsGranting}
-use Rattle.v6_client.specs.Moves.{lease_with, declining_now, given_up, kept_after, kept_left, lapsed, missing, parting_at, thinned_lease}
-use Rattle.v6_client.specs.Runs.{Turned6, answered, carrier_turned, contested_turned, hears_turned, rebind_turned, release_turned, rested, tick_turned}
+use Rattle.v6_client.specs.Moves.{declining_now, given_up, kept_after, kept_left, lapsed, missing, parting_at, thinned_lease}
+use Rattle.v6_client.specs.Runs.{Turned6, answered, carrier_turned, contested_turned, hears_turned, rebind_turned, release_turned, tick_turned}
 use Rattle.v6_client.specs.Calls.{Hears, IsAnswered}
+use Rattle.v6_client.specs.Reading.{serves}
 use Rattle.v6_client.specs.Taking.{ias_granted}
 use Rattle.v6_client.specs.Ticks.{tick_row}
 use Rattle.v6_client.proofs.Granting.{keeps_granted}
 use Rattle.v6_client.proofs.KeptOrigins.{grants_origin}
 use Rattle.lease6_evidence.proofs.Turns6.{Call6, Begins, Contests, Drops, Hears as Heard, Ignores, Rebinds, Releases, Rests, run6}
-use Rattle.origin_laws.specs.Granted6.{IsOf, WasKept}
-
--- ---- leases that others came from
-
-pub of_both : (first second third : Lease6Content) → IsOf first second → IsOf second third → IsOf first third
-of_both first second third one two =
-    subst (λ (middle : Lease6Content). third ≡ lease_with third.ias middle) one two
-
-pub kept_both : (kept : Option Lease6Content) (middle lease : Lease6Content) → WasKept kept middle → IsOf middle lease → WasKept kept lease
-kept_both kept middle lease was two = record { before = was.before; was = was.was; of_it = of_both was.before middle lease was.of_it two }
-
-abbrev pub Less : (old new : Option Lease6Content) → Type 0
-Less old new = IfSome new (WasKept old)
-
-pub less_self : (kept : Option Lease6Content) → Less kept kept
-less_self None = tt
-less_self (Some lease) = record { before = lease; was = refl; of_it = refl }
-
-less_after : (f : Lease6Content → Lease6Content) → ((lease : Lease6Content) → IsOf lease (f lease)) → (kept : Option Lease6Content)
-    → Less kept (option_map f kept)
-less_after f of_it None = tt
-less_after f of_it (Some lease) = record { before = lease; was = refl; of_it = of_it lease }
+use Rattle.origin_laws.specs.Granted6.{WasKept}
+use Rattle.origin_laws.proofs.Left.{Less, left_self, less_by, less_self, pruned_left, thinned_left}
 
 -- ---- items that go before a step
 
 thinned_less : (cause : Cause6) (kept : Option Lease6Content) → Less kept (option_map (thinned_lease cause) kept)
-thinned_less cause kept = less_after (thinned_lease cause) (λ lease. refl) kept
+thinned_less cause kept = less_by (thinned_lease cause) (thinned_left cause) kept
 
 left_less : (cause : Cause6) (parting : Parting6) (kept : Option Lease6Content) → Less kept (kept_left cause parting kept)
 left_less cause parting kept = gated (Less kept) parting.stays _ kept (thinned_less cause kept) (less_self kept)
@@ -78,7 +63,7 @@ given_up_less address parting c =
 
 carried_less : (carrier : Carrier6) (at : ℕ) (c : ClientContent) → Lessens c (carried_by carrier at c)
 carried_less Up at c =
-    gated (Lessens c) (stands_at at c) _ c (less_after (pruned_lease at c.settings.asks) (λ lease. refl) c.kept) (less_self c.kept)
+    gated (Lessens c) (stands_at at c) _ c (less_by (pruned_lease at c.settings.asks) (pruned_left at c.settings.asks) c.kept) (less_self c.kept)
 carried_less Down at c = less_self c.kept
 
 -- ---- calls without a message
@@ -143,10 +128,63 @@ heard_keeps at salt message c lease kept =
     keeps_granted c (hears_turned at salt message c).client message at salt (hears_turned at salt message c).out lease
     (hears_itself at salt message c) kept
 
--- ---- any call
+-- a granted lease is kept
+takes_grant : (turn : Turn6) (rapid : Bool) (state : State6) (kept : Option Lease6Content) (lease : Lease6Content) → takes_replies rapid state ≡ true
+    → kept_after (heard_row turn (reply_answer (is_declining state) true kept (Some lease)) state).keep (Some lease) kept ≡ Some lease
+takes_grant turn rapid Off kept lease takes = absurd cc
+takes_grant turn rapid (Waiting due) kept lease takes = absurd cc
+takes_grant turn rapid (Soliciting exchange offer) kept lease takes = refl
+takes_grant turn rapid (Requesting exchange) kept lease takes = refl
+takes_grant turn rapid Bound kept lease takes = absurd cc
+takes_grant turn rapid (Renewing exchange) kept lease takes = refl
+takes_grant turn rapid (Rebinding exchange) kept lease takes = refl
+takes_grant turn rapid (Restarting exchange end since stands) kept lease takes = refl
+takes_grant turn rapid (Declining exchange) kept lease takes = absurd cc
 
-abbrev pub IsCall : Call6 → Content6 → Type 0
-IsCall call message = call ≡ Heard message
+granting_keeps : (at salt : ℕ) (message : Content6) (c : ClientContent) (lease : Lease6Content) → IsGranting at message c lease
+    → (hears_turned at salt message c).client.kept ≡ Some lease
+unfolding hears_turned
+granting_keeps at salt message c lease g =
+    let turn : Turn6 = turn_of at salt (learnt message.sol_max c) in
+    let takes = and_parts (takes_replies (message.rapid && c.settings.site.rapid) c.state) (serves c.settings.asks message) g.taken in
+    rw g.counted (subst (λ (kind : ServerKind6). (answered at salt message kind (learnt message.sol_max c)).client.kept ≡ Some lease) (sym g.reply)
+    (subst (λ (fresh : Option Lease6Content).
+    kept_after (heard_row turn (reply_answer (is_declining c.state) (is_taken c message) c.kept fresh) c.state).keep fresh c.kept ≡ Some lease)
+    (sym g.grants)
+    (subst (λ (taken : Bool).
+    kept_after (heard_row turn (reply_answer (is_declining c.state) taken c.kept (Some lease)) c.state).keep (Some lease) c.kept ≡ Some lease)
+    (sym g.taken) (takes_grant turn (message.rapid && c.settings.site.rapid) c.state c.kept lease takes.0))))
+
+-- whether the message grants a lease
+abbrev GrantsNothing : (at : ℕ) → Content6 → ClientContent → Type 0
+GrantsNothing at message c = (lease : Lease6Content) → IsGranting at message c lease → ⊥
+
+pub record GrantsSome (at : ℕ) (message : Content6) (c : ClientContent) : Type 0 where
+  pub lease : Lease6Content
+  pub grants : IsGranting at message c lease
+
+unlike_kinds : (kind : ServerKind6) → kind ≡ Advertise → kind ≡ Reply → ⊥
+unlike_kinds kind a r = cc
+
+none_some : (fresh : Option Lease6Content) (lease : Lease6Content) → fresh ≡ None → fresh ≡ Some lease → ⊥
+none_some fresh lease none some = cc
+
+grants_or_not : (at : ℕ) (message : Content6) (c : ClientContent) → GrantsSome at message c ⊎ GrantsNothing at message c
+grants_or_not at message c =
+    decide (counts c message) message.kind (is_taken c message) (fresh_in at (learnt message.sol_max c) message) refl refl refl refl
+  where
+    decide : (counted : Bool) (kind : ServerKind6) (taken : Bool) (fresh : Option Lease6Content) → counts c message ≡ counted
+        → message.kind ≡ kind → is_taken c message ≡ taken → fresh_in at (learnt message.sol_max c) message ≡ fresh
+        → GrantsSome at message c ⊎ GrantsNothing at message c
+    decide true Reply true (Some lease) counted kind taken fresh =
+        inl (record { lease = lease; grants = record { counted = counted; reply = kind; taken = taken; grants = fresh } })
+    decide false said takes gives counted kind taken fresh = inr (λ lease g. both_ways (counts c message) counted g.counted)
+    decide true Advertise takes gives counted kind taken fresh = inr (λ lease g. unlike_kinds message.kind kind g.reply)
+    decide true Reply false gives counted kind taken fresh = inr (λ lease g. both_ways (is_taken c message) taken g.taken)
+    decide true Reply true None counted kind taken fresh =
+        inr (λ lease g. none_some (fresh_in at (learnt message.sol_max c) message) lease fresh g.grants)
+
+-- ---- any call
 
 -- a call by which a Reply grants a lease
 pub record GrantsBy (call : Call6) (at : ℕ) (c : ClientContent) (lease : Lease6Content) : Type 0 where
@@ -154,29 +192,54 @@ pub record GrantsBy (call : Call6) (at : ℕ) (c : ClientContent) (lease : Lease
   pub is_call : call ≡ Heard message
   pub grants : IsGranting at message c lease
 
-abbrev pub KeepsBy : Call6 → (at : ℕ) → (old new : ClientContent) → Type 0
-KeepsBy call at old new = (lease : Lease6Content) → new.kept ≡ Some lease → WasKept old.kept lease ⊎ GrantsBy call at old lease
+-- one by which none does
+abbrev pub GrantsNoneBy : Call6 → (at : ℕ) → ClientContent → Type 0
+GrantsNoneBy call at c = (message : Content6) (lease : Lease6Content) → call ≡ Heard message → IsGranting at message c lease → ⊥
 
-less_keeps : (call : Call6) (at : ℕ) (old new : ClientContent) → Lessens old new → KeepsBy call at old new
-less_keeps call at old new less lease is = inl (subst (λ (kept : Option Lease6Content). Less old.kept kept) is less)
+abbrev pub KeepsBy : Call6 → (at : ℕ) → (old new : ClientContent) → Type 0
+KeepsBy call at old new =
+    (lease : Lease6Content) → new.kept ≡ Some lease → (WasKept old.kept lease × GrantsNoneBy call at old) ⊎ GrantsBy call at old lease
+
+less_keeps : (call : Call6) (at : ℕ) (old new : ClientContent) → ((message : Content6) → call ≡ Heard message → ⊥) → Lessens old new
+    → KeepsBy call at old new
+less_keeps call at old new never less lease is =
+    inl (subst (λ (kept : Option Lease6Content). Less old.kept kept) is less, λ message given heard grants. never message heard)
+
+same_message : (one other : Content6) → Heard one ≡ Heard other → one ≡ other
+same_message one other is = cc
+
+same_lease : (one other : Lease6Content) → Some one ≡ Some other → one ≡ other
+same_lease one other is = cc
 
 hears_keeps : (message : Content6) (at salt : ℕ) (c : ClientContent) → KeepsBy (Heard message) at c (hears_turned at salt message c).client
-hears_keeps message at salt c lease is = by_cases (heard_keeps at salt message c lease is)
+hears_keeps message at salt c lease is = by_grant (grants_or_not at message c)
   where
-    by_cases : IsKeptOrGranted at message c lease → WasKept c.kept lease ⊎ GrantsBy (Heard message) at c lease
-    by_cases (inl kept) = inl (record { before = lease; was = kept; of_it = refl })
-    by_cases (inr grants) = inr (record { message = message; is_call = refl; grants = grants })
+    by_keep : GrantsNothing at message c → IsKeptOrGranted at message c lease → WasKept c.kept lease
+    by_keep never (inl kept) = record { before = lease; was = kept; left = left_self lease }
+    by_keep never (inr grants) = absurd (never lease grants)
+
+    by_grant : GrantsSome at message c ⊎ GrantsNothing at message c
+        → (WasKept c.kept lease × GrantsNoneBy (Heard message) at c) ⊎ GrantsBy (Heard message) at c lease
+    by_grant (inl some) =
+        let same : some.lease ≡ lease = same_lease some.lease lease (sym (granting_keeps at salt message c some.lease some.grants) ∙ is) in
+        inr (record { message = message; is_call = refl; grants = subst (λ (l : Lease6Content). IsGranting at message c l) same some.grants })
+    by_grant (inr never) = inl (
+      by_keep never (heard_keeps at salt message c lease is),
+      λ other given heard grants.
+          never given (subst (λ (m : Content6). IsGranting at m c given) (sym (same_message message other heard)) grants),
+    )
 
 pub call_keeps : (call : Call6) (at salt : ℕ) (c : ClientContent) → KeepsBy call at c (run6 call at salt c).client
-call_keeps Ignores at salt c = less_keeps Ignores at c c (less_self c.kept)
-call_keeps Rests at salt c = less_keeps Rests at c c (less_self c.kept)
+call_keeps Ignores at salt c = less_keeps Ignores at c c (λ message h. cc) (less_self c.kept)
+call_keeps Rests at salt c = less_keeps Rests at c c (λ message h. cc) (less_self c.kept)
 call_keeps (Heard message) at salt c = hears_keeps message at salt c
-call_keeps Begins at salt c = less_keeps Begins at c (carrier_turned Up at salt c).client (carrier_less Up at salt c)
-call_keeps Drops at salt c = less_keeps Drops at c (carrier_turned Down at salt c).client (carrier_less Down at salt c)
+call_keeps Begins at salt c = less_keeps Begins at c (carrier_turned Up at salt c).client (λ message h. cc) (carrier_less Up at salt c)
+call_keeps Drops at salt c = less_keeps Drops at c (carrier_turned Down at salt c).client (λ message h. cc) (carrier_less Down at salt c)
 call_keeps (Contests address) at salt c =
-    less_keeps (Contests address) at c (contested_turned address at salt c).client (contested_less address at salt c)
-call_keeps (Releases tell) at salt c = less_keeps (Releases tell) at c (release_turned tell at salt c).client (release_less tell at salt c)
-call_keeps Rebinds at salt c = less_keeps Rebinds at c (rebind_turned at salt c).client (rebind_less at salt c)
+    less_keeps (Contests address) at c (contested_turned address at salt c).client (λ message h. cc) (contested_less address at salt c)
+call_keeps (Releases tell) at salt c =
+    less_keeps (Releases tell) at c (release_turned tell at salt c).client (λ message h. cc) (release_less tell at salt c)
+call_keeps Rebinds at salt c = less_keeps Rebinds at c (rebind_turned at salt c).client (λ message h. cc) (rebind_less at salt c)
 
 -- ---- what a granted lease tells
 

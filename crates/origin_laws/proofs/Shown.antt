@@ -1,8 +1,7 @@
 -- The Reply that granted a kept DHCPv6 lease is the first good one of an exchange that the interface's frames show.
-use Rattle.std.proofs.Common.{◌≡◌, ◌⊎◌, inl, inr, ℕ, Bool, true, false, not, ◌&&◌, List, [], ◌∷◌, Option, Some, None, IfSome, refl, sym, ap, subst, ◌∙◌}
+use Rattle.std.proofs.Common.{◌≡◌, ◌⊎◌, inl, inr, ℕ, Bool, true, false, List, [], ◌∷◌, Option, Some, None, IfSome, refl, sym, ap, subst, ◌∙◌}
 use Rattle.std.specs.Option.{option_map}
 use Rattle.std.specs.Prelude.{◌==◌}
-use Rattle.std.specs.List.{AllByRecursion}
 use Rattle.machine.specs.Since.{Since}
 use Rattle.net_types.proofs.AllLaws.{all_map}
 use Rattle.net_types.proofs.CaseLaws.{gated}
@@ -22,7 +21,7 @@ use Rattle.v6_client.specs.Calls.{fresh_in}
 use Rattle.v6_client.specs.Clients.{ClientContent, is_declining, turn_of}
 use Rattle.v6_client.specs.Hearing.{heard_row}
 use Rattle.v6_client.specs.Laws.{IsGranting}
-use Rattle.v6_client.specs.Runs.{Turned6, answered, hears_turned, rested, tick_turned}
+use Rattle.v6_client.specs.Runs.{Turned6, answered, hears_turned, tick_turned}
 use Rattle.world.specs.declared.wakes.Event.{Event}
 use Rattle.world.specs.declared.wakes.Event.TheVariants.{Frame, Carrier, Duplicate, Release, Rebind, Stop, Quiet, End}
 use Rattle.client_model.specs.declared.interfaces.Iface.{Iface}
@@ -39,7 +38,7 @@ use Rattle.lease_evidence.proofs.Spoken.{FitsSaid}
 use Rattle.lease6_evidence.specs.Exchanges6.{Seen6, seen6_in, shows6}
 use Rattle.lease6_evidence.specs.Replies6.{message6_at, message6_on}
 use Rattle.lease6_evidence.proofs.Bytes6.{HasBytes, heard_typed}
-use Rattle.lease6_evidence.proofs.Calls6.{by_parts, tick_keeps}
+use Rattle.lease6_evidence.proofs.Calls6.{by_parts}
 use Rattle.lease6_evidence.proofs.ClientTurns6.{Carries6, FitsSite, call_result, tick_carries, tick_result}
 use Rattle.lease6_evidence.proofs.ExchangeStates.{IsFirst, Takes6, Watched6}
 use Rattle.lease6_evidence.proofs.Fields6.{confs_fit}
@@ -49,10 +48,10 @@ use Rattle.lease6_evidence.proofs.Life6.{Faced6}
 use Rattle.lease6_evidence.proofs.Spoken6.{FitsFour, seen_after}
 use Rattle.lease6_evidence.proofs.Steps6.{message_in}
 use Rattle.lease6_evidence.proofs.Turns6.{Hears}
-use Rattle.origin_laws.specs.Granted6.{WasKept, IsGrantedIn, client_at, origin_at}
+use Rattle.origin_laws.specs.Granted6.{WasKept, IsGrantedIn, client_at}
 use Rattle.origin_laws.specs.Origins6.{Confirms6, KeptLeasesTellOrigins6}
 use Rattle.origin_laws.proofs.Calls.{granted_server}
-use Rattle.origin_laws.proofs.Turns.{Granted, GrantsIn, kept_or_granted}
+use Rattle.origin_laws.proofs.Turns.{Granted, GrantsIn, KeptOrGrantedSo, kept_or_granted}
 
 -- ---- a Reply is answered with nothing
 
@@ -202,7 +201,7 @@ module _ (own : List Mac) (beginning : Beginning) (opening : Opening) (fits : Fi
           opened = first.opened;
           message = was.message;
           reply = first.first;
-          server = granted_server met.turn.at was.message c1 was.given was.grants ∙ ap (λ (l : Lease6Content). Some l.server) (sym was.of_it);
+          server = granted_server met.turn.at was.message c1 was.given was.grants ∙ ap (λ (l : Lease6Content). Some l.server) (sym was.left.rest);
           origin = was.origin;
         }
 
@@ -215,7 +214,7 @@ module _ (own : List Mac) (beginning : Beginning) (opening : Opening) (fits : Fi
 pub kept_leases_tell_origins : KeptLeasesTellOrigins6
 kept_leases_tell_origins own beginning opening mets lease fits typed lived kept = by (kept_or_granted own beginning opening mets lease kept)
   where
-    by : WasKept beginning.kept6 lease ⊎ Granted own beginning opening lease mets
+    by : KeptOrGrantedSo own beginning opening lease mets
         → WasKept beginning.kept6 lease ⊎ Since (λ e past. Unit {0}) (Confirms6 (site_of own beginning opening) lease) (shown opening mets)
-    by (inl was) = inl was
+    by (inl was) = inl was.0
     by (inr since) = inr (all_confirmed own beginning opening fits typed lease mets lived since)

@@ -1,16 +1,26 @@
 -- Over all turns of an interface: its kept DHCPv6 lease is that of its file, or a Reply granted it in one of them.
-use Rattle.std.proofs.Common.{◌≡◌, ◌⊎◌, inl, inr, ℕ, Bool, true, false, ◌||◌, List, [], ◌∷◌, ◌++◌, Option, Some, None, IfSome, refl, sym, ap, subst, ◌∙◌}
+use Rattle.std.proofs.Common.{◌≡◌, ◌⊎◌, inl, inr, ℕ, Bool, true, false, ◌||◌, List, [], ◌∷◌, ◌++◌, Option, Some, None, refl, sym, ap, subst, ◌∙◌, is_some, ◌&&◌}
+use Rattle.std.proofs.lemmas.Bool.{both_ways}
 use Rattle.std.specs.Prelude.{option_to_list}
-use Rattle.machine.specs.Since.{Since}
+use Rattle.machine.specs.Moment.{is_due}
+use Rattle.machine.specs.Since.{Since, Always}
 use Rattle.net_types.proofs.CaseLaws.{gated}
 use Rattle.net_types.specs.declared.address.Mac.{Mac}
 use Rattle.v6_message.specs.Replies.{Content6}
 use Rattle.v6_frames.specs.Spelled.{Sent6}
 use Rattle.lease6_text.specs.Leases.{Lease6Content}
 use Rattle.v6_client.specs.declared.states.Carrier6.TheVariants.{Up}
-use Rattle.v6_client.specs.Clients.{ClientContent, client_made}
+use Rattle.v6_client.specs.declared.states.Cause6.TheVariants.{Lapse}
+use Rattle.v6_client.specs.declared.states.State6.{State6}
+use Rattle.v6_client.specs.declared.states.State6.TheVariants.{Off}
+use Rattle.v6_client.specs.Answers.{awaited, chosen, counts, has_bytes, is_awaited, is_from}
+use Rattle.v6_client.specs.Calls.{dates_in, due_of}
+use Rattle.v6_client.specs.Clients.{ClientContent, client_made, turn_of}
+use Rattle.v6_client.specs.Moves.{parting_at}
+use Rattle.v6_client.specs.Saying.{lease_server, plea_server}
+use Rattle.v6_client.specs.Ticks.{tick_row}
 use Rattle.v6_client.specs.Laws.{IsGranting}
-use Rattle.v6_client.specs.Runs.{Turned6, carrier_turned, hears_turned, rested, tick_turned}
+use Rattle.v6_client.specs.Runs.{Turned6, hears_turned, release_turned, tick_turned}
 use Rattle.v6_client.specs.Settings.{SettingsContent}
 use Rattle.v6_client.proofs.StayingRuns.{settings_stay}
 use Rattle.settings.specs.declared.interfaces.Managed.{Managed}
@@ -19,16 +29,18 @@ use Rattle.client_model.specs.declared.interfaces.Iface.{Iface}
 use Rattle.client_model.specs.ClientSettings6.{runs_dhcp6, settings6_of}
 use Rattle.client_model.specs.IfaceSteps.{IfaceStep, index_of}
 use Rattle.client_model.specs.IfaceTurns.{iface_turned, input_step}
-use Rattle.client_model.specs.Interfaces.{begins, carrier_at_opening, resting, ticked, unsent_in}
+use Rattle.client_model.specs.Interfaces.{carrier_at_opening, resting, ticked, unsent_in}
 use Rattle.client_model.specs.KeptLeases.{Beginning}
 use Rattle.evidence_words.specs.Entries.{Entry}
-use Rattle.evidence_words.specs.IfaceLives.{Met, Opening, entry_of, iface_after, opening_entry, opens, shown, site_of}
+use Rattle.evidence_words.specs.IfaceLives.{Met, Opening, entry_of, iface_after, opening_entry, shown, site_of}
 use Rattle.evidence_words.specs.Inputs.{Site, carrier_after, has_carrier, index_at, is_stop}
 use Rattle.lease6_evidence.specs.Replies6.{message6_at}
+use Rattle.lease6_evidence.proofs.StandingCalls6.{release_off}
 use Rattle.lease6_evidence.proofs.Steps6.{Does, message_in, sixes, sixes_join}
-use Rattle.lease6_evidence.proofs.Turns6.{Call6, Begins, Contests, Drops, FitsCall6, Hears, Ignores, InputRuns, Rebinds, Releases, Rests, begins_or_rests, begins_run, input_runs, run6, says_of, ticks_run}
-use Rattle.origin_laws.specs.Granted6.{IsGranted, IsGrantedIn, IsOf, KeptLeasesAreGranted6, WasKept, client_at, origin_at}
-use Rattle.origin_laws.proofs.Calls.{GrantsBy, Less, call_keeps, carrier_less, granted_origin, kept_both, less_self, of_both, tick_less}
+use Rattle.lease6_evidence.proofs.Turns6.{Call6, Begins, Contests, Drops, FitsCall6, Hears, Ignores, InputRuns, IsHalt, Rebinds, Releases, Rests, begins_or_rests, begins_run, input_runs, run6, says_of, ticks_run}
+use Rattle.origin_laws.specs.Granted6.{GrantsNone, IsGrantedIn, IsLeftOf, KeptLeasesAreGranted6, WasKept, client_at}
+use Rattle.origin_laws.proofs.Calls.{GrantsBy, GrantsNoneBy, call_keeps, carrier_less, granted_origin, tick_less}
+use Rattle.origin_laws.proofs.Left.{Less, kept_both, left_both, left_self, less_self}
 
 -- a Reply is heard, and the interface says what its client says of DHCPv6, at the tick and then
 pub record HearsIn (site : Site) (message : Content6) (met : Met) (f : Iface) : Type 0 where
@@ -46,6 +58,7 @@ pub record GrantsIn (site : Site) (lease : Lease6Content) (met : Met) (f : Iface
 pub record Stands (site : Site) (past : List Entry) (f : Iface) : Type 0 where
   pub managed : f.managed ≡ site.managed
   pub carrier : f.stopped ≡ false → f.up ≡ has_carrier site past
+  pub off : f.stopped ≡ true → f.dhcp6.state ≡ Off
   pub settings : f.dhcp6.settings ≡ settings6_of site.duid site.managed
 
 -- ---- a turn
@@ -72,6 +85,33 @@ call_settings Drops at salt c = (settings_stay c at salt).carrier _
 call_settings (Contests address) at salt c = (settings_stay c at salt).duplicate address
 call_settings (Releases tell) at salt c = (settings_stay c at salt).release tell
 call_settings Rebinds at salt c = (settings_stay c at salt).rebind
+
+-- ---- a client that is off
+
+tick_off : (at salt : ℕ) (c : ClientContent) → c.state ≡ Off → (tick_turned at salt c).client.state ≡ Off
+unfolding tick_turned
+tick_off at salt c off =
+    gated (λ (turned : Turned6). turned.client.state ≡ Off) (is_due (due_of c) at) _ _
+    (subst (λ (s : State6). (tick_row (turn_of at salt c) (dates_in c) (parting_at (Lapse at) c) s).state ≡ Off) (sym off) refl) off
+
+run_off : (at salt : ℕ) (call : Call6) (c : ClientContent) → IsHalt call → (call ≡ Ignores → c.state ≡ Off) → (run6 call at salt c).client.state ≡ Off
+unfolding release_turned
+run_off at salt Ignores c h off = off refl
+run_off at salt (Releases tell) c h off = release_off (turn_of at salt c) tell (is_some c.kept) c.state
+run_off at salt Rests c h off = absurd h
+run_off at salt (Hears message) c h off = absurd h
+run_off at salt Begins c h off = absurd h
+run_off at salt Drops c h off = absurd h
+run_off at salt (Contests address) c h off = absurd h
+run_off at salt Rebinds c h off = absurd h
+
+counts_not : (c : ClientContent) (message : Content6) → c.state ≡ Off → counts c message ≡ true → ⊥
+counts_not c message off counted =
+    not_awaited (subst (λ (s : State6). (is_awaited (awaited c.last s) message.xid && has_bytes message.client c.settings.duid
+    && is_from (chosen s (lease_server c.kept) (plea_server c.plea)) message.server) ≡ true) off counted)
+  where
+    not_awaited : false ≡ true → ⊥
+    not_awaited h = cc
 
 module _ (site : Site) (past : List Entry) (met : Met) (f : Iface) (stands : Stands site past f) where
   abbrev at : ℕ
@@ -136,6 +176,9 @@ module _ (site : Site) (past : List Entry) (met : Met) (f : Iface) (stands : Sta
     client2 : input.iface.dhcp6 ≡ (run6 runs.call at salt c1).client
     client2 = runs.client_is ∙ ap (λ (d : ClientContent). (run6 runs.call at salt d).client) client1
 
+    ignores_off : runs.call ≡ Ignores → c1.state ≡ Off
+    ignores_off is = tick_off at salt c0 (stands.off (sym stopped1 ∙ runs.ignores is))
+
     not_or : (a b : Bool) → (a || b) ≡ false → b ≡ false
     not_or true b h = absurd cc
     not_or false b h = h
@@ -146,6 +189,7 @@ module _ (site : Site) (past : List Entry) (met : Met) (f : Iface) (stands : Sta
       carrier = λ h.
           let before : g1.stopped ≡ false = not_or (is_stop met.turn.event) g1.stopped (sym runs.stopped ∙ h) in
           runs.up before ∙ ap (carrier_after (index_at site) met.turn.event) (carrier1 before);
+      off = λ h. ap (λ (d : ClientContent). d.state) client2 ∙ run_off at salt runs.call c1 (runs.halts h) ignores_off;
       settings = ap (λ (d : ClientContent). d.settings) client2 ∙ call_settings runs.call at salt c1 ∙ settings1;
     }
 
@@ -157,29 +201,56 @@ module _ (site : Site) (past : List Entry) (met : Met) (f : Iface) (stands : Sta
         runs.says_are ∙ says_same g1.managed g1.dhcp6 c1 (run6 runs.call at salt) managed1 client1 settings1 in
         sixes_join tick.said input.said ∙ (λ i. first i ++ second i)
 
+    -- ---- what is granted
+
+    no_message : (message : Content6) → message6_at site (entry_of met) ≡ None → message6_at site (entry_of met) ≡ Some message → ⊥
+    no_message message none came = unlike message (sym none ∙ came)
+      where
+        unlike : (message : Content6) → None ≡ Some message → ⊥
+        unlike message h = cc
+
+    -- a call by which no Reply grants a lease, where none else came in
+    grants_none : (call : Call6) → FitsCall6 site (entry_of met) past call → (call ≡ Ignores → c1.state ≡ Off) → GrantsNoneBy call at c1
+        → GrantsNone site met f
+    grants_none Ignores fits off none message given came grants = counts_not c1 message (off refl) grants.counted
+    grants_none Rests fits off none message given came grants = no_message message fits.1 came
+    grants_none (Hears heard) fits off none message given came grants = none message given (ap Hears (one_is heard message (sym fits.1 ∙ came))) grants
+      where
+        one_is : (one other : Content6) → Some one ≡ Some other → one ≡ other
+        one_is one other is = cc
+    grants_none Begins fits off none message given came grants = no_message message fits.1 came
+    grants_none Drops fits off none message given came grants = no_message message fits came
+    grants_none (Contests address) fits off none message given came grants = no_message message fits.1 came
+    grants_none (Releases tell) fits off none message given came grants = no_message message fits came
+    grants_none Rebinds fits off none message given came grants = no_message message fits.1 came
+
     -- the lease was kept before the turn, or is granted in it
     abbrev KeptOrGranted : Lease6Content → Type 0
     KeptOrGranted lease =
-        WasKept f.dhcp6.kept lease
+        (WasKept f.dhcp6.kept lease × GrantsNone site met f)
         ⊎ ((message : Content6) × (message6_at site (entry_of met) ≡ Some message) × IsGranting at message c1 lease
         × (sixes (tick.said ++ input.said) ≡ said (tick_turned at salt c0) ++ said (hears_turned at salt message c1)))
 
-    by_call : (lease : Lease6Content) (call : Call6) → FitsCall6 site (entry_of met) past call
+    by_call : (lease : Lease6Content) (call : Call6) → FitsCall6 site (entry_of met) past call → (call ≡ Ignores → c1.state ≡ Off)
         → sixes (tick.said ++ input.said) ≡ said (tick_turned at salt c0) ++ said (run6 call at salt c1)
-        → WasKept c1.kept lease ⊎ GrantsBy call at c1 lease → KeptOrGranted lease
-    by_call lease call fits says (inl was) =
+        → (WasKept c1.kept lease × GrantsNoneBy call at c1) ⊎ GrantsBy call at c1 lease → KeptOrGranted lease
+    by_call lease call fits off says (inl (was, none)) =
         let before : WasKept f.dhcp6.kept was.before =
         subst (λ (kept : Option Lease6Content). Less f.dhcp6.kept kept) was.was (tick_less at salt c0) in
-        inl (kept_both f.dhcp6.kept was.before lease before was.of_it)
-    by_call lease call fits says (inr grants) =
+        inl (kept_both f.dhcp6.kept was.before lease before was.left, grants_none call fits off none)
+    by_call lease call fits off says (inr grants) =
         let heard : FitsCall6 site (entry_of met) past (Hears grants.message) =
         subst (λ (k : Call6). FitsCall6 site (entry_of met) past k) grants.is_call fits in
-        inr (grants.message, heard.1, grants.grants,
-        subst (λ (k : Call6). sixes (tick.said ++ input.said) ≡ said (tick_turned at salt c0) ++ said (run6 k at salt c1)) grants.is_call says)
+        inr (
+          grants.message,
+          heard.1,
+          grants.grants,
+          subst (λ (k : Call6). sixes (tick.said ++ input.said) ≡ said (tick_turned at salt c0) ++ said (run6 k at salt c1)) grants.is_call says,
+        )
 
     kept_in_turn : (lease : Lease6Content) → input.iface.dhcp6.kept ≡ Some lease → KeptOrGranted lease
     kept_in_turn lease kept =
-        by_call lease runs.call runs.fits says_are
+        by_call lease runs.call runs.fits ignores_off says_are
         (call_keeps runs.call at salt c1 lease (ap (λ (d : ClientContent). d.kept) (sym client2) ∙ kept))
 
   pub turn_stands : Stands site (entry_of met ∷ past) (iface_turned site.own met.turn f).iface
@@ -187,7 +258,7 @@ module _ (site : Site) (past : List Entry) (met : Met) (f : Iface) (stands : Sta
 
   granted_now : (lease : Lease6Content)
       → KeptOrGranted (unsent_in met.turn.unsent at salt f) (unsent_same met.turn.unsent at salt f) lease
-      → WasKept f.dhcp6.kept lease ⊎ GrantsIn site lease met f
+      → (WasKept f.dhcp6.kept lease × GrantsNone site met f) ⊎ GrantsIn site lease met f
   granted_now lease (inl was) = inl was
   granted_now lease (inr (message, came, grants, says)) = inr (record {
     granted = record {
@@ -195,14 +266,14 @@ module _ (site : Site) (past : List Entry) (met : Met) (f : Iface) (stands : Sta
       came = came;
       given = lease;
       grants = grants;
-      of_it = refl;
+      left = left_self lease;
       origin = granted_origin at message c1 lease grants ∙ ap (λ (s : SettingsContent). Some (record { mac = s.site.iface.mac; confirmed = at })) settings1;
     };
     hears = record { came = came; says_are = says };
   })
 
   pub turn_keeps : (lease : Lease6Content) → (iface_turned site.own met.turn f).iface.dhcp6.kept ≡ Some lease
-      → WasKept f.dhcp6.kept lease ⊎ GrantsIn site lease met f
+      → (WasKept f.dhcp6.kept lease × GrantsNone site met f) ⊎ GrantsIn site lease met f
   turn_keeps lease kept =
       granted_now lease (kept_in_turn (unsent_in met.turn.unsent at salt f) (unsent_same met.turn.unsent at salt f) lease kept)
 
@@ -241,9 +312,10 @@ module _ (own : List Mac) (beginning : Beginning) (opening : Opening) where
       record {
         managed = does.managed;
         carrier = λ h. does.up ∙ sym is;
+        off = λ h. absurd (both_ways _ does.stopped h);
         settings = ap (λ (d : ClientContent). d.settings) does.client_is ∙ begins_settings (runs_dhcp6 beginning.managed.conf);
       }
-  opened_stands false is = record { managed = refl; carrier = λ h. sym is; settings = refl }
+  opened_stands false is = record { managed = refl; carrier = λ h. sym is; off = λ h. absurd cc; settings = refl }
 
   opened_less : (u : Bool) → Less beginning.kept6 (opened_when u).dhcp6.kept
   opened_less true =
@@ -257,11 +329,14 @@ module _ (own : List Mac) (beginning : Beginning) (opening : Opening) where
   stands_after [] = opened_stands up refl
   stands_after (met ∷ mets) = turn_stands life (shown opening mets) met (iface mets) (stands_after mets)
 
-  abbrev pub Granted : Lease6Content → List Met → Type 0
-  Granted lease mets = Since (λ met earlier. Unit {0}) (λ met earlier. GrantsIn life lease met (iface earlier)) mets
+  abbrev pub None6 : Met → List Met → Type 0
+  None6 met earlier = GrantsNone life met (iface earlier)
 
-  grants_less : (middle lease : Lease6Content) → IsOf middle lease → (met : Met) (f : Iface) → GrantsIn life middle met f → GrantsIn life lease met f
-  grants_less middle lease of_it met f g =
+  abbrev pub Granted : Lease6Content → List Met → Type 0
+  Granted lease mets = Since None6 (λ met earlier. GrantsIn life lease met (iface earlier)) mets
+
+  grants_less : (middle lease : Lease6Content) → IsLeftOf middle lease → (met : Met) (f : Iface) → GrantsIn life middle met f → GrantsIn life lease met f
+  grants_less middle lease left met f g =
       let was : IsGrantedIn life middle met f = g.granted in
       record {
         granted = record {
@@ -269,42 +344,44 @@ module _ (own : List Mac) (beginning : Beginning) (opening : Opening) where
           came = was.came;
           given = was.given;
           grants = was.grants;
-          of_it = of_both was.given middle lease was.of_it of_it;
-          origin = ap (λ (l : Lease6Content). l.origin) of_it ∙ was.origin;
+          left = left_both was.given middle lease was.left left;
+          origin = ap (λ (l : Lease6Content). l.origin) left.rest ∙ was.origin;
         };
         hears = g.hears;
       }
 
-  granted_less : (middle lease : Lease6Content) → IsOf middle lease → (mets : List Met) → Granted middle mets → Granted lease mets
-  granted_less middle lease of_it [] since = since
-  granted_less middle lease of_it (met ∷ mets) (inl g) = inl (grants_less middle lease of_it met (iface mets) g)
-  granted_less middle lease of_it (met ∷ mets) (inr since) = inr (tt, granted_less middle lease of_it mets since.1)
+  granted_less : (middle lease : Lease6Content) → IsLeftOf middle lease → (mets : List Met) → Granted middle mets → Granted lease mets
+  granted_less middle lease left [] since = since
+  granted_less middle lease left (met ∷ mets) (inl g) = inl (grants_less middle lease left met (iface mets) g)
+  granted_less middle lease left (met ∷ mets) (inr since) = inr (since.0, granted_less middle lease left mets since.1)
 
-  abbrev KeptOrGrantedSo : Lease6Content → List Met → Type 0
-  KeptOrGrantedSo lease mets = WasKept beginning.kept6 lease ⊎ Granted lease mets
+  abbrev pub KeptOrGrantedSo : Lease6Content → List Met → Type 0
+  KeptOrGrantedSo lease mets = (WasKept beginning.kept6 lease × Always None6 mets) ⊎ Granted lease mets
 
-  later : (met : Met) (mets : List Met) (middle lease : Lease6Content) → IsOf middle lease → KeptOrGrantedSo middle mets → KeptOrGrantedSo lease (met ∷ mets)
-  later met mets middle lease of_it (inl was) = inl (kept_both beginning.kept6 middle lease was of_it)
-  later met mets middle lease of_it (inr since) = inr (inr (tt, granted_less middle lease of_it mets since))
+  later : (met : Met) (mets : List Met) (middle lease : Lease6Content) → IsLeftOf middle lease → None6 met mets → KeptOrGrantedSo middle mets
+      → KeptOrGrantedSo lease (met ∷ mets)
+  later met mets middle lease left none (inl was) = inl (kept_both beginning.kept6 middle lease was.0 left, (none, was.1))
+  later met mets middle lease left none (inr since) = inr (inr (none, granted_less middle lease left mets since))
 
   pub kept_or_granted : (mets : List Met) (lease : Lease6Content) → (iface mets).dhcp6.kept ≡ Some lease → KeptOrGrantedSo lease mets
-  kept_or_granted [] lease kept = inl (subst (λ (k : Option Lease6Content). Less beginning.kept6 k) kept (opened_less up))
+  kept_or_granted [] lease kept = inl (subst (λ (k : Option Lease6Content). Less beginning.kept6 k) kept (opened_less up), tt)
   kept_or_granted (met ∷ mets) lease kept =
       by_turn (turn_keeps life (shown opening mets) met (iface mets) (stands_after mets) lease kept) (kept_or_granted mets)
     where
-      by_turn : WasKept (iface mets).dhcp6.kept lease ⊎ GrantsIn life lease met (iface mets)
+      by_turn : (WasKept (iface mets).dhcp6.kept lease × None6 met mets) ⊎ GrantsIn life lease met (iface mets)
           → ((middle : Lease6Content) → (iface mets).dhcp6.kept ≡ Some middle → KeptOrGrantedSo middle mets)
           → KeptOrGrantedSo lease (met ∷ mets)
-      by_turn (inl was) before = later met mets was.before lease was.of_it (before was.before was.was)
+      by_turn (inl was) before = later met mets was.0.before lease was.0.left was.1 (before was.0.before was.0.was)
       by_turn (inr g) before = inr (inl g)
 
-  granted_plain : (lease : Lease6Content) (mets : List Met) → Granted lease mets → IsGranted own beginning opening lease mets
+  granted_plain : (lease : Lease6Content) (mets : List Met) → Granted lease mets
+      → Since None6 (λ met earlier. IsGrantedIn life lease met (iface earlier)) mets
   granted_plain lease [] since = since
   granted_plain lease (met ∷ mets) (inl g) = inl g.granted
-  granted_plain lease (met ∷ mets) (inr since) = inr (tt, granted_plain lease mets since.1)
+  granted_plain lease (met ∷ mets) (inr since) = inr (since.0, granted_plain lease mets since.1)
 
   pub plainly : (lease : Lease6Content) (mets : List Met) → KeptOrGrantedSo lease mets
-      → WasKept beginning.kept6 lease ⊎ IsGranted own beginning opening lease mets
+      → (WasKept beginning.kept6 lease × Always None6 mets) ⊎ Since None6 (λ met earlier. IsGrantedIn life lease met (iface earlier)) mets
   plainly lease mets (inl was) = inl was
   plainly lease mets (inr since) = inr (granted_plain lease mets since)
 

@@ -1,10 +1,13 @@
--- Where a kept DHCPv6 lease comes from, by what the client of its interface did. Turns are told by the client's own words.
+-- Where a kept DHCPv6 lease comes from, by what the client of its interface did.
 use Rattle.std.specs.Prelude.{◌≡◌, ◌⊎◌, ℕ, List, Option, Some}
-use Rattle.machine.specs.Since.{Since}
+use Rattle.std.specs.List.{Contains}
+use Rattle.machine.specs.Since.{Since, Always}
 use Rattle.net_types.specs.declared.address.Mac.{Mac}
+use Rattle.v6_options.specs.declared.ia.IaKind.{IaKind}
 use Rattle.v6_message.specs.Replies.{Content6}
 use Rattle.lease_text.specs.declared.lease.Origin.{Origin}
-use Rattle.lease6_text.specs.Leases.{Lease6Content}
+use Rattle.lease6_text.specs.declared.lease.Item6.{Item6}
+use Rattle.lease6_text.specs.Leases.{IaLeaseContent, Lease6Content}
 use Rattle.v6_client.specs.Clients.{ClientContent}
 use Rattle.v6_client.specs.Laws.{IsGranting}
 use Rattle.v6_client.specs.Moves.{lease_with}
@@ -19,38 +22,52 @@ use Rattle.lease6_evidence.specs.Replies6.{message6_at}
 abbrev pub origin_at : Site → (at : ℕ) → Origin
 origin_at site at = record { mac = site.managed.spec.mac; confirmed = at }
 
--- it is this lease, but for its items
-abbrev pub IsOf : (given lease : Lease6Content) → Type 0
-IsOf given lease = lease ≡ lease_with lease.ias given
+-- an IA of this kind and IAID has the item
+pub record HasItem (ias : List IaLeaseContent) (kind : IaKind) (iaid : ℕ) (item : Item6) : Type 0 where
+  pub ia : IaLeaseContent
+  pub among : Contains ias ia
+  pub same_kind : ia.kind ≡ kind
+  pub same_iaid : ia.iaid ≡ iaid
+  pub of_ia : Contains ia.items item
 
--- it is the lease that was kept, but for items that went
+-- it is this lease, of which items may have gone
+pub record IsLeftOf (given lease : Lease6Content) : Type 0 where
+  pub rest : lease ≡ lease_with lease.ias given
+  pub items : (kind : IaKind) (iaid : ℕ) (item : Item6) → HasItem lease.ias kind iaid item
+      → HasItem given.ias kind iaid item
+
+-- it is the lease that was kept, or what is left of it
 pub record WasKept (kept : Option Lease6Content) (lease : Lease6Content) : Type 0 where
   pub before : Lease6Content
   pub was : kept ≡ Some before
-  pub of_it : IsOf before lease
+  pub left : IsLeftOf before lease
 
 -- the client of an interface when the input of a turn comes: it ticked before
 abbrev pub client_at : Met → Iface → ClientContent
 client_at met iface = (tick_turned met.turn.at met.turn.salt iface.dhcp6).client
 
--- In a turn, of an interface that stood so before it, a Reply came in of the exchange that its client had open. It granted the
--- lease, but for items that went since, and the interface and the moment are the lease's origin.
+-- In a turn of an interface that stood so before it, a Reply came in of the exchange that its client had open. It granted
+-- the lease, or the one that this is left of, and the interface and the moment are its origin.
 pub record IsGrantedIn (site : Site) (lease : Lease6Content) (met : Met) (iface : Iface) : Type 0 where
   pub message : Content6
   pub came : message6_at site (entry_of met) ≡ Some message
   pub given : Lease6Content
   pub grants : IsGranting met.turn.at message (client_at met iface) given
-  pub of_it : IsOf given lease
+  pub left : IsLeftOf given lease
   pub origin : lease.origin ≡ Some (origin_at site met.turn.at)
 
--- So in one of some turns.
-abbrev pub IsGranted : List Mac → Beginning → Opening → Lease6Content → List Met → Type 0
-IsGranted own beginning opening lease mets =
-    Since (λ met earlier. Unit {0})
-    (λ met earlier. IsGrantedIn (site_of own beginning opening) lease met (iface_after own beginning opening earlier)) mets
+-- no Reply granted a lease in the turn
+abbrev pub GrantsNone : Site → Met → Iface → Type 0
+GrantsNone site met iface = (message : Content6) (given : Lease6Content)
+    → message6_at site (entry_of met) ≡ Some message → IsGranting met.turn.at message (client_at met iface) given → ⊥
 
--- A lease that an interface keeps after an opening and some turns is that of its file, or it was granted in one of them.
+-- A lease that an interface keeps after an opening and some turns is the one of its file, or what is left of it, and no
+-- Reply granted another; or it is so of the one that the last such Reply granted.
 abbrev pub KeptLeasesAreGranted6 : Type 0
-KeptLeasesAreGranted6 = (own : List Mac) (beginning : Beginning) (opening : Opening) (mets : List Met) (lease : Lease6Content)
-    → (iface_after own beginning opening mets).dhcp6.kept ≡ Some lease
-    → WasKept beginning.kept6 lease ⊎ IsGranted own beginning opening lease mets
+KeptLeasesAreGranted6 = (own : List Mac) (beginning : Beginning) (opening : Opening) (mets : List Met)
+    (lease : Lease6Content) → (iface_after own beginning opening mets).dhcp6.kept ≡ Some lease
+    → let site : Site = site_of own beginning opening in
+    let iface : List Met → Iface = iface_after own beginning opening in
+    let none : Met → List Met → Type 0 = λ met earlier. GrantsNone site met (iface earlier) in
+    (WasKept beginning.kept6 lease × Always none mets)
+    ⊎ Since none (λ met earlier. IsGrantedIn site lease met (iface earlier)) mets

@@ -15,8 +15,8 @@ use Rattle.lease6_evidence.specs.Exchanges6.{Numbered6}
 use Rattle.lease6_evidence.specs.Replies6.{FirstReply}
 use Rattle.origin_laws.specs.Granted6.{WasKept, origin_at}
 
--- The first good Reply of an exchange of this life came in. The lease names its server, and the interface and the moment are the
--- lease's origin.
+-- The first good Reply of an exchange of this life came in. The lease names its server, and the interface and the moment
+-- are its origin.
 pub record Confirms6 (site : Site) (lease : Lease6Content) (e : Entry) (past : List Entry) : Type 0 where
   pub opened : Numbered6
   pub message : Content6
@@ -26,8 +26,8 @@ pub record Confirms6 (site : Site) (lease : Lease6Content) (e : Entry) (past : L
 
 -- A lease that an interface keeps in a life is that of its file, or a Reply confirmed it in one of the turns.
 abbrev pub KeptLeasesTellOrigins6 : Type 0
-KeptLeasesTellOrigins6 = (own : List Mac) (beginning : Beginning) (opening : Opening) (mets : List Met) (lease : Lease6Content)
-    → FitsBeginning beginning → KeepsTyped beginning → IsLived own beginning opening mets
+KeptLeasesTellOrigins6 = (own : List Mac) (beginning : Beginning) (opening : Opening) (mets : List Met)
+    (lease : Lease6Content) → FitsBeginning beginning → KeepsTyped beginning → IsLived own beginning opening mets
     → (iface_after own beginning opening mets).dhcp6.kept ≡ Some lease
     → WasKept beginning.kept6 lease
     ⊎ Since (λ e past. Unit {0}) (Confirms6 (site_of own beginning opening) lease) (shown opening mets)

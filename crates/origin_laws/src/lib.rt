@@ -1,4 +1,4 @@
-//! Whose a kept lease was, and when it was confirmed, over the life of an interface. Definitions and their proofs, no code.
+//! Whose a kept lease was, and when it was confirmed, over the life of an interface: definitions and their proofs, no code.
 //!
 //! A leaf: no other crate stands on it.
 #![tactic(auto)]
