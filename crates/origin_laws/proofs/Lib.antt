@@ -1,0 +1,4 @@
+pub mod Left
+pub mod Calls
+pub mod Turns
+pub mod Shown

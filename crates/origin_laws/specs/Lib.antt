@@ -1,0 +1,2 @@
+pub mod Granted6
+pub mod Origins6
