@@ -70,7 +70,7 @@ up_to : (earlier : List Given) (given : Given) (coming : List Given) → AllByRe
 up_to [] given coming h = (h.0, tt)
 up_to (g ∷ earlier) given coming h = (h.0, up_to earlier given coming h.1)
 
-life_octets : (count : ℕ) (life : LifeScript) → FitsLife count life → AllByRecursion BringsBytes life.turns
+pub life_octets : (count : ℕ) (life : LifeScript) → FitsLife count life → AllByRecursion BringsBytes life.turns
 life_octets count life fits =
     all_map (FitsGiven count) BringsBytes (given_octets count) life.turns (recursion_from_All (FitsGiven count) life.turns fits.turns)
 

@@ -18,6 +18,7 @@ pub mod Forgetting
 pub mod HostRightly
 pub mod FilesRightly
 pub mod FilesWhole
+pub mod SafelyTold
 pub mod Replayed
 pub mod LiveAnswers
 pub mod LinesApart

@@ -23,6 +23,7 @@ use Rattle.dhcpcd.proofs.Endings.{configured, not_too_long}
 use Rattle.file_evidence.proofs.StoreRuns.{foretold_whole}
 use Rattle.dhcpcd.proofs.FilesRightly.{life_keeps}
 use Rattle.dhcpcd.proofs.HostRightly.{life_holds}
+use Rattle.dhcpcd.proofs.SafelyTold.{life_tells}
 use Rattle.dhcpcd.proofs.Refusals.{in_force}
 
 -- the interfaces that are managed fit
@@ -82,6 +83,7 @@ module _ (text : List ℕ) (conf : Configuration) (is : IsConfOf text (Ok conf))
       lived = life;
       host = if_told (world_of told.seen_from) _ (λ world sound. life_holds text conf is specs fits world sound.rows sound.coming);
       files = if_told (world_of told.seen_from) _ (λ world sound. life_keeps text conf is specs fits world sound.files);
+      safe = if_told (world_of told.seen_from) _ (λ world sound. life_tells text conf is specs fits world sound.coming);
       whole = if_told (world_of told.seen_from) _ (λ world sound. foretold_whole (managed_of conf specs) specs world sound);
     }
 

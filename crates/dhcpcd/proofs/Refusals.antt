@@ -89,10 +89,12 @@ specs_fit index (spec ∷ specs) low high counts =
     let number : spec.index.number ≡ index = counts.0 in
     (record { index = (omega arith, omega arith); name = counts.1; mac = counts.2 }, specs_fit (index + 1) specs (omega arith) (omega arith) counts.3)
 
+pub each_fits : (specs : List IfSpec) → FitInterfaces specs → AllByRecursion FitsSpec specs
+each_fits specs fits = specs_fit 1 specs (omega arith) (omega (arith, fits.few)) fits.counted
+
 -- what a configuration has in force fits, and shares lead to managed interfaces
 pub in_force : (text : List ℕ) (conf : Configuration) → IsConfOf text (Ok conf) → (specs : List IfSpec) → FitInterfaces specs → AreInForce (managed_of conf specs)
-in_force text conf is specs fits =
-    settings_fit text conf is specs (specs_fit 1 specs (omega arith) (omega (arith, fits.few)) fits.counted)
+in_force text conf is specs fits = settings_fit text conf is specs (each_fits specs fits)
 
 pub ifaces_fit : (bytes : List ℕ) (script : ScriptLines) (conf : Configuration) → IsScript bytes script conf → FitInterfaces script.ifaces
 ifaces_fit bytes script conf is = let fits = spelled_fits bytes script is.spelled in fits.ifaces

@@ -11,6 +11,7 @@ use Rattle.dhcpcd.specs.Statuses.{IsReplayed}
 use Rattle.dhcpcd.proofs.HostRightly.{holds_rightly}
 use Rattle.dhcpcd.proofs.FilesRightly.{keeps_rightly}
 use Rattle.dhcpcd.proofs.FilesWhole.{stay_whole_in}
+use Rattle.dhcpcd.proofs.SafelyTold.{tells_safely}
 
 -- its transcript was written, and in its lives the host and the store hold what they shall
 pub replayed : (input old new : Option (List ℕ)) (bytes : List ℕ) (s : Settled) → IsInput input bytes → length bytes ≤ limit → IsSettled bytes s
@@ -26,4 +27,5 @@ replayed input old new bytes s read within is written = record {
   host = holds_rightly bytes (script_of s.script) (configuration s.conf) is.is_script;
   files = keeps_rightly bytes (script_of s.script) (configuration s.conf) is.is_script;
   whole = stay_whole_in (script_of s.script) (configuration s.conf);
+  safe = tells_safely bytes (script_of s.script) (configuration s.conf) is.is_script;
 }

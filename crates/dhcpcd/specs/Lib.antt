@@ -6,6 +6,7 @@ pub mod Carried
 pub mod Sound
 pub mod HostHeld
 pub mod FilesHeld
+pub mod ToldSafely
 pub mod Refusals
 pub mod Settling
 pub mod Statuses

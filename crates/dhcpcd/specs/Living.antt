@@ -24,6 +24,7 @@ use Rattle.dhcpcd.specs.Replays.{heading}
 use Rattle.dhcpcd.specs.Sound.{IsSound}
 use Rattle.dhcpcd.specs.HostHeld.{HoldsRightly}
 use Rattle.dhcpcd.specs.FilesHeld.{KeepsRightly}
+use Rattle.dhcpcd.specs.ToldSafely.{TellsSafely}
 
 -- ---- the lines before a life
 
@@ -106,7 +107,7 @@ abbrev pub IsUntouched : Around → Type 0
 IsUntouched told = (told.out_to ≡ told.out_from) × (told.seen_to ≡ told.seen_from)
 
 -- The input was a configuration, and this became of its life. Over devices that tell what they hold, the host and the store hold
--- what they shall, and over a sound store files are whole at each moment.
+-- what they shall, and hooks and the resolver are told what is safe to read; over a sound store files are whole at each moment.
 pub record IsLived (answer : Status) (specs : List IfSpec) (turns : ℕ) (input : Option (List ℕ)) (told : Around) : Type 0 where
   pub text : List ℕ
   pub conf : Configuration
@@ -116,6 +117,7 @@ pub record IsLived (answer : Status) (specs : List IfSpec) (turns : ℕ) (input 
   pub lived : IsLifeAnswer answer (asked text conf specs turns) told
   pub host : IfSome (world_of told.seen_from) (λ world. IsSound world → HoldsRightly (managed_of conf specs) specs world)
   pub files : IfSome (world_of told.seen_from) (λ world. IsSound world → KeepsRightly (managed_of conf specs) specs world)
+  pub safe : IfSome (world_of told.seen_from) (λ world. IsSound world → TellsSafely (managed_of conf specs) specs world)
   pub whole : IfSome (world_of told.seen_from) (λ world. stores.IsSound world.store.told → LivesWhole (managed_of conf specs) specs world)
 
 -- the configuration was refused, for this

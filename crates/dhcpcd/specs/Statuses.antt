@@ -11,6 +11,7 @@ use Rattle.replay_text.specs.FirstFaults.{IsFault}
 use Rattle.dhcpcd.specs.Refusals.{IsConfFault, IsRefusal}
 use Rattle.dhcpcd.specs.HostHeld.{AllHoldRightly}
 use Rattle.dhcpcd.specs.FilesHeld.{AllKeepRightly, AllStayWhole}
+use Rattle.dhcpcd.specs.ToldSafely.{AllTellSafely}
 
 -- the exit status
 abbrev pub status_number : Status → ℕ
@@ -28,7 +29,8 @@ status_number (status.Lease line) = 13
 status_number (status.Capture cause) = 14
 status_number (status.Schedule line) = 15
 
--- the input was a script, and its transcript was written; in its lives the host and the store hold what they shall, and files are whole
+-- The input was a script, and its transcript was written. In its lives the host and the store hold what they shall, files are whole, and what
+-- hooks and the resolver are told is safe to read.
 pub record IsReplayed (input : Option (List ℕ)) (old new : Option (List ℕ)) : Type 0 where
   pub bytes : List ℕ
   pub script : ScriptLines
@@ -40,6 +42,7 @@ pub record IsReplayed (input : Option (List ℕ)) (old new : Option (List ℕ)) 
   pub host : AllHoldRightly (managed_in script conf) script.ifaces (failing_in script.fails) (at_first script.rows script.files script.polls) script.lives
   pub files : AllKeepRightly (managed_in script conf) script.ifaces (failing_in script.fails) (at_first script.rows script.files script.polls) script.lives
   pub whole : AllStayWhole (managed_in script conf) script.ifaces (failing_in script.fails) (at_first script.rows script.files script.polls) script.lives
+  pub safe : AllTellSafely (managed_in script conf) script.ifaces (failing_in script.fails) (at_first script.rows script.files script.polls) script.lives
 
 -- the input was a script, and a front of the bytes of its transcript was written
 pub record IsStopped (input : Option (List ℕ)) (old new : Option (List ℕ)) : Type 0 where
