@@ -20,5 +20,4 @@ pub mod SaidFrames
 pub mod SaidRead
 pub mod SaidExchanges
 pub mod SaidMessages
-pub mod FramesMade
 pub mod LastLines

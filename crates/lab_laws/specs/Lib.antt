@@ -6,4 +6,3 @@ pub mod LabClients
 pub mod Reading
 pub mod HeldInLabs
 pub mod HeardReplies
-pub mod Made

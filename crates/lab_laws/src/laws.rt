@@ -4,7 +4,6 @@ ghost use Rattle.lab_laws.specs.Binding.{NoTwoAreGranted, StaysBoundInLab};
 ghost use Rattle.lab_laws.specs.HeldInLabs.{LeasesEndWithBindings, NoAddressTwice, UnlikeIsRead};
 ghost use Rattle.lab_laws.specs.HeardReplies.{AcksAreReplies, AcksComeInFrames, FramesAreOctets};
 ghost use Rattle.lab_laws.specs.Lives.{ClientsLiveApart};
-ghost use Rattle.lab_laws.specs.Made.{FramesAreMade, GrantsAreApart, GrantsStand};
 ghost use Rattle.lab_laws.specs.Messages.{MessagesFollow};
 ghost use Rattle.lab_laws.specs.Numbers.{RequestsAreFirst};
 ghost use Rattle.lab_laws.specs.Reading.{EachMessageIsRead, NumbersAreUnlike};
@@ -52,14 +51,6 @@ pub fn acks_are_heard()
     ensures acks { AcksAreReplies }
     ensures frames { AcksComeInFrames }
     ensures octets { FramesAreOctets }
-{}
-
-/// Law: each frame of the peer is made by a line that came, and is that of what the peer says there. The address of an ACK stays bound to
-/// its client until the lease is over, so that two ACKs of one address whose leases aren't over are to one client.
-pub fn frames_are_made()
-    ensures made { FramesAreMade }
-    ensures stand { GrantsStand }
-    ensures apart { GrantsAreApart }
 {}
 
 /// Law: where the text of a lab ends with `xids unlike`, no two clients hold one leased address at one moment: the
