@@ -23,10 +23,10 @@ use Rattle.lab_laws.specs.HeldInLabs.{ApartFrom, EachEndsWithBinding, EndAfterTu
 use Rattle.lab_laws.specs.LabClients.{AreApart, AreClients}
 use Rattle.lab_laws.specs.Lives.{turn_of, turns_onto, with_turn}
 use Rattle.lab_laws.specs.Messages.{Start, messages_after, step_after}
-use Rattle.lab_laws.proofs.Apart.{heard_so}
+use Rattle.lab_laws.proofs.Apart.{same_after, heard_so}
 use Rattle.lab_laws.proofs.Bounds.{one_binding}
 use Rattle.lab_laws.proofs.FollowedTurns.{messages_follow}
-use Rattle.lab_laws.proofs.FramesSaid.{managed_so, start}
+use Rattle.lab_laws.proofs.FramesSaid.{start}
 use Rattle.lab_laws.proofs.Grants.{lease_bound}
 use Rattle.lab_laws.proofs.LabFacts.{LabSo, begin, first_so, line_so, lines_so}
 use Rattle.lab_laws.proofs.OpenExchanges.{moment_in}
@@ -146,7 +146,8 @@ module _ (managed : List Managed) (schedule : Schedule) (are : AreClients manage
             → IfSome held (λ lease. IsBoundUntil lease.net.ip (iface turns one).managed.spec.mac (lease_end lease.lease lease.first) lab.peer)
         by None is = tt
         by (Some lease) is =
-            subst (λ (m : Managed). IsBoundUntil lease.net.ip m.spec.mac (lease_end lease.lease lease.first) lab.peer) (sym (managed_so (life one) turns))
+            subst (λ (m : Managed). IsBoundUntil lease.net.ip m.spec.mac (lease_end lease.lease lease.first) lab.peer)
+            (sym (same_after (life one) turns).managed)
             (lease_bound managed schedule are lab one among turns so clock (well one among) lease is)
 
     some_end : (some : List Managed) → AllByRecursion (Contains managed) some → AllByRecursion (EndsWithBinding lab) (map (iface turns) some)

@@ -11,15 +11,14 @@ use Rattle.settings.specs.declared.interfaces.Managed.{Managed}
 use Rattle.client_model.specs.ClientSettings.{ask_of}
 use Rattle.client_model.specs.Clients.{Sending, sends_of, spelled}
 use Rattle.client_model.specs.IfaceTurns.{Turn}
-use Rattle.client_model.specs.Interfaces.{resting}
 use Rattle.client_model.specs.Messages.{Said, Arp, Dhcp4, Dhcp6}
-use Rattle.client_model.proofs.SameInterfaces.{IsSame, in_turn, opened_is_same, turned_is_same}
 use Rattle.lab_peer.specs.ClientFrames.{client_sent}
 use Rattle.lab_schedule.specs.Schedules.{Schedule}
 use Rattle.lease_evidence.proofs.Spoken.{FitsSaid, message_said}
 use Rattle.lab_laws.specs.LabClients.{AreClients, FitsTurn}
 use Rattle.lab_laws.specs.Lives.{start_in}
 use Rattle.lab_laws.specs.Messages.{Start, step_after}
+use Rattle.lab_laws.proofs.Apart.{frames, frames_so, last_steps}
 use Rattle.lab_laws.proofs.Lived.{starts_fit}
 use Rattle.lab_laws.proofs.OpenExchanges.{moment_in}
 use Rattle.lab_laws.proofs.SaidRead.{IsRead, each_is_read}
@@ -59,23 +58,6 @@ each_in at (Dhcp6 sent ∷ said) past = (tt, each_in at said past)
 said_last : (start : Start) (turns : List Turn) → AllByRecursion (IsAmong (moment_in start.at turns) (timed_after start turns)) (step_after start turns).said
 said_last start [] = each_in start.at (step_after start []).said []
 said_last start (turn ∷ turns) = each_in turn.at (step_after start (turn ∷ turns)).said (timed_after start turns)
-
--- ---- the frames of a client
-
-same_after : (start : Start) (turns : List Turn) → IsSame (resting start.beginning) (step_after start turns).iface
-same_after start [] = opened_is_same start.up start.at start.salt start.beginning
-same_after start (turn ∷ turns) =
-    in_turn (resting start.beginning) (step_after start turns).iface (step_after start (turn ∷ turns)).iface (same_after start turns)
-    (turned_is_same start.own turn (step_after start turns).iface)
-
-abbrev pub frames : Start → List Said → List Sending
-frames start said = map (spelled start.beginning.managed.spec (ask_of start.beginning.duid start.beginning.managed)) said
-
-pub sends_so : (start : Start) (turns : List Turn) → sends_of (step_after start turns) ≡ frames start (step_after start turns).said
-sends_so start turns = λ i. map (spelled ((same_after start turns).managed i).spec ((same_after start turns).settings i).ask) (step_after start turns).said
-
-pub managed_so : (start : Start) (turns : List Turn) → (step_after start turns).iface.managed ≡ start.beginning.managed
-managed_so start turns = (same_after start turns).managed
 
 -- ---- the frames of all clients
 
@@ -152,7 +134,7 @@ module _ (managed : List Managed) (schedule : Schedule) where
 
     client_said : (one : Managed) → Contains managed one → AllByRecursion (WasSaid turns now) (sends_of (step_after (start one) turns))
     client_said one among =
-        subst (AllByRecursion (WasSaid turns now)) (sym (sends_so (start one) turns))
+        subst (AllByRecursion (WasSaid turns now)) (sym (frames_so (start one) turns))
         (frames_said one among (step_after (start one) turns).said (each_is_read (start one) turns (starts_fit managed schedule clients one among) fit)
         (said_last (start one) turns))
 
@@ -164,5 +146,5 @@ module _ (managed : List Managed) (schedule : Schedule) where
         (client_said one among.0) (some_said some among.1)
 
     -- all that is sent in the last turn
-    pub all_said : AllByRecursion (WasSaid turns now) (flat_map sends_of (map (λ (one : Managed). step_after (start one) turns) managed))
+    pub all_said : AllByRecursion (WasSaid turns now) (flat_map sends_of (last_steps managed schedule turns))
     all_said = some_said managed (recursion_from_All (Contains managed) managed (All-contains_itself managed))

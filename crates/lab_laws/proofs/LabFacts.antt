@@ -1,8 +1,7 @@
 -- What holds of a lab after each line: what its clients sent was said, and what its peer made is its reply.
-use Rattle.std.proofs.Common.{◌≡◌, ℕ, zero, suc, ◌≤◌, ◌<◌, ◌^◌, List, [], ◌∷◌, map, length, lit<, Option, Some, None, IfSome, inr, refl, sym, ap, subst, ◌∙◌, arith}
+use Rattle.std.proofs.Common.{◌≡◌, ℕ, zero, suc, ◌≤◌, ◌<◌, ◌^◌, List, [], ◌∷◌, length, lit<, Option, Some, None, IfSome, inr, refl, sym, ap, subst, ◌∙◌, arith}
 use Rattle.std.specs.Prelude.{flat_map, option_map, option_to_list}
 use Rattle.std.specs.List.{AllByRecursion, Contains, slice_get}
-use Rattle.std.proofs.lemmas.Simd.{map-map}
 use Rattle.machine.specs.Moment.{moment_of}
 use Rattle.machine.specs.Since.{Always}
 use Rattle.net_types.proofs.AllLaws.{all_join, all_map}
@@ -16,10 +15,8 @@ use Rattle.world.specs.declared.wakes.Event.{Event}
 use Rattle.world.specs.declared.wakes.Event.TheVariants as wakes
 use Rattle.settings.specs.declared.interfaces.Managed.{Managed}
 use Rattle.settings.specs.Fitting.{FitsManaged}
-use Rattle.client_model.specs.Clients.{Client, Sending, client_turned, sends_of}
-use Rattle.client_model.specs.HostDuid.{host_duid}
-use Rattle.client_model.specs.IfaceTurns.{Turn, iface_turned}
-use Rattle.client_model.specs.Interfaces.{opened}
+use Rattle.client_model.specs.Clients.{Sending, client_turned, sends_of}
+use Rattle.client_model.specs.IfaceTurns.{Turn}
 use Rattle.server_data.specs.declared.reply.ReplyKind.TheVariants.{Ack}
 use Rattle.server_data.specs.declared.reply.Reply.{Reply}
 use Rattle.server_data.specs.ReadBack.{FitsReply}
@@ -31,11 +28,11 @@ use Rattle.lab_peer.proofs.Bound.{acks_bind, answers_its_client, keeps_its_pool}
 use Rattle.lab_schedule.specs.declared.event.LabEvent.{LabEvent}
 use Rattle.lab_schedule.specs.declared.event.LabEvent.TheVariants.{Tick, Carrier, Release, Give, Hear}
 use Rattle.lab_schedule.specs.Schedules.{FitsPool, Schedule}
-use Rattle.lab_model.specs.Labs.{Lab, beginning, clients_turned, lab_after, lab_opened, lab_step, numbered, peer_goes, peer_heard, raised, turn_given, turn_with}
+use Rattle.lab_model.specs.Labs.{Lab, clients_turned, lab_after, lab_opened, lab_step, numbered, peer_goes, peer_heard, raised, turn_given, turn_with}
 use Rattle.lab_laws.specs.LabClients.{AreClients, FitsTurn}
 use Rattle.lab_laws.specs.Lives.{turn_of, turns_onto, with_turn}
 use Rattle.lab_laws.specs.Messages.{step_after}
-use Rattle.lab_laws.proofs.Apart.{clients, gone, opens_so, own}
+use Rattle.lab_laws.proofs.Apart.{opening_steps, turn_sends, clients, gone, opens_so}
 use Rattle.lab_laws.proofs.Bounds.{Goes, Stands, goes, stands_on}
 use Rattle.lab_laws.proofs.FramesSaid.{IsIn, IsSaidBy, WasSaid, all_said, later_said, start, still_in, still_said}
 use Rattle.lab_laws.proofs.HeardBack.{replies_fit}
@@ -175,16 +172,6 @@ module _ (managed : List Managed) (schedule : Schedule) where
 
   -- ---- a turn of the clients
 
-  steps_of_turn : (turn : Turn) (turns : List Turn)
-      → map (iface_turned (own managed schedule) turn) (clients managed schedule turns).ifaces
-      ≡ map (λ (one : Managed). step_after (start managed schedule one) (turn ∷ turns)) managed
-  steps_of_turn turn turns =
-      map-map (iface_turned (own managed schedule) turn) (λ (one : Managed). (step_after (start managed schedule one) turns).iface) managed
-
-  sends_of_turn : (turn : Turn) (turns : List Turn) (client : Client) → client ≡ clients managed schedule turns
-      → (client_turned turn client).sends ≡ flat_map sends_of (map (λ (one : Managed). step_after (start managed schedule one) (turn ∷ turns)) managed)
-  sends_of_turn turn turns client is = ap (λ (c : Client). (client_turned turn c).sends) is ∙ ap (flat_map sends_of) (steps_of_turn turn turns)
-
   module _ (are : AreClients managed) (turn : Turn) (turns : List Turn) (lab : Lab) (fits : FitsTurn turn) (le : lab.clock ≤ turn.at) (so : LabSo lab turns)
       (onward : Onward lab (clients_turned turn lab).lab) (given : IsGiven lab turn turns) where
     abbrev after : Lab
@@ -195,7 +182,7 @@ module _ (managed : List Managed) (schedule : Schedule) where
         all_join (WasSaid managed schedule (turn ∷ turns) turn.at) lab.sent (client_turned turn lab.client).sends
         (all_map (WasSaid managed schedule turns lab.clock) (WasSaid managed schedule (turn ∷ turns) turn.at)
         (λ sending was. still_said managed schedule turn turns lab.clock sending le was) lab.sent so.sent)
-        (subst (AllByRecursion (WasSaid managed schedule (turn ∷ turns) turn.at)) (sym (sends_of_turn turn turns lab.client so.client))
+        (subst (AllByRecursion (WasSaid managed schedule (turn ∷ turns) turn.at)) (sym (turn_sends managed schedule turn turns lab.client so.client))
         (all_said managed schedule are (turn ∷ turns) (fits, so.fit)))
 
     pub turned_so : LabSo after (turn ∷ turns)
@@ -282,10 +269,6 @@ module _ (managed : List Managed) (schedule : Schedule) where
 
   -- ---- the start, and each line
 
-  steps_at_start : map (opened schedule.begin.up begin schedule.begin.salt) (map (beginning (host_duid managed None)) managed)
-      ≡ map (λ (one : Managed). step_after (start managed schedule one) []) managed
-  steps_at_start = map-map (opened schedule.begin.up begin schedule.begin.salt) (beginning (host_duid managed None)) managed
-
   moments_end : (at : ℕ) → moment_of at < 10 ^ 15
   moments_end at = grind arith
 
@@ -298,7 +281,8 @@ module _ (managed : List Managed) (schedule : Schedule) where
       now = omega arith;
       fit = tt;
       rising = tt;
-      sent = subst (AllByRecursion (WasSaid managed schedule [] begin)) (sym (ap (flat_map sends_of) steps_at_start)) (all_said managed schedule are [] tt);
+      sent = subst (AllByRecursion (WasSaid managed schedule [] begin)) (sym (ap (flat_map sends_of) (opening_steps managed schedule)))
+          (all_said managed schedule are [] tt);
       made = tt;
       given = tt;
     }

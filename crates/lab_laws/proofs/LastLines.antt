@@ -1,5 +1,5 @@
 -- The last line of a lab's text.
-use Rattle.std.proofs.Common.{◌≡◌, ℕ, Bool, true, false, List, [], ◌∷◌, ◌++◌, map, length, drop, codes, bytes_eq, refl, sym, ap, subst, ◌∙◌, arith, append_assoc}
+use Rattle.std.proofs.Common.{◌≡◌, ℕ, Bool, true, false, List, [], ◌∷◌, ◌++◌, map, length, drop, codes, bytes_eq, refl, sym, ap, ◌∙◌, arith, append_assoc}
 use Rattle.std.specs.Prelude.{flat_map}
 use Rattle.std.proofs.lemmas.List.{drop_at, length-append, map-append}
 use Rattle.std.proofs.lemmas.Slice.Eq.{bytes_eq-Decides}
@@ -11,7 +11,7 @@ use Rattle.lab_schedule.specs.Schedules.{Schedule}
 use Rattle.lab_model.specs.Exchanges.{xids_unlike}
 use Rattle.lab_model.specs.LabLines.{LabLine, XidsUnlike, XidsRepeat, lab_lines, lab_text, last_line, line_text, lines_from, lines_of, lines_text}
 use Rattle.lab_model.specs.Labs.{Lab, LabStep, lab_after, lab_opened, lab_step, no_lab}
-use Rattle.lab_laws.specs.HeldInLabs.{EndsUnlike, UnlikeIsRead}
+use Rattle.lab_laws.specs.HeldInLabs.{UnlikeIsRead}
 
 -- the lines before the last one, which tells whether a number came again
 record EndsBy (unlike : Bool) (lines : List LabLine) : Type 0 where

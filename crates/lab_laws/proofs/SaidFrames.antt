@@ -1,5 +1,5 @@
 -- The peer of a lab reads the messages of DHCPv4 in the frames of a client, and nothing in its other frames.
-use Rattle.std.proofs.Common.{◌≡◌, ◌≢◌, ℕ, ◌≤◌, Bool, true, false, List, [], ◌∷◌, ◌++◌, length, take, drop, Option, Some, None, refl, sym, ap, subst, ◌∙◌, arith, lit≤, if◌then◌else◌}
+use Rattle.std.proofs.Common.{◌≡◌, ◌≢◌, ℕ, ◌≤◌, Bool, true, false, List, ◌++◌, length, take, drop, Option, Some, None, refl, sym, ap, subst, arith, lit≤, if◌then◌else◌}
 use Rattle.std.specs.Prelude.{option_and_then}
 use Rattle.std.specs.List.{AllByRecursion}
 use Rattle.std.proofs.lemmas.List.{length-append}
@@ -22,16 +22,15 @@ use Rattle.v6_frames.specs.Spelled.{Sent6, frame6_of}
 use Rattle.v4_client.specs.Saying.{sent_of}
 use Rattle.v4_client.specs.Settings.{SettingsContent}
 use Rattle.settings.specs.declared.interfaces.Managed.{Managed}
-use Rattle.client_model.specs.ClientSettings.{ask_of, settings_of}
+use Rattle.client_model.specs.ClientSettings.{ask_of}
 use Rattle.client_model.specs.Clients.{frame_of}
-use Rattle.client_model.specs.IfaceTurns.{Turn}
 use Rattle.client_model.specs.IfaceSteps.{IfaceStep}
 use Rattle.client_model.specs.Messages.{Said, Dhcp4, Arp, Dhcp6}
-use Rattle.client_model.proofs.SameInterfaces.{opened_is_same, turned_is_same}
 use Rattle.lab_peer.specs.ClientFrames.{ask_in, ask_fits, if_of_a_client, if_said, client_sent}
 use Rattle.lab_peer.proofs.ClientsRead.{each_client_is_read}
-use Rattle.lab_laws.specs.Messages.{Start, step_after}
+use Rattle.lab_laws.specs.Messages.{step_after}
 use Rattle.lab_laws.specs.Reading.{IsReadAs, EachMessageIsRead}
+use Rattle.lab_laws.proofs.Apart.{same_after}
 use Rattle.lab_laws.proofs.SaidTurns.{FairOn, FairSaid, life_fair}
 
 -- ---- other frames
@@ -105,26 +104,14 @@ module _ (spec : IfSpec) (ask : AskContent) (asks : AskFits ask) (six_long : Fit
 
 -- ---- a life
 
--- an interface stays the one that it is, and its client keeps its settings
-pub stays_so : (start : Start) (turns : List Turn)
-    → ((step_after start turns).iface.managed ≡ start.beginning.managed)
-    × ((step_after start turns).iface.dhcp4.settings ≡ settings_of start.beginning.duid start.beginning.managed)
-stays_so start [] =
-    let same = opened_is_same start.up start.at start.salt start.beginning in
-    (same.managed, same.settings)
-stays_so start (turn ∷ turns) =
-    let same = turned_is_same start.own turn (step_after start turns).iface in
-    let before = stays_so start turns in
-    (same.managed ∙ before.0, same.settings ∙ before.1)
-
 pub each_message_is_read : EachMessageIsRead
 each_message_is_read start turns fits all =
     let step : IfaceStep = step_after start turns in
     let mac : Mac = start.beginning.managed.spec.mac in
     let fair : FairOn mac step = life_fair start turns fits all in
-    let so = stays_so start turns in
+    let same = same_after start turns in
     subst (λ (spec : IfSpec). AllByRecursion (λ say. IsReadAs mac say (frame_of spec (ask_of start.beginning.duid start.beginning.managed) say)) step.said)
-    (ap (λ (m : Managed). m.spec) so.0)
+    (ap (λ (m : Managed). m.spec) same.managed)
     (subst (λ (ask : AskContent). AllByRecursion (λ say. IsReadAs mac say (frame_of step.iface.managed.spec ask say)) step.said)
-    (ap (λ (s : SettingsContent). s.ask) so.1)
+    (ap (λ (s : SettingsContent). s.ask) same.settings)
     (all_read step.iface.managed.spec step.iface.dhcp4.settings.ask fair.0.1.sound.ask fair.0.0 mac step.said fair.1))

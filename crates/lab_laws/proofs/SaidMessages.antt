@@ -8,18 +8,14 @@ use Rattle.std.proofs.lemmas.List.{append-nil, reverse-append}
 use Rattle.std.proofs.lemmas.List.Elements.{All-contains, All-contains_itself, All-from_recursion, recursion_from_All}
 use Rattle.net_types.proofs.AllLaws.{all_both, all_map}
 use Rattle.net_types.specs.declared.interface.IfSpec.{IfSpec}
-use Rattle.machine.specs.Moment.{moment_of}
 use Rattle.v4_message.specs.Requests.{AskContent}
 use Rattle.v4_message.specs.declared.writing.Said4.{Said4}
-use Rattle.v4_client.specs.Settings.{SettingsContent}
 use Rattle.world.specs.declared.wakes.Event.TheVariants as wakes
 use Rattle.settings.specs.declared.interfaces.Managed.{Managed}
 use Rattle.client_model.specs.ClientSettings.{ask_of}
-use Rattle.client_model.specs.Clients.{Client, Sending, client_turned, sends_of, spelled}
-use Rattle.client_model.specs.HostDuid.{host_duid}
+use Rattle.client_model.specs.Clients.{Sending, client_turned, sends_of, spelled}
 use Rattle.client_model.specs.IfaceSteps.{IfaceStep}
-use Rattle.client_model.specs.IfaceTurns.{Turn, iface_turned}
-use Rattle.client_model.specs.Interfaces.{opened}
+use Rattle.client_model.specs.IfaceTurns.{Turn}
 use Rattle.client_model.specs.KeptLeases.{Beginning}
 use Rattle.client_model.specs.Messages.{Said, Dhcp4, Arp, Dhcp6}
 use Rattle.lease_evidence.proofs.Spoken.{message_said}
@@ -27,16 +23,16 @@ use Rattle.lab_schedule.specs.declared.event.LabEvent.{LabEvent}
 use Rattle.lab_schedule.specs.declared.event.LabEvent.TheVariants.{Tick, Carrier, Release, Give, Hear}
 use Rattle.lab_schedule.specs.Schedules.{Schedule}
 use Rattle.lab_model.specs.Exchanges.{Message, message_in, message_with, messages_of}
-use Rattle.lab_model.specs.Labs.{Lab, beginning, clients_turned, lab_after, lab_opened, lab_step, numbered, peer_heard, raised, turn_given, turn_with}
+use Rattle.lab_model.specs.Labs.{Lab, clients_turned, lab_after, lab_opened, lab_step, numbered, peer_heard, raised, turn_given, turn_with}
 use Rattle.lab_laws.specs.LabClients.{AreApart, AreClients, FitsStart, FitsTurn}
 use Rattle.lab_laws.specs.Lives.{start_in, turn_of, turns_onto, with_turn}
 use Rattle.lab_laws.specs.Messages.{Start, messages_after, said_onto, step_after}
 use Rattle.lab_laws.specs.Numbers.{are_unlike, numbers}
 use Rattle.lab_laws.specs.Reading.{IsReadFrom, NumbersAreUnlike}
-use Rattle.lab_laws.proofs.Apart.{clients, gone, own, opens_so}
+use Rattle.lab_laws.proofs.Apart.{clients, frames_so, gone, opening_steps, opens_so, turn_sends}
 use Rattle.lab_laws.proofs.Lived.{starts_fit}
 use Rattle.lab_laws.proofs.SaidExchanges.{messages_on, each_unlike}
-use Rattle.lab_laws.proofs.SaidFrames.{each_message_is_read, stays_so}
+use Rattle.lab_laws.proofs.SaidFrames.{each_message_is_read}
 
 -- ---- the messages of one interface among those of all
 
@@ -116,14 +112,6 @@ module _ (beginning : Beginning) where
       ap (λ (on : Bool). if on then say.said ∷ messages_on iface (said_here said) else messages_on iface (said_here said)) other ∙ elsewhere iface other said
   elsewhere iface other (Arp say ∷ said) = elsewhere iface other said
   elsewhere iface other (Dhcp6 sent ∷ said) = elsewhere iface other said
-
--- the frames of a client's step
-frames_so : (start : Start) (turns : List Turn)
-    → sends_of (step_after start turns) ≡ map (spelled (spec start.beginning) (ask start.beginning)) (step_after start turns).said
-frames_so start turns =
-    let so = stays_so start turns in
-    ap₂ (λ (spec : IfSpec) (ask : AskContent). map (spelled spec ask) (step_after start turns).said) (ap (λ (m : Managed). m.spec) so.0)
-    (ap (λ (s : SettingsContent). s.ask) so.1)
 
 -- ---- interfaces with unlike numbers
 
@@ -246,15 +234,6 @@ module _ (managed : List Managed) (schedule : Schedule) where
         ∙ ap reverse (ap (λ (s : List Sending). messages_on (index one) (flat_map message_in s)) are_sends ∙ says)) before
         ∙ sym (onto_is (step turns one).said (past one))
 
-    turned_so : (turn : Turn) (turns : List Turn) (ones : List Managed)
-        → map (iface_turned (own managed schedule) turn) (map (λ (one : Managed). (step turns one).iface) ones) ≡ map (step (turn ∷ turns)) ones
-    turned_so turn turns [] = refl
-    turned_so turn turns (one ∷ ones) = ap (λ (steps : List IfaceStep). step (turn ∷ turns) one ∷ steps) (turned_so turn turns ones)
-
-    sends_so : (turn : Turn) (turns : List Turn) (client : Client) → client ≡ clients managed schedule turns
-        → (client_turned turn client).sends ≡ frames (turn ∷ turns) managed
-    sends_so turn turns client is = ap (λ (c : Client). (client_turned turn c).sends) is ∙ ap (flat_map sends_of) (turned_so turn turns managed)
-
     turn_tells : (turn : Turn) (turns : List Turn) (lab : Lab) → AllByRecursion FitsTurn (turn ∷ turns) → Tells lab turns
         → Tells (clients_turned turn lab).lab (turn ∷ turns)
     turn_tells turn turns lab fit tells = record {
@@ -262,20 +241,15 @@ module _ (managed : List Managed) (schedule : Schedule) where
       said = all_both (Says (turn ∷ turns) managed) (λ one. messages_on (index one) (messages_of lab.sent) ≡ messages_after (start one) turns)
           (λ one. messages_on (index one) (messages_of (lab.sent ++ (client_turned turn lab.client).sends)) ≡ messages_after (start one) (turn ∷ turns))
           (says_more (turn ∷ turns) lab.sent (client_turned turn lab.client).sends (λ one. messages_after (start one) turns)
-          (sends_so turn turns lab.client tells.client))
+          (turn_sends managed schedule turn turns lab.client tells.client))
           managed (each_says (turn ∷ turns) fit managed unlike starts) tells.said;
     }
-
-    opened_so : (ones : List Managed)
-        → map (opened schedule.begin.up (moment_of schedule.begin.at) schedule.begin.salt) (map (beginning (host_duid managed None)) ones) ≡ map (step []) ones
-    opened_so [] = refl
-    opened_so (one ∷ ones) = ap (λ (steps : List IfaceStep). step [] one ∷ steps) (opened_so ones)
 
     opening_tells : Tells (lab_opened managed schedule).lab []
     opening_tells = record {
       client = opens_so managed schedule;
       said = all_map (Says [] managed) (λ one. messages_on (index one) (messages_of (lab_opened managed schedule).lab.sent) ≡ messages_after (start one) [])
-          (λ one says. says_more [] [] (lab_opened managed schedule).sends (λ one. []) (ap (flat_map sends_of) (opened_so managed)) one says refl)
+          (λ one says. says_more [] [] (lab_opened managed schedule).sends (λ one. []) (ap (flat_map sends_of) (opening_steps managed schedule)) one says refl)
           managed (each_says [] tt managed unlike starts);
     }
 
