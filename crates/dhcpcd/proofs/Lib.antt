@@ -9,6 +9,7 @@ pub mod CheckTexts
 pub mod InputWorks
 pub mod Refusals
 pub mod ManagedApart
+pub mod LabsApart
 pub mod SharesApart
 pub mod WholeLife
 pub mod LifeLeft

@@ -1,16 +1,21 @@
 -- The interfaces that a configuration has managed are some of a script's, so they are as unlike as these.
-use Rattle.std.proofs.Common.{ℕ, ◌≡◌, Bool, true, false, nat_eq, List, [], ◌∷◌, map, Some, None, refl, sym, ap, subst, ◌∙◌}
+use Rattle.std.proofs.Common.{ℕ, ◌≡◌, ◌<◌, Bool, true, false, nat_eq, List, [], ◌∷◌, map, length, get_or, Some, None, refl, sym, ap, subst, ◌∙◌, arith}
 use Rattle.std.specs.Prelude.{filter, AllPairs, if◌then◌else◌}
 use Rattle.std.specs.List.{AllByRecursion, IsDistinct, cons_option}
+use Rattle.std.proofs.lemmas.Bool.Decides.{nat_tests}
+use Rattle.std.proofs.lemmas.List.{get_or-map, length-map}
 use Rattle.std.proofs.lemmas.List.Kept.{AllPairs-filter}
+use Rattle.std.proofs.lemmas.Map.Keys.{apart_from_distinct}
 use Rattle.net_types.specs.declared.interface.IfSpec.{IfSpec}
 use Rattle.settings.specs.declared.interfaces.Managed.{Managed}
-use Rattle.script_model.specs.Scripts.{CountsFrom, Unlike}
+use Rattle.settings.specs.Fitting.{AreManaged}
+use Rattle.script_model.specs.Scripts.{CountsFrom, FitInterfaces, Unlike}
 use Rattle.conf_text.specs.Configurations.{Configuration}
 use Rattle.conf_text.specs.Choosing.{is_managed}
 use Rattle.conf_text.specs.Settings.{settings_for, managed_with, managed_among, managed_of}
 use Rattle.evidence.specs.Laws.{AreNumbered}
 use Rattle.evidence.proofs.Numbered.{counted}
+use Rattle.lab_laws.specs.LabClients.{AreApart, AreClients}
 
 -- ---- what is left of a list
 
@@ -77,3 +82,43 @@ managed_numbered conf specs counts =
     let apart : IsDistinct nat_eq (map number_in specs) = subst (IsDistinct nat_eq) (each_number together ∙ ap (map number_in) (all_specs conf specs specs)) all in
     subst (IsDistinct nat_eq) (sym (each_number (managed_of conf specs) ∙ ap (map number_in) (managed_specs conf specs specs)))
     (distinct_kept number_in (keeps conf specs) nat_eq specs apart)
+
+-- ---- clients of a lab
+
+itself : (n : ℕ) → nat_eq n n ≡ true
+itself n = grind (arith, nat_tests)
+
+module _ (managed : List Managed) (unlike : AllPairs Unlike (map spec_of managed)) (numbered : AreNumbered managed) where
+  spec_at : (i : ℕ) (d : Managed) → i < length managed → get_or (map spec_of managed) i d.spec ≡ (get_or managed i d).spec
+  spec_at i d within = get_or-map spec_of managed i d d.spec within
+
+  number_at : (i : ℕ) (d : Managed) → i < length managed
+      → get_or (map (λ (m : Managed). m.spec.index.number) managed) i d.spec.index.number ≡ (get_or managed i d).spec.index.number
+  number_at i d within = get_or-map (λ (m : Managed). m.spec.index.number) managed i d d.spec.index.number within
+
+  all_apart : AllPairs AreApart managed
+  all_apart i j d before within =
+      let first : i < length managed = omega (arith, before, within) in
+      let pair : Unlike (get_or managed i d).spec (get_or managed j d).spec =
+      subst (λ (s : IfSpec). Unlike s (get_or managed j d).spec) (spec_at i d first)
+      (subst (λ (s : IfSpec). Unlike (get_or (map spec_of managed) i d.spec) s) (spec_at j d within)
+      (unlike i j d.spec before (omega (arith, within, length-map managed spec_of)))) in
+      let differ : nat_eq (get_or managed i d).spec.index.number (get_or managed j d).spec.index.number ≡ false =
+      subst (λ (n : ℕ). nat_eq n (get_or managed j d).spec.index.number ≡ false) (number_at i d first)
+      (subst (λ (n : ℕ). nat_eq (get_or (map (λ (m : Managed). m.spec.index.number) managed) i d.spec.index.number) n ≡ false) (number_at j d within)
+      (apart_from_distinct nat_eq (map (λ (m : Managed). m.spec.index.number) managed) i j d.spec.index.number numbered before
+      (omega (arith, within, length-map managed (λ (m : Managed). m.spec.index.number))))) in
+      record {
+        numbers = λ same. not_both (subst (λ (n : ℕ). nat_eq (get_or managed i d).spec.index.number n ≡ true) same (itself (get_or managed i d).spec.index.number)) differ;
+        macs = pair.1;
+      }
+    where
+      not_both : {b : Bool} → b ≡ true → b ≡ false → ⊥
+      not_both y n = let no : true ≡ false = sym y ∙ n in cc
+
+-- those of a schedule are clients
+pub clients_are : (conf : Configuration) (specs : List IfSpec) → FitInterfaces specs → AreManaged (managed_of conf specs) → AreClients (managed_of conf specs)
+clients_are conf specs fits managed = record {
+  fit = managed;
+  apart = all_apart (managed_of conf specs) (managed_unlike conf specs fits.unlike) (managed_numbered conf specs fits.counted);
+}

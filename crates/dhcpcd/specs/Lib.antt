@@ -15,6 +15,7 @@ pub mod Checks
 pub mod Dumping
 pub mod Importing
 pub mod Labs
+pub mod LabsHeld
 pub mod Words
 pub mod GoodAsks
 pub mod MakeReading

@@ -20,7 +20,7 @@ mod words;
 mod working;
 mod writing;
 
-pub use laws::hooks_change_nothing;
+pub use laws::{hooks_change_nothing, labs_hold_apart};
 pub use running::run;
 pub use status::Status;
 pub use words::is_alone;
