@@ -578,12 +578,13 @@ def resolver(net, score):
     write_lines(net.path("conf"), QUICK)
     quiet = {"stdout": subprocess.DEVNULL, "stderr": subprocess.DEVNULL}
     resolved = "mkdir -p /run/systemd/resolve && exec"
-    without = {net.path("none"): "/usr/sbin"}
+    without = {net.path("none"): "/usr/sbin"}  # but for a link to resolvectl, as systemd-resolved's package has it
     ways = {
         "resolvconf": ({stand_in(net, "resolvconf"): "/usr/sbin"}, "-a dhcpcd-link", "-d dhcpcd-link"),
         "resolvectl": ({stand_in(net, "resolvectl"): "/usr/bin", **without}, f"dns c0 {ROUTER}", "revert c0"),
     }
     os.mkdir(net.path("none"))
+    os.symlink("/usr/bin/resolvectl", net.path("none/resolvconf"))
     for name, (places, first, last) in ways.items():
         write_lines(told_of, [])
         apart = hidden(net, places, "sh", "-c", f'mount -t tmpfs none /run && {resolved} "$@"', "sh", LINK, *words, "c0")

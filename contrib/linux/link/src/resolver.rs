@@ -29,12 +29,18 @@ enum Way {
 
 impl Way {
     fn found() -> Way {
-        match RESOLVCONF.iter().find(|path| Path::new(path).exists()) {
+        match RESOLVCONF.iter().find(|path| is_resolvconf(Path::new(path))) {
             Some(path) => Way::Resolvconf(path),
             None if Path::new(RESOLVECTL).exists() && Path::new(RESOLVED).exists() => Way::Resolvectl,
             None => Way::Link,
         }
     }
+}
+
+/// Whether resolvconf(8) is there, and isn't resolvectl(1) by another name, which knows interfaces of the host alone.
+fn is_resolvconf(path: &Path) -> bool {
+    let is_other = |path: &Path| path.file_name().map_or(false, |name| name == "resolvectl");
+    fs::canonicalize(path).map_or(false, |path| !is_other(&path))
 }
 
 /// A program that is run, and what it reads.
