@@ -7,6 +7,7 @@ use Rattle.lease_text.specs.Bounds.{FitsLease, HasText, IsTyped}
 use Rattle.lease_text.specs.Leases.{LeaseContent}
 use Rattle.settings.specs.declared.interfaces.Managed.{Managed}
 use Rattle.script_model.specs.IfaceSets.{is_in, is_up}
+use Rattle.v4_client.specs.Clients.{held_of}
 use Rattle.client_model.specs.declared.interfaces.Iface.{Iface}
 use Rattle.client_model.specs.Messages.{Said}
 use Rattle.client_model.specs.ClientSettings.{ask_of}
@@ -25,7 +26,7 @@ use Rattle.lease_evidence.specs.HeldLeases.{HeldLeasesHaveBasis, KeepsTyped}
 use Rattle.lease_evidence.proofs.LeasedInputs.{Leased, Turned}
 use Rattle.lease_evidence.proofs.LeasedTurns.{opens_leased, turn_leased}
 use Rattle.lease_evidence.proofs.Spoken.{FitsSaid}
-use Rattle.lease_evidence.proofs.Leases.{lease_has_basis}
+use Rattle.lease_evidence.proofs.Leases.{Rests, lease_has_basis, lease_rests}
 
 module _ (spec : IfSpec) (ask : AskContent) (clean : Type 0) where
   -- the frames of what was said, all taken where none failed
@@ -106,4 +107,12 @@ turn_said_fits own beginning opening met mets fits typed lived = (turned own beg
 pub held_leases_have_basis : HeldLeasesHaveBasis
 held_leases_have_basis own beginning opening mets lease fits typed lived held =
     lease_has_basis (site_of own beginning opening) (failed_last (site_of own beginning opening) (shown opening mets) ≡ false) (iface_after own beginning opening mets)
+    (shown opening mets) lease (turned own beginning fits typed opening mets lived).leased held
+
+-- and the lease is as it was granted, or it is the kept one
+pub held_leases_rest : (own : List Mac) (beginning : Beginning) (opening : Opening) (mets : List Met) (lease : LeaseContent) → FitsBeginning beginning
+    → KeepsTyped beginning → IsLived own beginning opening mets → held_of (iface_after own beginning opening mets).dhcp4 ≡ Some lease
+    → Rests (site_of own beginning opening) lease (shown opening mets)
+held_leases_rest own beginning opening mets lease fits typed lived held =
+    lease_rests (site_of own beginning opening) (failed_last (site_of own beginning opening) (shown opening mets) ≡ false) (iface_after own beginning opening mets)
     (shown opening mets) lease (turned own beginning fits typed opening mets lived).leased held

@@ -14,16 +14,19 @@ use Rattle.v4_message.specs.declared.writing.Kind4.{Kind4}
 use Rattle.v4_message.specs.declared.writing.Kind4.TheVariants.{Request}
 use Rattle.v4_frames.specs.declared.sent.Sent4.{Sent4}
 use Rattle.evidence_words.specs.Entries.{Entry, Offer}
+use Rattle.evidence_words.specs.IfaceLives.{now_in, shown, site_of}
 use Rattle.evidence_words.specs.Inputs.{Site, StaysOn, offers_at}
 use Rattle.lease_evidence.specs.Endings.{LosesCarrier, IsGivenBack, IsToldToStop, IsRefused, Says}
 use Rattle.lease_evidence.specs.Exchanges.{Numbered, message_of}
-use Rattle.lease_evidence.specs.HeldLeases.{PlainLeasesAreGranted}
+use Rattle.lease_evidence.specs.HeldLeases.{IsAsGranted, IsPlain4, PlainLeasesAreAsGranted, PlainLeasesAreGranted}
 use Rattle.lease_evidence.specs.KeptBasis4.{AsksAgain, AsksAlone, IsAcknowledged, IsUnrefused, KeptBasis4, Sometime, speaks}
 use Rattle.lease_evidence.specs.KeptNeeds.{KeptGivesNothing, NeedsFlag, HasNoOrigin, NeedsOrigin, NeedsItsAddress, EndsWithKept, KeptEndsBy, SaysElse, NamesServer, NeedsOneExchange, NeedsAsking}
 use Rattle.lease_evidence.specs.LeaseBasis.{GrantsNothing}
 use Rattle.lease_evidence.proofs.Cutting.{always_cut}
 use Rattle.lease_evidence.proofs.EndingProofs.{lost_goes, given_goes, stop_goes}
+use Rattle.lease_evidence.proofs.HeldRuns.{held_leases_rest}
 use Rattle.lease_evidence.proofs.LawProofs.{lasts_not}
+use Rattle.lease_evidence.proofs.Leases.{Rests}
 
 differ : (b : Bool) → b ≡ true → b ≡ false → ⊥
 differ true t f = absurd cc
@@ -58,6 +61,15 @@ pub plain_leases : PlainLeasesAreGranted
 plain_leases site net now past plain (inl granted) = granted
 plain_leases site net now past (inl off) (inr kept) = absurd (needs_flag site net now past off kept)
 plain_leases site net now past (inr none) (inr kept) = absurd (needs_origin site net now past none kept)
+
+as_granted : (site : Site) (lease : LeaseContent) (past : List Entry) → IsPlain4 site → Rests site lease past → IsAsGranted site lease (now_in past) past
+as_granted site lease past plain (inl granted) = granted
+as_granted site lease past (inl off) (inr kept) = absurd (needs_flag site (V4 lease.net) (now_in past) past off kept)
+as_granted site lease past (inr none) (inr kept) = absurd (needs_origin site (V4 lease.net) (now_in past) past none kept)
+
+pub plain_leases_as_granted : PlainLeasesAreAsGranted
+plain_leases_as_granted own beginning opening mets lease fits typed lived plain held =
+    as_granted (site_of own beginning opening) lease (shown opening mets) plain (held_leases_rest own beginning opening mets lease fits typed lived held)
 
 -- ---- the carrier, a release and a stop
 

@@ -1,5 +1,5 @@
 -- A lease that is held has its basis.
-use Rattle.std.proofs.Common.{◌≡◌, ℕ, zero, suc, ◌+◌, ◌*◌, ◌||◌, Bool, true, false, List, [], ◌∷◌, Option, Some, None, IfSome, inl, inr, refl, sym, ap, subst, ◌∙◌, nat_lt, eqb, arith, if◌then◌else◌}
+use Rattle.std.proofs.Common.{◌≡◌, ℕ, zero, suc, ◌+◌, ◌*◌, ◌||◌, Bool, true, false, List, [], ◌∷◌, Option, Some, None, IfSome, ◌⊎◌, inl, inr, refl, sym, ap, subst, ◌∙◌, nat_lt, eqb, arith, if◌then◌else◌}
 use Rattle.std.proofs.lemmas.Bool.Decides.{nat_tests}
 use Rattle.std.specs.Option.{is_some}
 use Rattle.std.specs.Prelude.{option_map}
@@ -24,7 +24,7 @@ use Rattle.evidence_words.specs.Inputs.{Site}
 use Rattle.evidence_words.specs.Probed.{TurnWord, AsProbe, Probes, Probed}
 use Rattle.lease_evidence.specs.Exchanges.{seen_in}
 use Rattle.evidence_words.specs.IfaceLives.{now_in}
-use Rattle.lease_evidence.specs.HeldLeases.{LeaseRests}
+use Rattle.lease_evidence.specs.HeldLeases.{IsAsGranted, LeaseRests}
 use Rattle.lease_evidence.specs.KeptBasis4.{KeptBasis4}
 use Rattle.lease_evidence.specs.LeaseBasis.{Calm, FirstAck, CalmFor, LeaseBasis}
 use Rattle.lease_evidence.proofs.LawProofs.{granting}
@@ -70,6 +70,10 @@ lasts_unexpired first lease at h = by_end (eqb lease INFINITE_LEASE) (first + SE
     by_end true end h = refl
     by_end false end h = grind (arith, nat_tests)
 
+-- the lease is as it was granted, or it is the kept one
+abbrev pub Rests : Site → LeaseContent → List Entry → Type 0
+Rests site lease past = IsAsGranted site lease (now_in past) past ⊎ KeptBasis4 site (V4 lease.net) (now_in past) past
+
 -- an exchange that was granted began with the terms
 granted_first : (site : Site) (grant : Grant) (past : List Entry) → Since (CalmFor site grant.opened) (FirstAck site grant.opened grant.terms) past
     → grant.terms.first ≡ grant.opened.exchange.first
@@ -81,20 +85,26 @@ granted_first site grant (e ∷ past) h = elim h [
 
 module _ (site : Site) (past : List Entry) (lease : LeaseContent) where
   by_grant : (terms : Terms4) (grant : Option Grant) → (kept_in site past).grant ≡ grant → terms_of lease ≡ terms → Holds (Lasts (now_in past)) terms grant
-      → IsProbed site terms.net.ip past → LeaseBasis site (V4 lease.net) (now_in past) past
+      → IsProbed site terms.net.ip past → IsAsGranted site lease (now_in past) past
   by_grant terms None is same holds probed_so = absurd holds
   by_grant terms (Some grant) is same holds probed_so =
       let stands : Since (CalmFor site grant.opened) (FirstAck site grant.opened grant.terms) past = (observes site past).stands grant is in
       let lasts : Lasts (now_in past) grant.terms = subst (λ (t : Terms4). Lasts (now_in past) t) (sym holds.0) holds.1 in
+      let as_granted : terms_of lease ≡ grant.terms = same ∙ sym holds.0 in
+      let began : grant.terms.first ≡ grant.opened.exchange.first = granted_first site grant past stands in
       record {
-        opened = grant.opened;
-        terms = grant.terms;
-        gives = ap (λ (t : Terms4). V4 t.net) (same ∙ sym holds.0);
-        granted = stands;
-        unexpired = subst (λ (n : ℕ). is_unexpired n grant.terms.lease (now_in past) ≡ true) (granted_first site grant past stands)
-            (lasts_unexpired grant.terms.first grant.terms.lease (now_in past) lasts);
-        probed = λ noarp. probed (Calm site) site grant.terms.net.ip past
-            (subst (λ (t : Terms4). Probed (Calm site) (Calm site) site t.net.ip past) (sym holds.0) (probed_so noarp));
+        basis = record {
+          opened = grant.opened;
+          terms = grant.terms;
+          gives = ap (λ (t : Terms4). V4 t.net) as_granted;
+          granted = stands;
+          unexpired = subst (λ (n : ℕ). is_unexpired n grant.terms.lease (now_in past) ≡ true) began
+              (lasts_unexpired grant.terms.first grant.terms.lease (now_in past) lasts);
+          probed = λ noarp. probed (Calm site) site grant.terms.net.ip past
+              (subst (λ (t : Terms4). Probed (Calm site) (Calm site) site t.net.ip past) (sym holds.0) (probed_so noarp));
+        };
+        terms = as_granted;
+        first = ap (λ (t : Terms4). t.first) as_granted ∙ began;
       }
 
   kept_terms : (kept : Option LeaseContent) (terms : Terms4) → kept ≡ Some lease → option_map terms_of kept ≡ Some terms → terms_of lease ≡ terms
@@ -141,7 +151,7 @@ module _ (site : Site) (past : List Entry) (lease : LeaseContent) where
 
   by_state : (clean : Type 0) (state : State4) (kept : Option LeaseContent) → (if is_held state then kept else None) ≡ Some lease → IsKept (held_terms state) kept
       → On (Lasts (now_in past)) state (seen_in site past).current (kept_in site past).answered (kept_in site past).grant
-      → Bears site clean state past → StandsIn site past state kept → LeaseRests site (V4 lease.net) (now_in past) past
+      → Bears site clean state past → StandsIn site past state kept → Rests site lease past
   by_state clean Off kept is sound on bears s = not_held is
   by_state clean (Init due) kept is sound on bears s = not_held is
   by_state clean (Selecting xid began secs backoff due) kept is sound on bears s = not_held is
@@ -156,8 +166,14 @@ module _ (site : Site) (past : List Entry) (lease : LeaseContent) where
   by_state clean (Rebinding exchange terms acd due) kept is sound on bears s =
       inl (by_grant terms (kept_in site past).grant refl (kept_terms kept terms is sound) on.1 bears.1)
 
--- the lease that an interface holds has its basis at the moment of the newest turn
+-- the lease that an interface holds rests so at the moment of the newest turn
+pub lease_rests : (site : Site) (clean : Type 0) (f : Iface) (past : List Entry) (lease : LeaseContent) → Leased site clean f past
+    → held_of f.dhcp4 ≡ Some lease → Rests site lease past
+lease_rests site clean f past lease leased held =
+    by_state site past lease clean f.dhcp4.state f.dhcp4.kept held leased.client.sound.held leased.client.watched.on leased.client.bears leased.client.stands.stands
+
+-- and has its basis
 pub lease_has_basis : (site : Site) (clean : Type 0) (f : Iface) (past : List Entry) (lease : LeaseContent) → Leased site clean f past
     → held_of f.dhcp4 ≡ Some lease → LeaseRests site (V4 lease.net) (now_in past) past
 lease_has_basis site clean f past lease leased held =
-    by_state site past lease clean f.dhcp4.state f.dhcp4.kept held leased.client.sound.held leased.client.watched.on leased.client.bears leased.client.stands.stands
+    elim (lease_rests site clean f past lease leased held) [ inl granted ↦ inl granted.basis | inr kept ↦ inr kept ]

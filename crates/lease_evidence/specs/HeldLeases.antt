@@ -4,7 +4,7 @@ use Rattle.net_types.specs.declared.address.Mac.{Mac}
 use Rattle.net_types.specs.declared.address.Net.{Net}
 use Rattle.net_types.specs.declared.address.Net.TheVariants.{V4}
 use Rattle.lease_text.specs.Bounds.{IsTyped}
-use Rattle.lease_text.specs.Leases.{LeaseContent}
+use Rattle.lease_text.specs.Leases.{LeaseContent, terms_of}
 use Rattle.v4_client.specs.Clients.{held_of}
 use Rattle.world.specs.declared.rows.HostRow.{HostRow}
 use Rattle.settings.specs.declared.interfaces.Managed.{Managed}
@@ -43,6 +43,22 @@ IsPlain4 site = (site.managed.conf.persistent ≡ false) ⊎ HasNoOrigin site
 abbrev pub PlainLeasesAreGranted : Type 0
 PlainLeasesAreGranted = (site : Site) (net : Net) (now : ℕ) (past : List Entry) → IsPlain4 site
     → LeaseRests site net now past → LeaseBasis site net now past
+
+-- A held lease has its basis, and is as the ACK of that basis says: these are its terms, and its time counts from the first
+-- REQUEST of that exchange.
+pub record IsAsGranted (site : Site) (lease : LeaseContent) (now : ℕ) (past : List Entry) : Type 0 where
+  pub basis : LeaseBasis site (V4 lease.net) now past
+  pub terms : terms_of lease ≡ basis.terms
+  pub first : lease.first ≡ basis.opened.exchange.first
+
+-- So is each lease that such an interface holds.
+abbrev pub PlainLeasesAreAsGranted : Type 0
+PlainLeasesAreAsGranted = (own : List Mac) (beginning : Beginning) (opening : Opening) (mets : List Met)
+    (lease : LeaseContent)
+    → FitsBeginning beginning → KeepsTyped beginning → IsLived own beginning opening mets
+    → IsPlain4 (site_of own beginning opening)
+    → held_of (iface_after own beginning opening mets).dhcp4 ≡ Some lease
+    → IsAsGranted (site_of own beginning opening) lease (now_in (shown opening mets)) (shown opening mets)
 
 -- So after the opening such an interface holds no lease, whatever was kept.
 abbrev pub BeginsWithoutLease : Type 0

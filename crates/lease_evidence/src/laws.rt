@@ -7,7 +7,7 @@ ghost use Rattle.v4_message.specs.declared.writing.Kind4.TheVariants.{Decline, D
 ghost use Rattle.evidence_words.specs.IfaceLives.{IsLived, iface_after, shown, site_of};
 ghost use Rattle.lease_evidence.specs.AskedFirst.{LastsFromRequest, NeedsFrameHere, NeedsNewRequest, NeedsRequest};
 ghost use Rattle.lease_evidence.specs.Endings.{EndsBy, EndsBySaying, IsGivenBack, IsRefused, IsToldToStop, LosesCarrier, NewestCounts};
-ghost use Rattle.lease_evidence.specs.HeldLeases.{BeginsWithKept, BeginsWithStaticRows, BeginsWithoutLease, HeldLeasesHaveBasis, PlainLeasesAreGranted};
+ghost use Rattle.lease_evidence.specs.HeldLeases.{BeginsWithKept, BeginsWithStaticRows, BeginsWithoutLease, HeldLeasesHaveBasis, PlainLeasesAreAsGranted, PlainLeasesAreGranted};
 ghost use Rattle.lease_evidence.specs.KeptNeeds.{EndsWithKept, KeptEndsBy, NamesServer, NeedsAsking, NeedsFlag, NeedsItsAddress, NeedsOneExchange, NeedsOrigin, SaysElse};
 ghost use Rattle.lease_evidence.specs.LeaseBasis.{LeaseBasis};
 ghost use Rattle.lease_evidence.specs.Laws.{EndsWithLease, ForeignGivesNothing, NeedsAck};
@@ -18,10 +18,12 @@ ghost use Rattle.lease_evidence.specs.SevenTurns.{beginning, lease, opening, sev
 /// Law: each lease that an interface holds after its opening and some turns, with any outcomes of its frames, has its basis
 /// in what they showed: an ACK in its own exchange, unexpired, probed and not given up since (RFC 2131, section 4.4); or,
 /// under `persistent`, it is the lease that was kept with its origin, unexpired, and a server is asked to confirm it.
-/// Without the flag or an origin it is the former.
+/// Without the flag or an origin it is the former, and the lease has the terms of that ACK, and its time counts from the first
+/// REQUEST of the exchange.
 pub fn held_leases_have_a_basis()
     ensures each { HeldLeasesHaveBasis }
     ensures plain { PlainLeasesAreGranted }
+    ensures as_granted { PlainLeasesAreAsGranted }
 {}
 
 /// Law: after the opening no interface holds a lease without `persistent`, nor one that was kept without its origin: such a
