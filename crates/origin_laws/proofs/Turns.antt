@@ -64,13 +64,13 @@ pub record Stands (site : Site) (past : List Entry) (f : Iface) : Type 0 where
 -- ---- a turn
 
 -- what a failed send of the turn before undoes is nothing to DHCPv6
-record IsSame (f g : Iface) : Type 0 where
-  managed : g.managed ≡ f.managed
-  up : g.up ≡ f.up
-  stopped : g.stopped ≡ f.stopped
-  client : g.dhcp6 ≡ f.dhcp6
+pub record IsSame (f g : Iface) : Type 0 where
+  pub managed : g.managed ≡ f.managed
+  pub up : g.up ≡ f.up
+  pub stopped : g.stopped ≡ f.stopped
+  pub client : g.dhcp6 ≡ f.dhcp6
 
-unsent_same : (set at salt : ℕ) (f : Iface) → IsSame f (unsent_in set at salt f)
+pub unsent_same : (set at salt : ℕ) (f : Iface) → IsSame f (unsent_in set at salt f)
 unsent_same set at salt f =
     gated (λ (g : Iface). IsSame f g) (is_in set (index_of f)) _ _
     (record { managed = refl; up = refl; stopped = refl; client = refl })
@@ -151,7 +151,7 @@ module _ (site : Site) (past : List Entry) (met : Met) (f : Iface) (stands : Sta
     does : Does g (tick_turned at salt g.dhcp6).client (says_of g (tick_turned at salt g.dhcp6)) tick
     does = ticks_run at salt g
 
-    managed1 : g1.managed ≡ site.managed
+    pub managed1 : g1.managed ≡ site.managed
     managed1 = does.managed ∙ same.managed ∙ stands.managed
 
     stopped1 : g1.stopped ≡ f.stopped

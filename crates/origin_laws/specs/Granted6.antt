@@ -46,8 +46,8 @@ pub record WasKept (kept : Option Lease6Content) (lease : Lease6Content) : Type 
 abbrev pub client_at : Met → Iface → ClientContent
 client_at met iface = (tick_turned met.turn.at met.turn.salt iface.dhcp6).client
 
--- In a turn of an interface that stood so before it, a Reply came in of the exchange that its client had open. It granted
--- the lease, or the one that this is left of, and the interface and the moment are its origin.
+-- In a turn of an interface that stood so before it, a Reply came in of the exchange that its client had open. It
+-- granted the lease, or the one that this is left of, and the interface and the moment are its origin.
 pub record IsGrantedIn (site : Site) (lease : Lease6Content) (met : Met) (iface : Iface) : Type 0 where
   pub message : Content6
   pub came : message6_at site (entry_of met) ≡ Some message

@@ -1,2 +1,3 @@
 pub mod Granted6
 pub mod Origins6
+pub mod Origins4

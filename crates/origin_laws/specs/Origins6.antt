@@ -15,8 +15,8 @@ use Rattle.lease6_evidence.specs.Exchanges6.{Numbered6}
 use Rattle.lease6_evidence.specs.Replies6.{FirstReply}
 use Rattle.origin_laws.specs.Granted6.{WasKept, origin_at}
 
--- The first good Reply of an exchange of this life came in. The lease names its server, and the interface and the moment
--- are its origin.
+-- The first good Reply of an exchange of this life came in. The lease names its server, and the interface and the
+-- moment are its origin.
 pub record Confirms6 (site : Site) (lease : Lease6Content) (e : Entry) (past : List Entry) : Type 0 where
   pub opened : Numbered6
   pub message : Content6
