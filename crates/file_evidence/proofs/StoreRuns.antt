@@ -121,7 +121,7 @@ second_off true b e = cc
 second_off false b e = e
 
 module _ (managed : List Managed) where
-  told_are_turns : (coming : List Given) (life : Life) (world : World) → AreTurns managed life (told_turns managed life world coming)
+  pub told_are_turns : (coming : List Given) (life : Life) (world : World) → AreTurns managed life (told_turns managed life world coming)
   told_are_turns [] life world = tt
   told_are_turns (given ∷ coming) life world = by (is_over life || is_end given.wake.event) refl (told_are_turns coming ran.result ran.world)
     where

@@ -1,5 +1,5 @@
 -- The addresses of a DHCPv4 client are those that a host may have, and the lease that it holds is the kept one.
-use Rattle.std.proofs.Common.{◌≡◌, ℕ, ◌<◌, ◌^◌, List, Option, Some, None, option_map, refl, sym, ap, subst, if◌then◌else◌}
+use Rattle.std.proofs.Common.{◌≡◌, ℕ, ◌<◌, ◌^◌, List, Option, Some, None, option_map, refl, sym, subst, if◌then◌else◌}
 use Rattle.std.specs.Option.{is_some}
 use Rattle.machine.specs.Moment.{is_due}
 use Rattle.net_types.proofs.CaseLaws.{gated}

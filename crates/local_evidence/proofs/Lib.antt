@@ -5,3 +5,4 @@ pub mod Phases
 pub mod Ticks
 pub mod Weakening
 mod Counting
+mod Guards

@@ -1,6 +1,6 @@
 -- Why a link-local address may be held (RFC 3927, sections 2.2.1 and 2.5). Moments are in milliseconds.
-use Rattle.std.specs.Prelude.{◌≡◌, ◌+◌, ◌≤◌, ◌<◌, true, List, [], ◌∷◌, ◌++◌}
-use Rattle.std.specs.List.{AllByRecursion}
+use Rattle.std.specs.Prelude.{◌≡◌, ◌≢◌, ◌⊎◌, ◌+◌, ◌≤◌, ◌<◌, true, List, [], ◌∷◌, ◌++◌}
+use Rattle.std.specs.List.{AllByRecursion, Contains}
 use Rattle.net_types.specs.declared.address.Ip4.{Ip4}
 use Rattle.net_types.specs.declared.address.Net.{Net}
 use Rattle.net_types.specs.declared.address.Net.TheVariants.{V4}
@@ -57,3 +57,19 @@ StrongBasis site net past = LocalChoice (Undisturbed site) (Undisturbed site) si
 abbrev pub NeedsThreeProbes : Type 0
 NeedsThreeProbes = (site : Site) (addr : Ip4) (past : List Entry) → probes_taken site addr past < 3
     → LinkLocalBasis site (V4 (local_net addr)) past → ⊥
+
+-- An address below 169.254.1.0 or above 169.254.254.255 has none.
+abbrev pub NeedsItsRange : Type 0
+NeedsItsRange = (site : Site) (addr : Ip4) (past : List Entry) → (addr.number < 0xa9fe_0100) ⊎ (0xa9fe_feff < addr.number)
+    → LinkLocalBasis site (V4 (local_net addr)) past → ⊥
+
+-- in the turn a frame announces this address (RFC 5227, section 2.3)
+pub record Announces (site : Site) (addr : Ip4) (e : Entry) : Type 0 where
+  pub offer : Offer
+  pub among : Contains (offers_at site e) offer
+  pub spells : offer.bytes ≡ announcement_text site.managed.spec.mac addr
+
+-- Where another address is announced in the newest turn, this one has none.
+abbrev pub EndsByAnother : Type 0
+EndsByAnother = (site : Site) (addr other : Ip4) (e : Entry) (past : List Entry) → FitsIp4 other → other ≢ addr → Announces site other e
+    → LinkLocalBasis site (V4 (local_net addr)) (e ∷ past) → ⊥

@@ -3,4 +3,4 @@
 
 mod laws;
 
-pub use laws::needs_three_probes;
+pub use laws::{ends_by_another_address, needs_its_range, needs_three_probes};

@@ -6,6 +6,7 @@ pub mod ChoiceLaws
 pub mod FirstBadLaws
 pub mod FirstPlace
 pub mod GroupLaws
+pub mod HexBlocks
 pub mod HexLaws
 pub mod Ip6Laws
 pub mod Ip6Marks

@@ -6,7 +6,7 @@ ghost use Rattle.net_types.specs.HexText.{byte_hex, hex_text};
 
 use crate::address::{Ip4, Mac, Net4};
 use crate::fault::NoMemory;
-use crate::hexadecimal::{digits_of, write_pairs};
+use crate::hexadecimal::{BLOCK_LEN, digits_of, digits_of_block, write_pairs};
 use itoa::Buffer;
 
 /// Appends bytes as they are; where memory runs out nothing.
@@ -26,8 +26,8 @@ pub fn append_number(number: u64, into: &mut Vec<u8>) -> Result<(), NoMemory>
     append_bytes(Buffer::new().format(number).as_bytes(), into)
 }
 
-/// Appends two digits a byte.
-fn append_pairs(bytes: &[u8], into: &mut Vec<u8>) -> Result<(), NoMemory>
+/// Appends two digits a byte; where memory runs out nothing.
+fn append_tail(bytes: &[u8], into: &mut Vec<u8>) -> Result<(), NoMemory>
     ensures ok { OnOk result (into.new.items ≡ into.old.items ++ flat_map byte_hex bytes.now) }
     ensures err { OnErr result (into.new.items ≡ into.old.items) }
 {
@@ -36,6 +36,33 @@ fn append_pairs(bytes: &[u8], into: &mut Vec<u8>) -> Result<(), NoMemory>
     into.resize(len.saturating_add(2 * bytes.len()), 0)?;
     write_pairs(bytes, &mut into[len..]);
     Ok(())
+}
+
+/// Appends two digits a byte, by blocks, or those of a front of the bytes where memory runs out.
+fn append_blocks(bytes: &[u8], into: &mut Vec<u8>) -> Result<(), NoMemory>
+    ensures ok { OnOk result (into.new.items ≡ into.old.items ++ flat_map byte_hex bytes.now) }
+    ensures err { OnErr result (StandsInFront into.old.items into.new.items) }
+{
+    let mut rest = bytes;
+    'chunks: while let Some((block, others)) = rest.split_first_chunk::<BLOCK_LEN>() {
+        into.extend_from_slice(&digits_of_block(block))?;
+        rest = others;
+    }
+    append_tail(rest, into)
+}
+
+/// Appends two digits a byte; where memory runs out nothing.
+fn append_pairs(bytes: &[u8], into: &mut Vec<u8>) -> Result<(), NoMemory>
+    ensures ok { OnOk result (into.new.items ≡ into.old.items ++ flat_map byte_hex bytes.now) }
+    ensures err { OnErr result (into.new.items ≡ into.old.items) }
+{
+    let len = into.len();
+    into.try_reserve(bytes.len().saturating_mul(2))?;
+    let appended = append_blocks(bytes, into);
+    if appended.is_err() {
+        into.truncate(len);
+    }
+    appended
 }
 
 /// Appends two digits a byte, or `-` for none; where memory runs out nothing.

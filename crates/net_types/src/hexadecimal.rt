@@ -1,10 +1,28 @@
 //! Bytes as pairs of lower-case hexadecimal digits.
-ghost use Rattle.std.specs.Prelude.{◌≡◌, ◌*◌, flat_map, length, option_map, IfOk};
+ghost use Rattle.std.specs.Prelude.{◌≡◌, ◌*◌, ◌/◌, ◌<◌, ◌++◌, ◌==◌, flat_map, length, option_map};
+ghost use Rattle.std.specs.Prelude.{if◌then◌else◌, IfOk, None, Some};
+ghost use Rattle.std.specs.List.{list_all};
 ghost use Rattle.net_types.specs.HexText.{byte_hex, hex_at, hex_byte_at, lacks_capitals, pairs_at};
 
 use crate::fault::NoMemory;
-use hex::{FromHex, FromHexError};
+use hex::FromHex;
 use std::alloc::Global;
+
+/// How many bytes are read and written at once.
+pub(crate) const BLOCK_LEN: usize = 16;
+/// How many digits they have.
+pub(crate) const BLOCK_DIGITS: usize = 2 * BLOCK_LEN;
+
+/// Whether all bytes are this one. Without a branch, so that many are asked at once.
+fn are_all(byte: u8, bytes: &[u8]) -> bool
+    ensures { result ≡ list_all (λ b. b == byte) bytes.now }
+{
+    let mut good = true;
+    'bytes: for i in 0..bytes.len() {
+        good &= bytes[i] == byte;
+    }
+    good
+}
 
 /// Whether no byte is a capital letter. Without a branch, so that many are asked at once.
 fn lacks_capitals(text: &[u8]) -> bool
@@ -29,18 +47,68 @@ pub fn hex_byte_of(bytes: &[u8]) -> Option<u8>
     Some(byte)
 }
 
+/// The bytes that a block of digits spells. Most blocks of a frame are zeros, which are seen at once.
+#[tactic(auto, using(crate::proofs::HexBlocks::block_steps))]
+fn block_of(block: &[u8; BLOCK_DIGITS]) -> Option<[u8; BLOCK_LEN]>
+    ensures { result ≡ pairs_at block.now }
+{
+    if are_all(b'0', block) {
+        return Some([0; BLOCK_LEN]);
+    }
+    if !lacks_capitals(block) {
+        return None;
+    }
+    <[u8; BLOCK_LEN]>::from_hex(block.as_slice()).ok()
+}
+
+/// Reads pairs up to the end into room of their length; false where they spell no bytes.
+#[tactic(auto, using(crate::proofs::HexLaws::capital_pairs))]
+fn read_pairs(pairs: &[u8], bytes: &mut [u8]) -> bool
+    requires { length bytes.old ≡ length pairs.now / 2 }
+    ensures { pairs_at pairs.now ≡ (if result then Some bytes.new else None) }
+{
+    if !lacks_capitals(pairs) {
+        return false;
+    }
+    match hex::decode_to_slice(pairs, bytes) {
+        Ok(()) => true,
+        Err(_) => false,
+    }
+}
+
+/// Appends the bytes that fewer digits than a block's spell; false where they spell none.
+#[tactic(auto, using(crate::proofs::HexBlocks::appended_some, crate::proofs::HexBlocks::appended_none))]
+fn append_tail(digits: &[u8], bytes: &mut Vec<u8>) -> Result<bool, NoMemory>
+    requires { length digits.now < 32 }
+    ensures { IfOk result (λ good. option_map (λ more. bytes.old.items ++ more) (pairs_at digits.now)
+        ≡ (if good then Some bytes.new.items else None)) }
+{
+    let mut room = [0; BLOCK_LEN];
+    let tail = &mut room[..digits.len() / 2];
+    if !read_pairs(digits, tail) {
+        return Ok(false);
+    }
+    bytes.extend_from_slice(tail)?;
+    Ok(true)
+}
+
 /// The bytes that pairs up to the end spell.
-#[tactic(auto, using(crate::proofs::HexLaws::pairs_decoded, crate::proofs::HexLaws::capital_pairs))]
 fn pairs_of(alloc: Global, pairs: &[u8]) -> Result<Option<Vec<u8>>, NoMemory>
     ensures { IfOk result (λ o. option_map (λ v. v.items) o ≡ pairs_at pairs.now) }
 {
-    if !lacks_capitals(pairs) {
-        return Ok(None);
+    let mut bytes = Vec::with_capacity(alloc, pairs.len() / 2)?;
+    let mut rest = pairs;
+    'chunks: while let Some((block, others)) = rest.split_first_chunk::<BLOCK_DIGITS>() {
+        let Some(more) = block_of(block) else {
+            return Ok(None);
+        };
+        bytes.extend_from_slice(&more)?;
+        rest = others;
     }
-    match hex::decode(alloc, pairs) {
-        Ok(bytes) => Ok(Some(bytes)),
-        Err(FromHexError::OutOfMemory) => Err(NoMemory),
-        Err(_) => Ok(None),
+    if append_tail(rest, &mut bytes)? {
+        Ok(Some(bytes))
+    } else {
+        Ok(None)
     }
 }
 
@@ -68,6 +136,18 @@ pub(crate) fn write_pairs(bytes: &[u8], pairs: &mut [u8])
         Ok(()) => (),
         Err(_) => unreachable!(),
     }
+}
+
+/// The digits of a block of bytes. Most blocks of a frame are zeros, which are seen at once.
+#[tactic(auto, using(crate::proofs::HexBlocks::zeros_written))]
+pub(crate) fn digits_of_block(block: &[u8; BLOCK_LEN]) -> [u8; BLOCK_DIGITS]
+    ensures { result ≡ flat_map byte_hex block.now }
+{
+    let mut digits = [b'0'; BLOCK_DIGITS];
+    if !are_all(0, block) {
+        write_pairs(block, &mut digits);
+    }
+    digits
 }
 
 /// The two digits of a byte.
