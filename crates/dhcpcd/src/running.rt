@@ -7,6 +7,7 @@ ghost use Rattle.dhcpcd.specs.Checks.{IsCheckAnswer};
 ghost use Rattle.dhcpcd.specs.Dumping.{IsDumpAnswer};
 ghost use Rattle.dhcpcd.specs.Importing.{IsImportAnswer};
 ghost use Rattle.dhcpcd.specs.Labs.{IsLabAnswer};
+ghost use Rattle.dhcpcd.specs.LabsHeld.{IsHeldApart};
 ghost use Rattle.dhcpcd.specs.GoodAsks.{AskGoodReplay, AskGoodCheck, AskGoodDump, AskGoodImport, AskGoodLab, AskGoodLive, StreamsHeld, StreamsNeverFail, WaitsHeld, WaitsNeverFail};
 ghost use Rattle.dhcpcd.specs.Input.{ReadsWithin, input_told};
 ghost use Rattle.dhcpcd.specs.Living.{IsAnsweredLive, CompletesLife, HasLinkCause, around};
@@ -55,6 +56,9 @@ pub fn run<I: Source, O: Sink, W: Outside>(
     ensures imports { (name : Name) (mac : Mac) → AsksImport (map string_bytes words.now) name mac
         → IsImportAnswer (spec_of name mac) result (I.left input.old) (O.written out.old) (O.written out.new) }
     ensures lab { AskLab (map string_bytes words.now) → IsLabAnswer result (I.left input.old) (O.written out.old) (O.written out.new) }
+    ensures lab_apart { AskLab (map string_bytes words.now)
+        → result ≡ Status.Done
+        → IsHeldApart (I.left input.old) (O.written out.old) (O.written out.new) }
     ensures usage { (AskWork (map string_bytes words.now) → ⊥) → IsUsage (map string_bytes words.now) result }
     ensures formless { result ≡ Status.Usage → AskWork (map string_bytes words.now) → ⊥ }
     ensures unread { (AskWork (map string_bytes words.now) → ⊥) → (I.reads input.new ≡ I.reads input.old) × (I.left input.new ≡ I.left input.old) }
