@@ -21,7 +21,8 @@ Fits came = FitsEvent came.0 came.1
 
 frame_is : IsShape text_of Fits frame
 frame_is = record {
-  reads = same_range (λ p. Fits (frame.make p)) (λ p fits. (fits.0, fits.2)) (λ p fits. (fits.0, refl, fits.1)) (pair_reads 32 index_reads hex_reads index_lacks);
+  reads = same_range (λ p. Fits (frame.make p)) (λ p fits. (fits.0, fits.2)) (λ p fits. (fits.0, refl, fits.1))
+      (pair_reads 32 index_reads hex_reads index_lacks);
   spelled = λ p. simp append_assoc;
 }
 
@@ -33,7 +34,8 @@ carrier_is = record {
 
 duplicate_is : IsShape text_of Fits duplicate
 duplicate_is = record {
-  reads = same_range (λ p. Fits (duplicate.make p)) (λ p fits. (fits.0, fits.1)) (λ p fits. (fits.0, fits.1, refl)) (pair_reads 32 index_reads printed_ip6_reads index_lacks);
+  reads = same_range (λ p. Fits (duplicate.make p)) (λ p fits. (fits.0, fits.1)) (λ p fits. (fits.0, fits.1, refl))
+      (pair_reads 32 index_reads printed_ip6_reads index_lacks);
   spelled = λ p. simp append_assoc;
 }
 
@@ -50,7 +52,10 @@ quiet_is : IsShape text_of Fits quiet
 quiet_is = record { reads = same_range (λ n. Fits (quiet.make n)) (λ n fits. tt) (λ n fits. refl) end_reads; spelled = λ n. refl }
 
 sounds : AreSound text_of Fits events
-sounds = with_shape frame_is (with_shape carrier_is (with_shape duplicate_is (with_shape release_is (with_shape rebind_is (with_shape stop_is (with_shape quiet_is no_shape))))))
+sounds =
+    with_shape frame_is
+    (with_shape carrier_is
+    (with_shape duplicate_is (with_shape release_is (with_shape rebind_is (with_shape stop_is (with_shape quiet_is no_shape))))))
 
 -- an event without bytes
 abbrev IsChosen : Event → List ℕ → Type 0

@@ -137,7 +137,8 @@ names_sound : Sound names_text (AllByRecursion IsFileName) names_at
 unfolding names_at
 names_sound [] names e = subst (λ ns. ([] ≡ names_text ns) × AllByRecursion IsFileName ns) (some_same e) (refl, tt)
 names_sound (b ∷ rest) names e =
-    elim (eqb b 32) as (λ is. eqb b 32 ≡ is → cond is (list_at 32 file_field.at rest) None ≡ Some names → (b ∷ rest ≡ names_text names) × AllByRecursion IsFileName names) [
+    elim (eqb b 32) as (λ is. eqb b 32 ≡ is → cond is (list_at 32 file_field.at rest) None ≡ Some names
+    → (b ∷ rest ≡ names_text names) × AllByRecursion IsFileName names) [
       | true ↦ λ t q.
           let blank : b ≡ 32 = eqb-true b 32 t in
           rw blank (after_blank rest names (listed_reads.sound rest names q))
@@ -188,7 +189,9 @@ poll_reads = record {
 
 moment_whole : (moment : Option ℕ) → FitsMoment moment → moment_field.at (moment_field.text moment) ≡ Some moment
 unfolding number_at is_numeral
-moment_whole (Some at) fits = told_other (λ text. option_map Some (number_at (2 ^ 64) text)) (codes "none") None (decimal at) (Some at) refl (ap (option_map Some) (count_reads.whole at fits))
+moment_whole (Some at) fits =
+    told_other (λ text. option_map Some (number_at (2 ^ 64) text)) (codes "none") None (decimal at) (Some at) refl
+    (ap (option_map Some) (count_reads.whole at fits))
 moment_whole None fits = refl
 
 pub moment_reads : Reads moment_field.text moment_field.Fits moment_field.at
@@ -215,7 +218,8 @@ variable_reads =
 pub row_reads : Reads row_field.text row_field.Fits row_field.at
 unfolding printed_row_at
 row_reads =
-    printed_reads row_text IsRow row_at (λ text row e. (row_finds.sound text row e).1) (λ row fits. row_finds.whole (row_text row) row (row_printed row fits, fits))
+    printed_reads row_text IsRow row_at (λ text row e. (row_finds.sound text row e).1)
+    (λ row fits. row_finds.whole (row_text row) row (row_printed row fits, fits))
 
 net6_not4 : (net : Net6) → FitsNet6 net → (o : Option Net4) → net4_at (net6_text net) ≡ o → o ≡ None
 net6_not4 net fits None was = refl

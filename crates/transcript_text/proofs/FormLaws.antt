@@ -28,7 +28,8 @@ same_bytes : (text : List ℕ) → bytes_eq text text ≡ true
 same_bytes text = (bytes_eq-Decides text text).1 refl
 
 -- what is found passes its test, and any other that all pass
-pub found_passes : {X : Type 0} (test other : X → Bool) (all : List X) (x : X) → find test all ≡ Some x → list_all other all ≡ true → (test x ≡ true) × (other x ≡ true)
+pub found_passes : {X : Type 0} (test other : X → Bool) (all : List X) (x : X) → find test all ≡ Some x → list_all other all ≡ true
+    → (test x ≡ true) × (other x ≡ true)
 found_passes test other [] x e passes = cc
 found_passes test other (y ∷ all) x e passes =
     let parts = and_parts (other y) (list_all other all) passes in
@@ -80,7 +81,8 @@ told_other other word x text y none some =
     ] refl
 
 -- what is made of a value that is read
-pub made_sound : {A X : Type 0} {text_a : A → List ℕ} {FitsA : A → Type 0} {read_a : List ℕ → Option A} (text_of : X → List ℕ) (Fits : X → Type 0) (make : A → X)
+pub made_sound : {A X : Type 0} {text_a : A → List ℕ} {FitsA : A → Type 0} {read_a : List ℕ → Option A}
+    (text_of : X → List ℕ) (Fits : X → Type 0) (make : A → X)
     → Reads text_a FitsA read_a → ((a : A) → text_of (make a) ≡ text_a a) → ((a : A) → FitsA a → Fits (make a))
     → Sound text_of Fits (λ text. option_map make (read_a text))
 made_sound {read_a = read_a} text_of Fits make law same fits text x e =
@@ -125,7 +127,8 @@ around separator front back =
 pub last_whole : (separator : ℕ) (front back : List ℕ) → Lacks separator back → split_at_last separator (front ++ separator ∷ back) ≡ Some (front, back)
 unfolding split_at_last
 last_whole separator front back free =
-    rw (around separator front back, split_whole separator (reverse back) (reverse front) (reversed_lacks separator back free), reverse-reverse front, reverse-reverse back) refl
+    rw (around separator front back, split_whole separator (reverse back) (reverse front) (reversed_lacks separator back free))
+    (rw (reverse-reverse front, reverse-reverse back) refl)
 
 pub last_sound : (separator : ℕ) (text front back : List ℕ) → split_at_last separator text ≡ Some (front, back) → text ≡ front ++ separator ∷ back
 unfolding split_at_last

@@ -22,7 +22,8 @@ has_dot : (front back : List ℕ) → lacks_dots (front ++ 46 ∷ back) ≡ fals
 has_dot [] back = refl
 has_dot (b ∷ front) back = ap (λ later. not (eqb b 46) && later) (has_dot front back) ∙ never (not (eqb b 46))
 
-dots_grouped : (a b c d back : List ℕ) → (a ++ codes "." ++ b ++ codes "." ++ c ++ codes "." ++ d) ++ back ≡ a ++ 46 ∷ (b ++ (codes "." ++ (c ++ (codes "." ++ (d ++ back)))))
+dots_grouped : (a b c d back : List ℕ) → (a ++ codes "." ++ b ++ codes "." ++ c ++ codes "." ++ d) ++ back
+    ≡ a ++ 46 ∷ (b ++ (codes "." ++ (c ++ (codes "." ++ (d ++ back)))))
 dots_grouped a b c d back = simp append_assoc
 
 ip4_dotted : (ip : Ip4) (back : List ℕ) → lacks_dots (ip4_text ip ++ back) ≡ false
@@ -34,11 +35,14 @@ ip4_dotted ip back =
     let last = decimal (ip.number % 256) in
     ap lacks_dots (dots_grouped first second third last back) ∙ has_dot first (second ++ (codes "." ++ (third ++ (codes "." ++ (last ++ back)))))
 
-net6_lacks : (byte : ℕ) (net : Net6) → FitsNet6 net → is_ip6_byte byte ≡ false → Lacks byte (codes "/") → is_ascii_digit byte ≡ false → Lacks byte (net6_text net)
+net6_lacks : (byte : ℕ) (net : Net6) → FitsNet6 net → is_ip6_byte byte ≡ false → Lacks byte (codes "/") → is_ascii_digit byte ≡ false
+    → Lacks byte (net6_text net)
 unfolding net6_text
 net6_lacks byte net fits address slash digit =
     let small : net.len < 2 ^ 64 = let most = fits.prefix in omega arith in
-    lacks-append byte (ip6_text net.ip ++ codes "/") (decimal net.len) (lacks-append byte (ip6_text net.ip) (codes "/") (ip6_lacks net.ip byte address) slash) (decimal_lacks net.len byte small digit)
+    lacks-append byte (ip6_text net.ip ++ codes "/") (decimal net.len)
+    (lacks-append byte (ip6_text net.ip) (codes "/") (ip6_lacks net.ip byte address) slash)
+    (decimal_lacks net.len byte small digit)
 
 pub nets_apart : (four : Net4) (six : Net6) → FitsNet6 six → net6_text six ≡ net4_text four → ⊥
 unfolding net4_text

@@ -20,7 +20,8 @@ numbers_some : (i : ℕ) (rest : List ℕ) → AllByRecursion (λ n. n < 65) (i 
 unfolding numbers_at list_at number_at is_numeral Cutting.list_text
 numbers_some i rest small =
     let law = list_reads 44 (number_reads 65 (omega arith)) (λ n fits. decimal_lacks n 44 (omega (arith, fits)) refl) in
-    told_other (list_at 44 (number_at 65)) (codes "-") [] (list_text (i ∷ rest)) (i ∷ rest) refl (law.whole (i ∷ rest) (record { some = λ e. (cc); each = small }))
+    told_other (list_at 44 (number_at 65)) (codes "-") [] (list_text (i ∷ rest)) (i ∷ rest) refl
+    (law.whole (i ∷ rest) (record { some = λ e. (cc); each = small }))
 
 numbers_whole : (list : List ℕ) → AllByRecursion (λ n. n < 65) list → numbers_at (list_text list) ≡ Some list
 unfolding numbers_at

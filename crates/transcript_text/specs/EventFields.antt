@@ -15,10 +15,18 @@ abbrev pub Came : Type 0
 Came = Event × List ℕ
 
 abbrev pub frame : Shape Came (ℕ × List ℕ)
-frame = record { word = codes "frame "; fields = parted index_field hex_field; make = λ p. (Frame p.0 (length p.1), p.1) }
+frame = record {
+  word = codes "frame ";
+  fields = parted index_field hex_field;
+  make = λ p. (Frame p.0 (length p.1), p.1);
+}
 
 abbrev pub carrier : Shape Came (ℕ × Bool)
-carrier = record { word = codes "carrier "; fields = parted index_field carrier_field; make = λ p. (Carrier p.0 p.1, []) }
+carrier = record {
+  word = codes "carrier ";
+  fields = parted index_field carrier_field;
+  make = λ p. (Carrier p.0 p.1, []);
+}
 
 abbrev pub duplicate : Shape Came (ℕ × Ip6)
 duplicate = record { word = codes "dup "; fields = parted index_field ip6_field; make = λ p. (Duplicate p.0 p.1, []) }
@@ -37,7 +45,18 @@ quiet = record { word = codes "quiet"; fields = no_field; make = λ _. (Quiet, [
 
 abbrev pub events : Choices Came
 events =
-    choice_of frame ∷ choice_of carrier ∷ choice_of duplicate ∷ choice_of release ∷ choice_of rebind ∷ choice_of stop ∷ choice_of quiet ∷ []
+    choice_of frame
+    ∷ choice_of carrier
+    ∷ choice_of duplicate
+    ∷ choice_of release
+    ∷ choice_of rebind
+    ∷ choice_of stop
+    ∷ choice_of quiet
+    ∷ []
 
 abbrev pub came_field : Field Came
-came_field = record { text = λ came. event_text came.0 came.1; Fits = λ came. FitsEvent came.0 came.1; at = choose_at events }
+came_field = record {
+  text = λ came. event_text came.0 came.1;
+  Fits = λ came. FitsEvent came.0 came.1;
+  at = choose_at events;
+}

@@ -10,7 +10,11 @@ number_below limit = record { text = decimal; Fits = λ n. n < limit; at = numbe
 
 -- bytes that pass a test, as they are
 abbrev pub bytes_that : (List ℕ → Bool) → Field (List ℕ)
-bytes_that test = record { text = λ bytes. bytes; Fits = λ bytes. IsTrue (test bytes); at = λ text. guarded test (Some text) }
+bytes_that test = record {
+  text = λ bytes. bytes;
+  Fits = λ bytes. IsTrue (test bytes);
+  at = λ text. guarded test (Some text);
+}
 
 -- values of a word each
 abbrev pub one_of : {X : Type 0} → (X → List ℕ) → List X → Field X

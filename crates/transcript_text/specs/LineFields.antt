@@ -1,4 +1,4 @@
--- The fields that lines of a transcript have of their own: each with its text, the values that have one, and how it is read.
+-- The fields that lines of a transcript have of their own: their texts, the values that have one, and how they are read.
 use Rattle.std.specs.Prelude.{ℕ, ◌+◌, ◌-◌, ◌^◌, nat_lt, Bool, true, false, not, ◌&&◌, List, [], ◌∷◌, ◌++◌, codes, flat_map, Option, Some, None, option_map, IsTrue, if◌then◌else◌, ◌==◌}
 use Rattle.std.specs.List.{AllByRecursion, list_all}
 use Rattle.net_types.specs.declared.address.Net.{Net}
@@ -53,8 +53,8 @@ carrier_field = one_of carrier_text (true ∷ false ∷ [])
 
 abbrev pub reasons : List Reason
 reasons =
-    Preinit ∷ Carrier ∷ NoCarrier ∷ StaticLine ∷ Bound ∷ Reboot ∷ Renew ∷ Rebind ∷ Nak ∷ Expire ∷ Timeout ∷ Ipv4ll ∷ Stop ∷ Stop6
-    ∷ Stopped ∷ Bound6 ∷ Reboot6 ∷ Renew6 ∷ Rebind6 ∷ Expire6 ∷ Delegated6 ∷ []
+    Preinit ∷ Carrier ∷ NoCarrier ∷ StaticLine ∷ Bound ∷ Reboot ∷ Renew ∷ Rebind ∷ Nak ∷ Expire ∷ Timeout ∷ Ipv4ll
+    ∷ Stop ∷ Stop6 ∷ Stopped ∷ Bound6 ∷ Reboot6 ∷ Renew6 ∷ Rebind6 ∷ Expire6 ∷ Delegated6 ∷ []
 
 abbrev pub reason_field : Field Reason
 reason_field = one_of reason_word reasons
@@ -75,7 +75,9 @@ called about = record {
 
 -- which job, why it runs and on which interface
 abbrev pub job_field : Field (ℕ × (Reason × List ℕ))
-job_field = record (parted count_field (parted reason_field iface_field)) { Fits = λ job. IsWord job.0 × IsTrue (is_name job.1.1) }
+job_field = record (parted count_field (parted reason_field iface_field)) {
+  Fits = λ job. IsWord job.0 × IsTrue (is_name job.1.1);
+}
 
 -- ---- lists
 
@@ -119,7 +121,8 @@ abbrev pub poll_field : Field (Option Poll)
 poll_field = record {
   text = poll_text;
   Fits = FitsPoll;
-  at = told (codes "run") (Some Running) (told (codes "failed") None (λ text. option_map (λ n. Some (Ended n)) (after_word (codes "ended ") (number_at (2 ^ 32)) text)));
+  at = told (codes "run") (Some Running)
+      (told (codes "failed") None (λ text. option_map (λ n. Some (Ended n)) (after_word (codes "ended ") index_field.at text)));
 }
 
 abbrev pub moment_field : Field (Option ℕ)

@@ -70,7 +70,11 @@ abbrev pub asides_failed : Shape Line (Unit {0})
 asides_failed = bare (codes "store list failed") Model.AsidesFailed
 
 abbrev pub wrote : Shape Line ((List ℕ × List ℕ) × Bool)
-wrote = record { word = codes "store write "; fields = called (parted file_field hex_field); make = λ p. Model.Wrote p.0.0 p.0.1 p.1 }
+wrote = record {
+  word = codes "store write ";
+  fields = called (parted file_field hex_field);
+  make = λ p. Model.Wrote p.0.0 p.0.1 p.1;
+}
 
 abbrev pub synced : Shape Line (List ℕ × Bool)
 synced = filed (codes "store sync ") Model.Synced
@@ -97,7 +101,11 @@ turn = record {
 }
 
 abbrev pub polled : Shape Line (ℕ × Option Poll)
-polled = record { word = codes "hook poll "; fields = parted count_field poll_field; make = λ p. Model.HookPolled p.0 p.1 }
+polled = record {
+  word = codes "hook poll ";
+  fields = parted count_field poll_field;
+  make = λ p. Model.HookPolled p.0 p.1;
+}
 
 abbrev pub abandoned : Shape Line ℕ
 abandoned = counted (codes "hook abandon ") Model.HookAbandoned
@@ -106,7 +114,11 @@ abbrev pub dropped : Shape Line (ℕ × (Reason × List ℕ))
 dropped = record { word = codes "hook drop "; fields = job_field; make = λ p. Model.HookDropped p.0 p.1.0 p.1.1 }
 
 abbrev pub started : Shape Line ((ℕ × (Reason × List ℕ)) × Bool)
-started = record { word = codes "hook start "; fields = called job_field; make = λ p. Model.HookStarted p.0.0 p.0.1.0 p.0.1.1 p.1 }
+started = record {
+  word = codes "hook start ";
+  fields = called job_field;
+  make = λ p. Model.HookStarted p.0.0 p.0.1.0 p.0.1.1 p.1;
+}
 
 abbrev pub variable : Shape Line (List ℕ × List ℕ)
 variable = record { word = codes "var "; fields = variable_field; make = λ p. Model.Variable p.0 p.1 }
@@ -139,7 +151,11 @@ abbrev pub until : Shape Line (Option ℕ)
 until = record { word = codes "until "; fields = moment_field; make = Model.Until }
 
 abbrev pub hold : Shape Line (ℕ × Net)
-hold = record { word = codes "hold addr "; fields = parted index_field net_field; make = λ p. Model.Hold (record { number = p.0 }) p.1 }
+hold = record {
+  word = codes "hold addr ";
+  fields = parted index_field net_field;
+  make = λ p. Model.Hold (record { number = p.0 }) p.1;
+}
 
 abbrev pub end_of_life : Shape Line (Unit {0})
 end_of_life = bare (codes "end") Model.EndOfLife
