@@ -287,6 +287,17 @@ def timed(words, path):
     return seconds, usage.ru_maxrss * 1024
 
 
+def used(words, path):
+    """The processor seconds of a program that reads a file, and its peak memory in bytes."""
+    with open(path, "rb") as given:
+        child = subprocess.Popen(words, stdin=given, stdout=subprocess.DEVNULL, stderr=subprocess.DEVNULL)
+        _, status, usage = os.wait4(child.pid, 0)
+    child.returncode = os.waitstatus_to_exitcode(status)
+    if child.returncode != 0:
+        sys.exit(f"{words[0]}: status {child.returncode}")
+    return usage.ru_utime + usage.ru_stime, usage.ru_maxrss * 1024
+
+
 def run_one(program, path, kind, size, before, word="replay"):
     """Runs the program on a script or a configuration, prints its row, and gives its seconds."""
     seconds, peak = timed([program, word], path)

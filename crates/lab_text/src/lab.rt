@@ -14,7 +14,7 @@ ghost use Rattle.lab_text.specs.Noting.{are_unlike};
 
 use crate::exchanges::Xids;
 use crate::frames::Frames;
-use crate::leases::say_leases;
+use crate::leases::Leases;
 use crate::opening::beginnings;
 use client_core::{Core, Opened, Stepped, Turn, TurnInput, core_open, ifaces, step};
 use lab_peer::Peer;
@@ -26,12 +26,13 @@ use settings::Managed;
 use std::alloc::Global;
 use std::marker::Model;
 
-/// The clients, their peer, the frames so far, and the moment of the last line.
+/// The clients, their peer, the frames so far, the leases that were held last, and the moment of the last line.
 #[derive(Drop)]
 pub struct Lab {
     core: Core,
     peer: Peer,
     frames: Frames,
+    leases: Leases,
     /// In milliseconds since 1970.
     clock: u64,
 }
@@ -91,11 +92,12 @@ impl Lab {
         let clock = clamp_moment(schedule.begin.at);
         say_moment(clock, text)?;
         let frames = Frames::new(alloc).send(alloc, outs.sends, text)?;
-        say_leases(ifaces(&core), text)?;
+        let leases = Leases::new(alloc).say(alloc, ifaces(&core), text)?;
         Ok(Lab {
             core,
             peer: Peer::open(alloc, schedule.pool),
             frames,
+            leases,
             clock,
         })
     }
@@ -123,6 +125,7 @@ impl Lab {
             core,
             peer,
             frames,
+            leases,
             clock,
         } = self;
         let clock = raised(clock, at);
@@ -136,11 +139,12 @@ impl Lab {
         let Stepped { core, outs, .. } = stepped;
         say_moment(clock, text)?;
         let frames = frames.send(alloc, outs.sends, text)?;
-        say_leases(ifaces(&core), text)?;
+        let leases = leases.say(alloc, ifaces(&core), text)?;
         Ok(Lab {
             core,
             peer,
             frames,
+            leases,
             clock,
         })
     }
@@ -178,23 +182,25 @@ impl Lab {
             core,
             mut peer,
             frames,
+            leases,
             clock,
         } = self;
         let clock = raised(clock, at);
         let made = peer.hear(alloc, bytes, clock)?;
         say_moment(clock, text)?;
         let frames = frames.make(made, text)?;
-        say_leases(ifaces(&core), text)?;
+        let leases = leases.say(alloc, ifaces(&core), text)?;
         Ok(Lab {
             core,
             peer,
             frames,
+            leases,
             clock,
         })
     }
 
     /// The peer hears nothing.
-    fn hear_nothing(self, at: u64, text: &mut Vec<u8>) -> Result<Lab, NoMemory>
+    fn hear_nothing(self, alloc: Global, at: u64, text: &mut Vec<u8>) -> Result<Lab, NoMemory>
         ensures lab { IfOk result (λ lab. lab ≡ (peer_heard (raised at self) None self).lab) }
         ensures says { OnOk result (Says (lines_of self (peer_heard (raised at self) None self)) text.old.items text.new.items) }
     {
@@ -202,15 +208,17 @@ impl Lab {
             core,
             peer,
             frames,
+            leases,
             clock,
         } = self;
         let clock = raised(clock, at);
         say_moment(clock, text)?;
-        say_leases(ifaces(&core), text)?;
+        let leases = leases.say(alloc, ifaces(&core), text)?;
         Ok(Lab {
             core,
             peer,
             frames,
+            leases,
             clock,
         })
     }
@@ -226,7 +234,7 @@ impl Lab {
                 let bytes = bytes.to_vec(alloc)?;
                 self.hear_frame(alloc, at, &bytes, text)
             }
-            None => self.hear_nothing(at, text),
+            None => self.hear_nothing(alloc, at, text),
         }
     }
 
