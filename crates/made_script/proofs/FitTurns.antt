@@ -4,7 +4,9 @@ use Rattle.std.specs.List.{AllByRecursion}
 use Rattle.net_types.specs.Marks.{AreBytes}
 use Rattle.net_types.proofs.AllLaws.{all_join}
 use Rattle.server_data.proofs.RepliesRead.{reply_most}
+use Rattle.server_data.specs.declared.framing.TheConstants.{SERVER_MAC}
 use Rattle.server_data.specs.Replies.{reply_text}
+use Rattle.server_data.specs.ServerFrames.{ends_of, server_frame}
 use Rattle.udp_frame.proofs.Cells.{all_bytes}
 use Rattle.udp_frame.proofs.Laws.{frame_len}
 use Rattle.v4_frames.specs.declared.sent.TheConstants.{CLIENT_PORT, SERVER_PORT}
@@ -13,11 +15,10 @@ use Rattle.script_model.specs.Lines.{numbers_from}
 use Rattle.script_model.specs.Stops.{wakes_seen, is_stop, stop_moment}
 use Rattle.script_model.specs.Scripts.{FitsGiven}
 use Rattle.made_script.specs.declared.frames.ReplyTo.{ReplyTo}
-use Rattle.made_script.specs.declared.frames.TheConstants.{SERVER_MAC}
 use Rattle.made_script.specs.declared.turns.Wave.{Wave}
 use Rattle.made_script.specs.declared.turns.TheConstants.{OFFERS, ACKS, ROUND}
 use Rattle.made_script.specs.MadeHosts.{own_mac}
-use Rattle.made_script.specs.MadeReplies.{reply_to, ends_to, reply_frame, reply_given}
+use Rattle.made_script.specs.MadeReplies.{reply_to, reply_given}
 use Rattle.made_script.specs.MadeTurns.{quiet_given, wave_turn, wave_given, renewals, round_given, made_turns}
 use Rattle.made_script.proofs.FrameBytes.{reply_bytes}
 use Rattle.made_script.proofs.Numbers.{mapped_all, joined_all}
@@ -52,15 +53,15 @@ mac_bytes index small =
 server_bytes : AreBytes SERVER_MAC.bytes
 server_bytes = all_bytes SERVER_MAC.bytes (omega arith, (omega arith, (omega arith, (omega arith, (omega arith, (omega arith, tt))))))
 
-reply_octets : (to : ReplyTo) → to.index ≤ 64 → AreBytes (reply_frame to)
-unfolding reply_frame
+reply_octets : (to : ReplyTo) → to.index ≤ 64 → AreBytes (server_frame (reply_to to))
+unfolding server_frame
 reply_octets to small =
-    reply_bytes (ends_to to) SERVER_PORT CLIENT_PORT (reply_to to) (mac_bytes to.index small) server_bytes (mac_bytes to.index small)
+    reply_bytes (ends_of (reply_to to)) SERVER_PORT CLIENT_PORT (reply_to to) (mac_bytes to.index small) server_bytes (mac_bytes to.index small)
 
-reply_short : (to : ReplyTo) → length (reply_frame to) ≤ 2048
-unfolding reply_frame
+reply_short : (to : ReplyTo) → length (server_frame (reply_to to)) ≤ 2048
+unfolding server_frame
 reply_short to =
-    let whole : length (reply_frame to) ≡ 42 + length (reply_text (reply_to to)) = frame_len (ends_to to) SERVER_PORT CLIENT_PORT (reply_text (reply_to to)) refl refl in
+    let whole : length (server_frame (reply_to to)) ≡ 42 + length (reply_text (reply_to to)) = frame_len (ends_of (reply_to to)) SERVER_PORT CLIENT_PORT (reply_text (reply_to to)) refl refl in
     let most = reply_most (reply_to to) refl in
     omega (arith, whole, most)
 

@@ -2,11 +2,11 @@
 
 ghost use Rattle.std.specs.Prelude.{◌≡◌, [], ◌∷◌};
 
-use crate::frames::{ADDRESS_BASE, LEASE, SALT, SERVER, SERVER_MAC};
+use crate::frames::{ADDRESS_BASE, LEASE, SALT};
 use crate::hosts::{INTERFACES, MAC_FRONT};
 use crate::script::BEGIN;
 use crate::turns::{ACKS, FIRST_TURN, OFFERS, ROUND};
-use server_data::ReplyKind;
+use server_data::{ReplyKind, SERVER, SERVER_MAC};
 
 /// Law: what is measured. 64 interfaces with carrier from the moment 0 on; offers from 101 ms and ACKs from 201 ms on, leases of
 /// an hour from 10.0.0.1, renewed each 1,800,200 ms.

@@ -5,22 +5,12 @@ ghost use Rattle.replay_text.specs.ScriptContent.{given_of};
 ghost use Rattle.made_script.specs.MadeReplies.{reply_to, reply_given};
 
 use crate::hosts::own_mac;
-use net_types::{Ip4, Mac, NoMemory};
+use net_types::{Ip4, NoMemory};
 use replay_text::TurnLine;
-use server_data::{Reply, ReplyKind, server_data};
+use server_data::{Reply, ReplyKind, SERVER, server_frame};
 use std::alloc::Global;
-use udp_frame::{Ends4, build_udp4};
-use v4_frames::{CLIENT_PORT, SERVER_PORT};
 use world::{Event, Wake};
 
-/// The hardware address of the server.
-pub(crate) const SERVER_MAC: Mac = Mac {
-    bytes: [0x02, 0x00, 0x00, 0x00, 0x00, 0xfe],
-};
-/// 10.0.0.1, the address of the server.
-pub(crate) const SERVER: Ip4 = Ip4 {
-    number: 0x0a00_0001,
-};
 /// 10.0.0.100: interface `i` gets the address that is `i` beyond it.
 pub(crate) const ADDRESS_BASE: Ip4 = Ip4 {
     number: 0x0a00_0064,
@@ -58,14 +48,7 @@ fn reply_to(to: ReplyTo) -> Reply
 pub(crate) fn reply_turn(alloc: Global, at: u64, to: ReplyTo) -> Result<TurnLine, NoMemory>
     ensures { IfOk result (λ turn. given_of turn ≡ reply_given at to) }
 {
-    let data = server_data(alloc, &reply_to(to))?;
-    let ends = Ends4 {
-        from_mac: SERVER_MAC,
-        to_mac: own_mac(to.index),
-        from: SERVER,
-        to: Ip4::BROADCAST,
-    };
-    let bytes = build_udp4(alloc, &ends, SERVER_PORT, CLIENT_PORT, &data)?;
+    let bytes = server_frame(alloc, &reply_to(to))?;
     let event = Event::Frame {
         iface: u32::from(to.index),
         len: bytes.len(),
