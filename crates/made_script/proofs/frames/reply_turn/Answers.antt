@@ -5,6 +5,5 @@ use Rattle.made_script.proofs.frames.reply_turn.Goals as goal
 
 pub returns : goal.returns
 returns c =
-    let said : c.deref.result.now ≡ reply_to c.args.to = c.deref.ensures.value ∙ c.reply_to.ensures in
-    let bytes : c.in_ok-bytes.bytes.items ≡ server_frame (reply_to c.args.to) = c.in_ok-bytes.ensures ∙ ap server_frame said in
+    let bytes : c.in_ok-bytes.bytes.items ≡ server_frame (reply_to c.args.to) = c.in_ok-bytes.ensures ∙ ap server_frame c.reply_to.ensures in
     rw (c.from.ensures, c.len.ensures ∙ c.in_ok-bytes.bytes.ok.0, bytes) refl
