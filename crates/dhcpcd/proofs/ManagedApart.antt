@@ -109,7 +109,8 @@ module _ (managed : List Managed) (unlike : AllPairs Unlike (map spec_of managed
       (apart_from_distinct nat_eq (map (λ (m : Managed). m.spec.index.number) managed) i j d.spec.index.number numbered before
       (omega (arith, within, length-map managed (λ (m : Managed). m.spec.index.number))))) in
       record {
-        numbers = λ same. not_both (subst (λ (n : ℕ). nat_eq (get_or managed i d).spec.index.number n ≡ true) same (itself (get_or managed i d).spec.index.number)) differ;
+        numbers = λ same. not_both
+            (subst (λ (n : ℕ). nat_eq (get_or managed i d).spec.index.number n ≡ true) same (itself (get_or managed i d).spec.index.number)) differ;
         macs = pair.1;
       }
     where

@@ -1,4 +1,5 @@
--- That no two clients of a lab hold one leased address at one moment (RFC 2131, section 2.2), told of the text that `lab` writes.
+-- That no two clients of a lab hold one leased address at one moment (RFC 2131, section 2.2), told of the text that
+-- `lab` writes.
 use Rattle.std.specs.Prelude.{ℕ, ◌≡◌, List, [], ◌++◌, Option, codes}
 use Rattle.net_types.specs.TextLines.{Line, ended}
 use Rattle.settings.specs.declared.interfaces.Managed.{Managed}
@@ -16,8 +17,8 @@ pub record EndsWith (line : Line) (text : List ℕ) : Type 0 where
   pub front : List ℕ
   pub is : text ≡ front ++ ended line
 
--- The `lease` lines below each `at` line have unlike addresses. No lease that is held at the start, or after a turn of the clients,
--- outlasts the server's binding.
+-- The `lease` lines below each `at` line have unlike addresses. No lease that is held at the start, or after a turn of
+-- the clients, outlasts the server's binding.
 pub record HoldsApart (managed : List Managed) (schedule : Schedule) : Type 0 where
   pub apart : ApartFrom [] (lab_lines managed schedule)
   pub start_ends : EachEndsWithBinding (lab_opened managed schedule).lab
@@ -25,7 +26,8 @@ pub record HoldsApart (managed : List Managed) (schedule : Schedule) : Type 0 wh
 
 -- so in a lab with this text, where that ends with `xids unlike`
 abbrev pub HoldsApartIn : {bytes text : List ℕ} → IsLabOf bytes text → Type 0
-HoldsApartIn {text = text} lab = EndsWith (codes "xids unlike") text → HoldsApart (managed_of lab.conf lab.schedule.ifaces) lab.schedule
+HoldsApartIn {text = text} lab =
+    EndsWith (codes "xids unlike") text → HoldsApart (managed_of lab.conf lab.schedule.ifaces) lab.schedule
 
 abbrev pub LabsHoldApart : Type 0
 LabsHoldApart = (bytes text : List ℕ) (lab : IsLabOf bytes text) → HoldsApartIn lab
