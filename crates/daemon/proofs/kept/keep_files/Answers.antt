@@ -1,5 +1,6 @@
 use Rattle.std.proofs.Common.{sym, ◌∙◌}
 use Rattle.daemon.proofs.KeptFiles.{keeping_nothing, kept_still}
+use Rattle.daemon.proofs.Begins.{on_err}
 use Rattle.daemon.proofs.kept.keep_files.Goals as goal
 
 pub returns-then-not-any_unknown-clause-does : goal.returns-then-not-any_unknown-clause-does
@@ -9,3 +10,6 @@ returns-then-not-any_unknown-clause-does g c =
 pub returns-then-not-any_unknown-clause-kept : goal.returns-then-not-any_unknown-clause-kept
 returns-then-not-any_unknown-clause-kept g c =
     kept_still c.args.core.now.ifaces c.args.touched c.args.files (sym c.is_nothing.ensures ∙ c.if-is_nothing.true) c.requires
+
+pub returns-in_err-kept-clause-begun : goal.returns-in_err-kept-clause-begun
+returns-in_err-kept-clause-begun g c = on_err c.from_residual.result c.in_err-kept.ensures.begun
