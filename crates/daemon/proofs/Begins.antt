@@ -1,5 +1,5 @@
 -- What was begun of a part of a turn's or an opening's questions, where memory was wanted.
-use Rattle.std.proofs.Common.{ℕ, ◌≡◌, ◌+◌, ◌<◌, List, [], ◌∷◌, length, get_or, drop, drop-cons, add-one, Result, Ok, Err, IfErr, refl, sym, subst}
+use Rattle.std.proofs.Common.{ℕ, ◌≡◌, ◌+◌, ◌<◌, List, [], ◌∷◌, length, get_or, drop, drop-cons, add-one, Result, Ok, Err, IfErr, sym, subst}
 use Rattle.device_calls.specs.Calls.{Ask, AnswerTo, Call}
 use Rattle.device_calls.specs.Programs.{Asks, Done, Then, after}
 use Rattle.device_calls.specs.Worlds.{Seen}

@@ -1,5 +1,5 @@
 -- What was begun of the frames, of the host's changes and of hooks, as the code asks them.
-use Rattle.std.proofs.Common.{ℕ, ◌≡◌, ◌+◌, ◌<◌, Bool, List, [], ◌∷◌, length, get_or, drop, Option, Some, None, refl, sym, ap, subst, ◌∙◌}
+use Rattle.std.proofs.Common.{ℕ, ◌≡◌, ◌+◌, ◌<◌, Bool, List, ◌∷◌, length, get_or, drop, Option, Some, None, refl, sym, ap, subst, ◌∙◌}
 use Rattle.std.specs.Prelude.{map, option_map}
 use Rattle.net_types.proofs.ReadsLaws.{some_same}
 use Rattle.world.specs.declared.rows.HostRow.{HostRow}
@@ -16,7 +16,7 @@ use Rattle.host_model.specs.HostTable.{InRowOrder}
 use Rattle.host_model.specs.HostTurn.{changes}
 use Rattle.device_calls.specs.Calls.{Offer, ListRows, Change}
 use Rattle.device_calls.specs.Calls as asks
-use Rattle.device_calls.specs.Programs.{Asks, Done, Then}
+use Rattle.device_calls.specs.Programs.{Done, Then}
 use Rattle.device_calls.specs.Worlds.{Seen}
 use Rattle.device_calls.specs.Does.{Does}
 use Rattle.device_calls.specs.Fronts.{HasBegun}

@@ -5,7 +5,6 @@ use Rattle.iface_core.specs.Beginnings as code
 use Rattle.device_calls.specs.Does.{Does}
 use Rattle.turn_model.specs.Loading.{Loaded, loading}
 use Rattle.daemon.proofs.LoadedFiles.{loading_more, loading_end, loading_all, front_more, beginnings_more, files_more, fit_more}
-use Rattle.device_calls.specs.Fronts.{HasBegun}
 use Rattle.device_calls.proofs.Begun.{begun_none}
 use Rattle.daemon.proofs.Begins.{on_err}
 use Rattle.daemon.proofs.BegunFiles.{loading_begun, loading_later}

@@ -6,7 +6,6 @@ use Rattle.turn_model.specs.Turns.{changing}
 use Rattle.daemon.specs.Tables.{known_in}
 use Rattle.daemon.proofs.Parts.{changing_more, changing_end}
 use Rattle.daemon.proofs.HostSteps.{known_more, known_then}
-use Rattle.device_calls.specs.Fronts.{HasBegun}
 use Rattle.daemon.proofs.Begins.{on_err}
 use Rattle.daemon.proofs.BegunParts.{changing_begun, changing_later}
 use Rattle.daemon.proofs.hosts.make_changes.Goals as goal

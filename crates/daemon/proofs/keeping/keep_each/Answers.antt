@@ -4,7 +4,6 @@ use Rattle.device_calls.specs.Does.{Does}
 use Rattle.turn_model.specs.KeptFiles.{KeptFile, keeping}
 use Rattle.daemon.specs.Keeping.{may_differ, IsKept}
 use Rattle.daemon.proofs.KeptFiles.{keeping_more, keeping_end, front_more, all_taken, kept_at, kept_more, kept_end, but_first, but_more, in_bounds, out_of_bounds}
-use Rattle.device_calls.specs.Fronts.{HasBegun}
 use Rattle.daemon.proofs.Begins.{on_err}
 use Rattle.daemon.proofs.BegunFiles.{keeping_begun, keeping_later}
 use Rattle.daemon.proofs.keeping.keep_each.Goals as goal
