@@ -21,13 +21,13 @@ goes_on ask next done more result old mid new t u v is did rest =
 
 -- ---- what is still asked
 
-abbrev settling : Asks Bool
+abbrev pub settling : Asks Bool
 settling = Then Settle (λ settled. Done settled)
 
-abbrev placing : List ℕ → Asks Bool
+abbrev pub placing : List ℕ → Asks Bool
 placing name = Then (RenameAside name) (λ renamed. if_done renamed settling)
 
-abbrev syncing : List ℕ → Asks Bool
+abbrev pub syncing : List ℕ → Asks Bool
 syncing name = Then (SyncAside name) (λ synced. if_done synced (placing name))
 
 module _ {old mid : Seen} {t u : List ℕ} (name : List ℕ) where

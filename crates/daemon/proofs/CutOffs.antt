@@ -1,5 +1,5 @@
 -- Lives that are cut off.
-use Rattle.std.proofs.Common.{ℕ, ◌≡◌, ◌≤◌, ◌+◌, false, List, [], ◌∷◌, ◌++◌, length, take, Option, Some, None, refl, sym, ap, subst, ◌∙◌, append_assoc, append-nil, arith}
+use Rattle.std.proofs.Common.{ℕ, ◌≡◌, ◌≤◌, ◌+◌, true, false, inr, List, [], ◌∷◌, ◌++◌, length, take, Option, Some, None, refl, sym, ap, subst, ◌∙◌, append_assoc, append-nil, arith}
 use Rattle.std.specs.Prelude.{flat_map, IfSome}
 use Rattle.std.proofs.lemmas.List.{length-append}
 use Rattle.std.proofs.lemmas.List.Concat.{flat_map-append}
@@ -10,19 +10,21 @@ use Rattle.script_model.specs.Lines.{Line, line_text, lines_text}
 use Rattle.device_calls.specs.Calls.{Call, Link}
 use Rattle.device_calls.specs.Worlds.{Seen, World, world_of}
 use Rattle.device_calls.specs.Telling.{Tells}
+use Rattle.device_calls.specs.Fronts.{HasBegun}
 use Rattle.device_calls.specs.Printing.{Prints}
 use Rattle.device_calls.proofs.Doing.{tells_none, tells_then}
-use Rattle.turn_model.specs.Turns.{Life, until, is_over, is_end}
+use Rattle.turn_model.specs.Turns.{Life, turn_asks, until, is_over, is_end}
 use Rattle.turn_model.specs.Lives.{Met, met_with, AreTurns, IsLast, life_after, turn_calls, turns_calls, turn_lines, closing_lines}
+use Rattle.turn_model.specs.LifeFronts.{BeginsTurn}
 use Rattle.turn_model.specs.Foretold.{foretold_turns}
 use Rattle.daemon.specs.declared.serving.ServeEnd.{ServeEnd}
 use Rattle.daemon.specs.declared.serving.ServeEnd.TheVariants as ends
 use Rattle.daemon.specs.Waits.{WaitsThere}
 use Rattle.daemon.specs.Streams.{WritesLines, WritesSome, WritesFront}
 use Rattle.daemon.specs.Serving.{MakesTurn, AreWhole, Goes, Ends, HasServeCause}
-use Rattle.daemon.specs.Cuts.{Between, InTurn, AtEnd, cut_lines, cut_turns, turns_left, CutsAt, TellsUnlessMemory, HandledAll, WaitFails, BreaksOff}
+use Rattle.daemon.specs.Cuts.{Between, InTurn, AtEnd, cut_lines, cut_turns, turns_left, CutsAt, wakes_asked, HandledAll, WaitFails, BreaksOff}
 use Rattle.daemon.proofs.Stretches.{turns-append, life_after-append, turns_calls-append, whole_then}
-use Rattle.daemon.proofs.Waitings.{woke}
+use Rattle.daemon.proofs.Waitings.{woke, wait_tells}
 use Rattle.daemon.proofs.OneTurn.{turn_first, turn_tells}
 
 -- ---- what stands written
@@ -58,24 +60,11 @@ unfolding told_left
 left_whole managed life None = tt
 left_whole managed life (Some world) = refl
 
-unless_memory : (end : ServeEnd) (old new : Seen) (calls : List Call) → Tells old new calls → TellsUnlessMemory end old new calls
-unless_memory ends.End old new calls tells = tells
-unless_memory ends.TurnsOver old new calls tells = tells
-unless_memory ends.LinkFault old new calls tells = tells
-unless_memory ends.WriteFault old new calls tells = tells
-unless_memory ends.NoMemory old new calls tells = tt
-
-pub tells_unless : (end : ServeEnd) (old mid new : Seen) (a b : List Call) → Tells old mid a → TellsUnlessMemory end mid new b → TellsUnlessMemory end old new (a ++ b)
-tells_unless ends.End old mid new a b p q = tells_then old mid new a b p q
-tells_unless ends.TurnsOver old mid new a b p q = tells_then old mid new a b p q
-tells_unless ends.LinkFault old mid new a b p q = tells_then old mid new a b p q
-tells_unless ends.WriteFault old mid new a b p q = tells_then old mid new a b p q
-tells_unless ends.NoMemory old mid new a b p q = tt
-
 -- ---- cut off between turns
 
 breaks_now : (end : ServeEnd) (allowed : ℕ) (managed : List Managed) (life : Life) (old new : Seen) (calls : List Call) (out : Option (List ℕ))
-    → CutsAt end life (Between (told_left managed life (world_of old))) calls → TellsUnlessMemory end old new calls → length calls ≤ allowed → HandledAll end 0 allowed → BreaksOff end allowed managed life old new out out
+    → CutsAt end managed life (Between (told_left managed life (world_of old))) calls → Tells old new calls → wakes_asked (Between (told_left managed life (world_of old))) calls ≤ allowed → HandledAll end 0 allowed
+    → BreaksOff end allowed managed life old new out out
 breaks_now end allowed managed life old new calls out cuts tells fits all = record {
   mets = [];
   at = Between (told_left managed life (world_of old));
@@ -89,8 +78,9 @@ breaks_now end allowed managed life old new calls out cuts tells fits all = reco
   all = all;
 }
 
-pub breaks_for_memory : (allowed : ℕ) (managed : List Managed) (life : Life) (old new : Seen) (out : Option (List ℕ)) → BreaksOff ends.NoMemory allowed managed life old new out out
-breaks_for_memory allowed managed life old new out = breaks_now ends.NoMemory allowed managed life old new [] out tt tt (omega arith) tt
+-- memory was wanted before the next wait, or by it
+pub breaks_for_memory : (allowed : ℕ) (managed : List Managed) (life : Life) (old new : Seen) (out : Option (List ℕ)) → is_over life ≡ false → Tells old new [] → BreaksOff ends.NoMemory allowed managed life old new out out
+breaks_for_memory allowed managed life old new out going tells = breaks_now ends.NoMemory allowed managed life old new [] out (tt, going) tells (omega arith) tt
 
 -- the next wait failed, or wanted memory
 pub breaks_at_wait : (end : ServeEnd) (managed : List Managed) (life : Life) (old new : Seen) (asked : Option ℕ) (out : Option (List ℕ)) → asked ≡ until life → is_over life ≡ false
@@ -100,7 +90,22 @@ breaks_at_wait ends.TurnsOver managed life old new asked out asked_is going fail
 breaks_at_wait ends.LinkFault managed life old new asked out asked_is going fails =
     breaks_now ends.LinkFault 1 managed life old new (Link (Waited asked None) ∷ []) out (ap (λ (a : Option ℕ). Link (Waited a None) ∷ []) asked_is, going) fails (omega arith) tt
 breaks_at_wait ends.WriteFault managed life old new asked out asked_is going fails = absurd fails
-breaks_at_wait ends.NoMemory managed life old new asked out asked_is going fails = breaks_for_memory 1 managed life old new out
+breaks_at_wait ends.NoMemory managed life old new asked out asked_is going fails = breaks_for_memory 1 managed life old new out going fails
+
+-- memory was wanted in a turn, of whose calls a front was made
+pub breaks_within_turn : (managed : List Managed) (from : Life) (wake : Wake) (bytes buffer : List ℕ) (asked : Option ℕ) (old mid new : Seen) (out : Option (List ℕ))
+    → is_over from ≡ false → is_end wake.event ≡ false → length buffer ≡ 2048 → bytes ≡ take (frame_len wake.event) buffer
+    → WaitsThere asked old mid buffer (woke wake) → asked ≡ until from → HasBegun (turn_asks managed from wake bytes) mid new
+    → BreaksOff ends.NoMemory 1 managed from old new out out
+breaks_within_turn managed from wake bytes buffer asked old mid new out going more room front waits asked_is begun =
+    let waits_here : WaitsThere (until from) old mid buffer (woke wake) = subst (λ (a : Option ℕ). WaitsThere a old mid buffer (woke wake)) asked_is waits in
+    let over : is_end wake.event ≡ true → begun.calls ≡ [] = λ is. absurd (let bad : false ≡ true = sym more ∙ is in cc) in
+    let begins : BeginsTurn managed from (Link (Waited (until from) (Some (record { wake = wake; bytes = bytes })))) begun.calls =
+    record { wake = wake; bytes = bytes; waited = refl; front = begun.front; more = over } in
+    breaks_now ends.NoMemory 1 managed from old new (Link (Waited (until from) (Some (record { wake = wake; bytes = bytes }))) ∷ begun.calls) out ((going, inr begins), going)
+    (tells_then old mid new (Link (Waited (until from) (Some (record { wake = wake; bytes = bytes }))) ∷ []) begun.calls
+    (wait_tells (until from) wake bytes buffer more room front old mid waits_here) begun.tells)
+    (omega arith) tt
 
 -- ---- cut off in the lines of a turn
 
@@ -112,12 +117,12 @@ handled_other ends.LinkFault a b p q handled allowed cause = tt
 handled_other ends.WriteFault a b p q handled allowed cause = tt
 handled_other ends.NoMemory a b p q handled allowed cause = tt
 
-cuts_in_turn : (end : ServeEnd) (a b : ℕ) (life : Life) (met : Met) (rest : List Met) → HasServeCause end a b 0 0 → CutsAt end life (InTurn met rest) (turn_calls life met)
-cuts_in_turn ends.End a b life met rest cause = absurd cause
-cuts_in_turn ends.TurnsOver a b life met rest cause = absurd cause
-cuts_in_turn ends.LinkFault a b life met rest cause = absurd (omega (arith, cause.1))
-cuts_in_turn ends.WriteFault a b life met rest cause = refl
-cuts_in_turn ends.NoMemory a b life met rest cause = tt
+cuts_in_turn : (end : ServeEnd) (a b : ℕ) (managed : List Managed) (life : Life) (met : Met) (rest : List Met) → HasServeCause end a b 0 0 → CutsAt end managed life (InTurn met rest) (turn_calls life met)
+cuts_in_turn ends.End a b managed life met rest cause = absurd cause
+cuts_in_turn ends.TurnsOver a b managed life met rest cause = absurd cause
+cuts_in_turn ends.LinkFault a b managed life met rest cause = absurd (omega (arith, cause.1))
+cuts_in_turn ends.WriteFault a b managed life met rest cause = refl
+cuts_in_turn ends.NoMemory a b managed life met rest cause = refl
 
 pub breaks_in_turn : (end : ServeEnd) (managed : List Managed) (from to : Life) (wake : Wake) (bytes buffer text_old text written : List ℕ) (asked : Option ℕ) (old mid new : Seen) (out out_to : Option (List ℕ)) (a b : ℕ)
     → (made : MakesTurn managed from wake bytes to mid new text_old text) → text_old ≡ [] → written ≡ text → WritesSome out out_to written
@@ -130,10 +135,10 @@ breaks_in_turn end managed from to wake bytes buffer text_old text written asked
       mets = [];
       at = InTurn (met_with wake bytes made.calls to) (told_left managed to (world_of new));
       calls = turn_calls from (met_with wake bytes made.calls to);
-      cuts = cuts_in_turn end a b from _ _ cause;
+      cuts = cuts_in_turn end a b managed from _ _ cause;
       turns = (record { going = going; more = more; makes = made.did.makes }, tt);
       written = front_some out out_to text_old written text (turn_lines (met_with wake bytes made.calls to)) empty made.lines same some;
-      tells = unless_memory end old new (turn_calls from (met_with wake bytes made.calls to)) (turn_tells from to wake bytes buffer made.calls old mid new more room front waits_here made.did.tells);
+      tells = turn_tells from to wake bytes buffer made.calls old mid new more room front waits_here made.did.tells;
       whole = whole_then managed from to old new (met_with wake bytes made.calls to ∷ []) (told_left managed to (world_of new))
           (turn_first managed from to wake bytes buffer made.calls old mid new going more room front waits_here made.did)
           (left_whole managed to (world_of new));
@@ -153,16 +158,16 @@ goes_breaks end allowed then_allowed managed from mid old at_mid new out out_mid
       mets = mets ++ q.mets;
       at = q.at;
       calls = q.calls;
-      cuts = subst (λ (life : Life). CutsAt end life q.at q.calls) last_is q.cuts;
+      cuts = subst (λ (life : Life). CutsAt end managed life q.at q.calls) last_is q.cuts;
       turns = subst (λ (ms : List Met). AreTurns managed from ms) (sym (append_assoc mets q.mets (cut_turns q.at)))
           (turns-append managed from mets (q.mets ++ cut_turns q.at) p.turns (subst (λ (life : Life). AreTurns managed life (q.mets ++ cut_turns q.at)) p.after q.turns));
       written = subst (λ (life : Life). WritesFront out out_to (flat_map turn_lines (mets ++ q.mets)) (cut_lines life q.at)) last_is
           (subst (λ (ls : List Line). WritesFront out out_to ls (cut_lines (life_after mid q.mets) q.at)) (sym (flat_map-append turn_lines mets q.mets))
           (front_after out out_mid out_to (flat_map turn_lines mets) (flat_map turn_lines q.mets) (cut_lines (life_after mid q.mets) q.at) p.written q.written));
-      tells = subst (λ (cs : List Call). TellsUnlessMemory end old new cs)
+      tells = subst (λ (cs : List Call). Tells old new cs)
           (sym (append_assoc (turns_calls from mets) (turns_calls (life_after from mets) q.mets) q.calls) ∙ ap (λ (cs : List Call). cs ++ q.calls) (sym (turns_calls-append from mets q.mets)))
-          (tells_unless end old at_mid new (turns_calls from mets) (turns_calls (life_after from mets) q.mets ++ q.calls) p.tells
-          (subst (λ (life : Life). TellsUnlessMemory end at_mid new (turns_calls life q.mets ++ q.calls)) p.after q.tells));
+          (tells_then old at_mid new (turns_calls from mets) (turns_calls (life_after from mets) q.mets ++ q.calls) p.tells
+          (subst (λ (life : Life). Tells at_mid new (turns_calls life q.mets ++ q.calls)) p.after q.tells));
       whole = subst (λ (ms : List Met). AreWhole managed from old ms) (sym (append_assoc mets q.mets (turns_left q.at)))
           (whole_then managed from mid old at_mid mets (q.mets ++ turns_left q.at) p.foretold q.whole);
       within = omega (arith, fits, q.within, length-append mets q.mets);
@@ -184,12 +189,12 @@ goes_over allowed managed from to old new out out_to mets counted going p =
     (breaks_now ends.TurnsOver 0 managed to new new [] out_to (refl, going) (tells_none new) (omega arith) refl)
 
 -- the lines after the last turn were not all written
-cuts_at_end : (end : ServeEnd) (a b : ℕ) (life : Life) (last : List Call) → IsLast life last → HasServeCause end a b 0 0 → CutsAt end life AtEnd last
-cuts_at_end ends.End a b life last is cause = absurd cause
-cuts_at_end ends.TurnsOver a b life last is cause = absurd cause
-cuts_at_end ends.LinkFault a b life last is cause = absurd (omega (arith, cause.1))
-cuts_at_end ends.WriteFault a b life last is cause = is
-cuts_at_end ends.NoMemory a b life last is cause = tt
+cuts_at_end : (end : ServeEnd) (a b : ℕ) (managed : List Managed) (life : Life) (last : List Call) → IsLast life last → HasServeCause end a b 0 0 → CutsAt end managed life AtEnd last
+cuts_at_end ends.End a b managed life last is cause = absurd cause
+cuts_at_end ends.TurnsOver a b managed life last is cause = absurd cause
+cuts_at_end ends.LinkFault a b managed life last is cause = absurd (omega (arith, cause.1))
+cuts_at_end ends.WriteFault a b managed life last is cause = is
+cuts_at_end ends.NoMemory a b managed life last is cause = is
 
 pub breaks_at_end : (end : ServeEnd) (allowed : ℕ) (managed : List Managed) (from to : Life) (old new : Seen) (out out_mid out_to : Option (List ℕ)) (a b : ℕ)
     → Ends allowed managed from old out to new out_mid → WritesFront out_mid out_to [] (closing_lines to) → HasServeCause end a b 0 0 → BreaksOff end allowed managed from old new out out_to
@@ -197,12 +202,12 @@ breaks_at_end end allowed managed from to old new out out_mid out_to a b ends fr
   mets = ends.mets;
   at = AtEnd;
   calls = ends.last;
-  cuts = cuts_at_end end a b (life_after from ends.mets) ends.last (subst (λ (life : Life). IsLast life ends.last) ends.after ends.last_is) cause;
+  cuts = cuts_at_end end a b managed (life_after from ends.mets) ends.last (subst (λ (life : Life). IsLast life ends.last) ends.after ends.last_is) cause;
   turns = subst (λ (ms : List Met). AreTurns managed from ms) (sym (append-nil ends.mets)) ends.turns;
   written = subst (λ (life : Life). WritesFront out out_to (flat_map turn_lines ends.mets) (closing_lines life)) ends.after
       (subst (λ (ls : List Line). WritesFront out out_to ls (closing_lines to)) (append-nil (flat_map turn_lines ends.mets))
       (front_after out out_mid out_to (flat_map turn_lines ends.mets) [] (closing_lines to) ends.written front));
-  tells = unless_memory end old new (turns_calls from ends.mets ++ ends.last) ends.tells;
+  tells = ends.tells;
   whole = subst (λ (ms : List Met). AreWhole managed from old ms) (sym (append-nil ends.mets)) ends.whole;
   within = ends.within;
   all = handled_other end a b 0 0 (length ends.mets) allowed cause;

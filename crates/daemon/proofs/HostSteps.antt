@@ -68,7 +68,7 @@ known_then changes i table rows le = ap (λ (cs : List HostChange). known_in tab
 
 -- ---- the changes of a diff
 
-changes_led : (diff : Diff) (known wanted : List HostRow) → Leads diff known wanted → changes_by diff ≡ changes known wanted
+pub changes_led : (diff : Diff) (known wanted : List HostRow) → Leads diff known wanted → changes_by diff ≡ changes known wanted
 changes_led diff known wanted leads = λ i. map Remove (reverse (leads.gone i)) ++ map Add (leads.come i)
 
 pub updated : (diff : Diff) (made : List HostChange) (table : Table) (old new : Seen) (t u : List ℕ) → made ≡ changes_by diff

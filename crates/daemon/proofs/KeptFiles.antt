@@ -29,7 +29,7 @@ use Rattle.daemon.specs.Keeping.{is_nothing, may_differ, IsKept, AreKept, AreKep
 
 -- ---- one file
 
-abbrev brought : (wanted : Option (List ℕ)) → KeptFile → Asks KeptFile
+abbrev pub brought : (wanted : Option (List ℕ)) → KeptFile → Asks KeptFile
 brought wanted file = after (bringing file.name wanted) (λ done. Done (record file { known = known_after wanted done }))
 
 pub keeps_settled : (wanted : Option (List ℕ)) (file : KeptFile) (seen : Seen) (text : List ℕ) → is_settled file.keeps file.known wanted ≡ true → Does (keeping_one wanted file) file seen seen text text

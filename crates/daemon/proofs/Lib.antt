@@ -7,6 +7,10 @@ pub mod HostSteps
 pub mod Hookings
 pub mod OpeningSteps
 pub mod Bringing
+pub mod Begins
+pub mod BegunParts
+pub mod BegunFiles
+pub mod BegunTurns
 pub mod KeptFiles
 pub mod LoadedFiles
 pub mod SpelledLeases

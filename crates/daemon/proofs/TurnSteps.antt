@@ -60,7 +60,7 @@ acted managed outlook step moment unsent stop known hooks files old new t u acts
 
 -- ---- a turn
 
-acts_as : (managed : List Managed) (life : Life) (wake : Wake) (bytes : List ℕ) (turn : Turn) (hooks : Supervision) (client : Client) (asked : Asked) (jobs : List Job) (moment : ℕ) (stop : Option ℕ)
+pub acts_as : (managed : List Managed) (life : Life) (wake : Wake) (bytes : List ℕ) (turn : Turn) (hooks : Supervision) (client : Client) (asked : Asked) (jobs : List Job) (moment : ℕ) (stop : Option ℕ)
     → turn ≡ input_of life wake bytes → Steps (client_turned turn life.client) client asked → jobs ≡ (client_turned turn life.client).jobs
     → moment ≡ turn_moment life wake → stop ≡ stop_after life.stop wake.event moment
     → acting managed (outlook_with life hooks) (step_with client asked.sends jobs) moment stop
@@ -72,7 +72,7 @@ acts_as managed life wake bytes turn hooks client asked jobs moment stop turn_is
     let stop_here : stop ≡ stop_after life.stop wake.event (turn_moment life wake) = stop_is ∙ ap (stop_after life.stop wake.event) moment_is in
     λ i. acting managed (outlook_with life hooks) (step_with (client_is i) (sends_are i) (jobs_are i)) (moment_is i) (stop_here i)
 
-turns_as : (managed : List Managed) (life to : Life) (wake : Wake) (bytes : List ℕ) (hooks : Supervision) (moment : ℕ) (old mid new : Seen) (t u v : List ℕ) → moment ≡ turn_moment life wake
+pub turns_as : (managed : List Managed) (life to : Life) (wake : Wake) (bytes : List ℕ) (hooks : Supervision) (moment : ℕ) (old mid new : Seen) (t u v : List ℕ) → moment ≡ turn_moment life wake
     → Does (polling moment life.hooks) hooks old mid t u
     → Does (acting managed (outlook_with life hooks) (step_of life wake bytes) (turn_moment life wake) (stop_after life.stop wake.event (turn_moment life wake))) to mid new u v
     → Does (turn_asks managed life wake bytes) to old new t v
@@ -112,19 +112,28 @@ pub record Loads (managed : List Managed) (beginnings : List Beginning) (files :
 abbrev pub first_outlook : List KeptFile → Supervision → Outlook
 first_outlook files hooks = record { known = None; files = files; hooks = hooks }
 
-opens_as : (managed : List Managed) (specs : List IfSpec) (begin : Begin) (beginnings : List Beginning) (found : List KeptFile) (to : Life) (hooks : Supervision) (client : Client) (asked : Asked) (jobs : List Job) (moment : ℕ) (old mid new : Seen) (t u v : List ℕ)
+-- what the client's step asks is what the opening's is to ask
+pub opening_is : (managed : List Managed) (specs : List IfSpec) (begin : Begin) (beginnings : List Beginning) (found : List KeptFile) (hooks : Supervision) (client : Client) (asked : Asked) (jobs : List Job) (moment : ℕ) (old mid : Seen) (t u : List ℕ)
+    → Steps (opening beginnings specs begin) client asked → jobs ≡ (opening beginnings specs begin).jobs → moment ≡ moment_of begin.at → hooks ≡ idle
+    → (p : Loads managed beginnings found old mid t u)
+    → acting managed (first_outlook found hooks) (step_with client asked.sends jobs) moment None
+    ≡ acting managed (outlook_from managed p.loads.loaded) (opening_step managed p.loads.loaded specs begin) (moment_of begin.at) None
+opening_is managed specs begin beginnings found hooks client asked jobs moment old mid t u steps jobs_were moment_is hooks_are p =
+    let loaded : FilesLoaded = p.loads.loaded in
+    let here : Steps (opening_step managed loaded specs begin) client asked = subst (λ (bs : List Beginning). Steps (opening bs specs begin) client asked) p.loads.beginnings_are steps in
+    let jobs_are : jobs ≡ (opening_step managed loaded specs begin).jobs = subst (λ (bs : List Beginning). jobs ≡ (opening bs specs begin).jobs) p.loads.beginnings_are jobs_were in
+    λ i. acting managed (first_outlook (p.loads.files_are i) (hooks_are i)) (step_with (here.goes_on i) (here.offers i) (jobs_are i)) (moment_is i) None
+
+pub opens_as : (managed : List Managed) (specs : List IfSpec) (begin : Begin) (beginnings : List Beginning) (found : List KeptFile) (to : Life) (hooks : Supervision) (client : Client) (asked : Asked) (jobs : List Job) (moment : ℕ) (old mid new : Seen) (t u v : List ℕ)
     → Steps (opening beginnings specs begin) client asked → jobs ≡ (opening beginnings specs begin).jobs → moment ≡ moment_of begin.at → hooks ≡ idle
     → Loads managed beginnings found old mid t u → Does (acting managed (first_outlook found hooks) (step_with client asked.sends jobs) moment None) to mid new u v
     → Does (opening_asks managed specs begin) to old new t v
 unfolding opening_asks
 opens_as managed specs begin beginnings found to hooks client asked jobs moment old mid new t u v steps jobs_were moment_is hooks_are p acts =
     let loaded : FilesLoaded = p.loads.loaded in
-    let here : Steps (opening_step managed loaded specs begin) client asked = subst (λ (bs : List Beginning). Steps (opening bs specs begin) client asked) p.loads.beginnings_are steps in
-    let jobs_are : jobs ≡ (opening_step managed loaded specs begin).jobs = subst (λ (bs : List Beginning). jobs ≡ (opening bs specs begin).jobs) p.loads.beginnings_are jobs_were in
-    let rest : Asks Life = acting managed (outlook_from managed loaded) (opening_step managed loaded specs begin) (moment_of begin.at) None in
-    let acts_here : Does rest to mid new u v =
+    let acts_here : Does (acting managed (outlook_from managed loaded) (opening_step managed loaded specs begin) (moment_of begin.at) None) to mid new u v =
     subst (λ (asks : Asks Life). Does asks to mid new u v)
-    (λ i. acting managed (first_outlook (p.loads.files_are i) (hooks_are i)) (step_with (here.goes_on i) (here.offers i) (jobs_are i)) (moment_is i) None) acts in
+    (opening_is managed specs begin beginnings found hooks client asked jobs moment old mid t u steps jobs_were moment_is hooks_are p) acts in
     does_after clearing (λ _. after (loading_files managed) (λ files. acting managed (outlook_from managed files) (opening_step managed files specs begin) (moment_of begin.at) None)) tt to old p.one new t p.t_one v p.clears
     (does_after (loading_files managed) (λ files. acting managed (outlook_from managed files) (opening_step managed files specs begin) (moment_of begin.at) None) loaded to p.one mid new p.t_one u v p.loads.does acts_here)
 

@@ -1,5 +1,5 @@
 -- What beginning and waiting leave of what the devices tell.
-use Rattle.std.proofs.Common.{ℕ, ◌≡◌, true, false, List, [], ◌∷◌, ◌++◌, ◌+◌, length, take, drop, Option, Some, None, Result, Ok, Err, refl, sym, ap, subst, ◌∙◌}
+use Rattle.std.proofs.Common.{ℕ, ◌≡◌, true, false, List, [], ◌∷◌, ◌++◌, ◌+◌, length, take, drop, Option, Some, None, Result, Ok, Err, refl, sym, ap, subst, ◌∙◌, append-nil}
 use Rattle.std.specs.Prelude.{IfSome, option_map}
 use Rattle.net_types.specs.declared.fault.Failed.{Failed}
 use Rattle.world.specs.declared.faults.DeviceAnswer.{DeviceAnswer}
@@ -144,6 +144,25 @@ failed_adds asked buffer (Some told) mid waits = subst (λ (l : Option LinkTold)
 
 pub failed_wait_tells : (asked : Option ℕ) (buffer : List ℕ) (old mid : Seen) → WaitsThere asked old mid buffer wait_failed → Tells old mid (Link (Waited asked None) ∷ [])
 failed_wait_tells asked buffer old mid waits = link_alone old mid (Waited asked None) waits.only waits.begins (failed_adds asked buffer old.link.told mid.link.told waits.told)
+
+-- ---- a wait that wanted memory
+
+abbrev pub memory_wanted : Result Wake DeviceAnswer
+memory_wanted = Err Answer.NoMemory
+
+memory_adds : (asked : Option ℕ) (buffer : List ℕ) (link mid : Option LinkTold) → Waits asked link mid buffer memory_wanted → Adds (option_map (λ t. t.calls) link) (option_map (λ t. t.calls) mid) []
+memory_adds asked buffer None mid waits = tt
+memory_adds asked buffer (Some told) mid waits = subst (λ (l : Option LinkTold). Adds (Some told.calls) (option_map (λ t. t.calls) l) []) (sym waits) (sym (append-nil told.calls))
+
+pub memory_wait_tells : (asked : Option ℕ) (buffer : List ℕ) (old mid : Seen) → WaitsThere asked old mid buffer memory_wanted → Tells old mid []
+memory_wait_tells asked buffer old mid waits =
+    record {
+      link = memory_adds asked buffer old.link.told mid.link.told waits.told;
+      host = subst (λ h. Adds (option_map (λ t. t.calls) old.host.told) (option_map (λ t. t.calls) h.told) []) (sym waits.only.host) (adds_none _);
+      store = subst (λ s. Adds (option_map (λ t. t.calls) old.store.told) (option_map (λ t. t.calls) s.told) []) (sym waits.only.store) (adds_none _);
+      hooks = subst (λ h. Adds (option_map (λ t. t.calls) old.hooks.told) (option_map (λ t. t.calls) h.told) []) (sym waits.only.hooks) (adds_none _);
+      begins = waits.begins;
+    }
 
 -- ---- the last wait
 

@@ -10,6 +10,7 @@ use Rattle.script_model.specs.Lines.{Line}
 use Rattle.device_calls.specs.Calls.{Call}
 use Rattle.device_calls.specs.Worlds.{Seen, World, Ran, world_of, run}
 use Rattle.device_calls.specs.Does.{IsRun}
+use Rattle.device_calls.specs.Fronts.{HasBegun}
 use Rattle.device_calls.specs.Printing.{Prints}
 use Rattle.device_calls.proofs.Doing.{tells_then}
 use Rattle.device_calls.proofs.Running.{run_coming}
@@ -23,10 +24,10 @@ use Rattle.daemon.specs.Waits.{BeginsThere, KnowsChild}
 use Rattle.daemon.specs.Streams.{WritesBytes, WritesSome, WritesLines}
 use Rattle.daemon.specs.Serving.{opening_with, told_last, MakesOpening, Ends, AreManyTurns, HasServeCause}
 use Rattle.daemon.specs.Served.{IsLifeOf, Served}
-use Rattle.daemon.specs.Cuts.{cut_lines, turns_left, TellsUnlessMemory, BreaksOff, CutOpening, CutLife, BeginFails, Leaves}
+use Rattle.daemon.specs.Cuts.{cut_lines, turns_left, BreaksOff, CutOpening, CutLife, BeginFails, Leaves}
 use Rattle.daemon.proofs.Waitings.{began, begun_world}
 use Rattle.daemon.proofs.Stretches.{lines_then}
-use Rattle.daemon.proofs.CutOffs.{front_some, front_after, told_left, left_whole, tells_unless}
+use Rattle.daemon.proofs.CutOffs.{front_some, front_after, told_left, left_whole}
 
 -- ---- what was foretold
 
@@ -108,15 +109,15 @@ module _ (managed : List Managed) (specs : List IfSpec) (begin : Begin) (life : 
   }
 
   -- the lines of the opening were not all written
-  cut_opening : (end : ServeEnd) (out_to : Option (List ℕ)) → WritesSome out out_to written → TellsUnlessMemory end mid opened made.calls → CutOpening end managed specs old opened out out_to
-  cut_opening end out_to some tells = record {
+  cut_opening : (end : ServeEnd) (out_to : Option (List ℕ)) → WritesSome out out_to written → CutOpening end managed specs old opened out out_to
+  cut_opening end out_to some = record {
     begun = record { begin = begin; seen = mid; begins = begins };
     opening = opening_with begin made.calls life;
     rest = told_left managed life (world_of opened);
     begins = refl;
     opens = made.did.makes;
     written = front_some out out_to text_old written text (opening_lines (opening_with begin made.calls life)) empty made.lines same some;
-    tells = tells;
+    tells = made.did.tells;
     foretold = opens_foretold managed specs begin made.calls life (told_left managed life (world_of opened)) (world_of old) (world_of mid) (world_of opened) (begun_world begin old mid begins) made.did.foretold (left_whole managed life (world_of opened));
   }
 
@@ -124,8 +125,8 @@ module _ (managed : List Managed) (specs : List IfSpec) (begin : Begin) (life : 
   leaves_opening ends.End allowed out_to a b some cause = absurd cause
   leaves_opening ends.TurnsOver allowed out_to a b some cause = absurd cause
   leaves_opening ends.LinkFault allowed out_to a b some cause = absurd (omega (arith, cause.1))
-  leaves_opening ends.WriteFault allowed out_to a b some cause = inl (cut_opening ends.WriteFault out_to some made.did.tells)
-  leaves_opening ends.NoMemory allowed out_to a b some cause = inr (inl (cut_opening ends.NoMemory out_to some tt))
+  leaves_opening ends.WriteFault allowed out_to a b some cause = inl (cut_opening ends.WriteFault out_to some)
+  leaves_opening ends.NoMemory allowed out_to a b some cause = inr (inl (cut_opening ends.NoMemory out_to some))
 
   -- it was cut off later
   cut_life : (end : ServeEnd) (allowed : ℕ) (new : Seen) (out_to : Option (List ℕ)) → WritesBytes out out_one written → BreaksOff end allowed managed life opened new out_one out_to → CutLife end allowed managed specs old new out out_to
@@ -140,7 +141,7 @@ module _ (managed : List Managed) (specs : List IfSpec) (begin : Begin) (life : 
     cuts = breaks.cuts;
     turns = breaks.turns;
     written = front_after out out_one out_to (opening_lines (opening_with begin made.calls life)) (flat_map turn_lines breaks.mets) (cut_lines (life_after life breaks.mets) breaks.at) (lines_written wrote) breaks.written;
-    tells = tells_unless end mid opened new made.calls (turns_calls life breaks.mets ++ breaks.calls) made.did.tells breaks.tells;
+    tells = tells_then mid opened new made.calls (turns_calls life breaks.mets ++ breaks.calls) made.did.tells breaks.tells;
     foretold = opens_foretold managed specs begin made.calls life (breaks.mets ++ turns_left breaks.at) (world_of old) (world_of mid) (world_of opened) (begun_world begin old mid begins) made.did.foretold breaks.whole;
     within = breaks.within;
     all = breaks.all;
@@ -160,3 +161,8 @@ leaves_unbegun ends.TurnsOver allowed managed specs old new out fails = absurd f
 leaves_unbegun ends.LinkFault allowed managed specs old new out fails = inl (refl, fails)
 leaves_unbegun ends.WriteFault allowed managed specs old new out fails = absurd fails
 leaves_unbegun ends.NoMemory allowed managed specs old new out fails = absurd fails
+
+-- memory was wanted in its opening, whose lines weren't written yet
+pub leaves_opened : (allowed : ℕ) (managed : List Managed) (specs : List IfSpec) (begin : Begin) (old mid new : Seen) (out : Option (List ℕ)) → BeginsThere old mid (began begin)
+    → HasBegun (opening_asks managed specs begin) mid new → Leaves ends.NoMemory allowed managed specs old new out out
+leaves_opened allowed managed specs begin old mid new out begins opens = inl (refl, record { begun = record { begin = begin; seen = mid; begins = begins }; opens = opens })

@@ -6,6 +6,7 @@ use Rattle.iface_core.specs.Outcomes.{sends_in}
 use Rattle.settings.specs.declared.interfaces.Managed.{Managed}
 use Rattle.client_model.specs.Clients.{ClientStep, rows_of}
 use Rattle.device_calls.specs.Does.{Does}
+use Rattle.device_calls.specs.Fronts.{HasBegun}
 use Rattle.device_calls.specs.Worlds.{Seen}
 use Rattle.turn_model.specs.Turns as model
 use Rattle.turn_model.specs.Turns.{acting}
@@ -28,3 +29,9 @@ abbrev pub ActsAs : List Managed → Outlook → Step → Life → (old new : Se
 ActsAs managed outlook step life old new text_old text_new =
     (known : Option (List HostRow)) → WasKnown outlook.pending (rows_of step.core) known
     → Does (acting managed (outlook_of outlook known) (step_of step) outlook.moment outlook.stop) (life_of life) old new text_old text_new
+
+-- it was begun, whichever rows were known before it
+abbrev pub BeginsActing : List Managed → Outlook → Step → (old new : Seen) → Type 0
+BeginsActing managed outlook step old new =
+    (known : Option (List HostRow)) → WasKnown outlook.pending (rows_of step.core) known
+    → HasBegun (acting managed (outlook_of outlook known) (step_of step) outlook.moment outlook.stop) old new

@@ -8,8 +8,11 @@ use Rattle.script_model.specs.Lines.{Line}
 use Rattle.device_calls.specs.Calls.{Call, Link}
 use Rattle.device_calls.specs.Worlds.{Seen}
 use Rattle.device_calls.specs.Telling.{Tells}
+use Rattle.device_calls.specs.Fronts.{HasBegun}
 use Rattle.turn_model.specs.Turns.{Life, until, is_over}
+use Rattle.turn_model.specs.Opening.{opening_asks}
 use Rattle.turn_model.specs.Lives.{OpeningMet, IsOpening, Met, AreTurns, IsLast, life_after, turn_calls, turns_calls, opening_lines, turn_lines, closing_lines}
+use Rattle.turn_model.specs.LifeFronts.{FrontOfTurn}
 use Rattle.daemon.specs.declared.serving.ServeEnd.{ServeEnd}
 use Rattle.daemon.specs.declared.serving.ServeEnd.TheVariants as ends
 use Rattle.daemon.specs.Streams.{WritesFront}
@@ -44,27 +47,25 @@ turns_left (InTurn met rest) = met ∷ rest
 turns_left AtEnd = []
 
 -- What was asked after the turns whose lines stand written whole, and where the life was cut off: between two turns, since as
--- many were handled as were allowed, or the next wait failed; in the lines of a turn, or in those after the last one, since
--- writing failed. Of want of memory nothing is said.
-abbrev pub CutsAt : ServeEnd → Life → CutAt → List Call → Type 0
-CutsAt ends.End life at calls = ⊥
-CutsAt ends.TurnsOver life (Between rest) calls = (calls ≡ []) × (is_over life ≡ false)
-CutsAt ends.TurnsOver life other calls = ⊥
-CutsAt ends.LinkFault life (Between rest) calls = (calls ≡ Link (Waited (until life) None) ∷ []) × (is_over life ≡ false)
-CutsAt ends.LinkFault life other calls = ⊥
-CutsAt ends.WriteFault life (Between rest) calls = ⊥
-CutsAt ends.WriteFault life (InTurn met rest) calls = calls ≡ turn_calls life met
-CutsAt ends.WriteFault life AtEnd calls = IsLast life calls
-CutsAt ends.NoMemory life at calls = Unit {0}
+-- many were handled as were allowed, or the next wait failed, or memory was wanted in the next turn, of which a front was asked;
+-- in the lines of a turn, or in those after the last one, since writing failed or memory was wanted.
+abbrev pub CutsAt : ServeEnd → List Managed → Life → CutAt → List Call → Type 0
+CutsAt ends.End managed life at calls = ⊥
+CutsAt ends.TurnsOver managed life (Between rest) calls = (calls ≡ []) × (is_over life ≡ false)
+CutsAt ends.TurnsOver managed life other calls = ⊥
+CutsAt ends.LinkFault managed life (Between rest) calls = (calls ≡ Link (Waited (until life) None) ∷ []) × (is_over life ≡ false)
+CutsAt ends.LinkFault managed life other calls = ⊥
+CutsAt ends.WriteFault managed life (Between rest) calls = ⊥
+CutsAt ends.WriteFault managed life (InTurn met rest) calls = calls ≡ turn_calls life met
+CutsAt ends.WriteFault managed life AtEnd calls = IsLast life calls
+CutsAt ends.NoMemory managed life (Between rest) calls = FrontOfTurn managed life calls × (is_over life ≡ false)
+CutsAt ends.NoMemory managed life (InTurn met rest) calls = calls ≡ turn_calls life met
+CutsAt ends.NoMemory managed life AtEnd calls = IsLast life calls
 
--- but after want of memory, the devices tell what was asked
-abbrev pub TellsUnlessMemory : ServeEnd → Seen → Seen → List Call → Type 0
-TellsUnlessMemory ends.NoMemory old new calls = Unit {0}
-TellsUnlessMemory end old new calls = Tells old new calls
-
--- the wakes asked for after the turns whose lines stand written whole: that of a turn, or a wait that brought none, the only call then
+-- the wakes asked for after the turns whose lines stand written whole: that of a turn that was begun, or a wait that brought none
 abbrev pub wakes_asked : CutAt → List Call → ℕ
-wakes_asked (Between rest) calls = length calls
+wakes_asked (Between rest) [] = 0
+wakes_asked (Between rest) (call ∷ calls) = 1
 wakes_asked (InTurn met rest) calls = 1
 wakes_asked AtEnd calls = length calls
 
@@ -78,10 +79,10 @@ pub record BreaksOff (end : ServeEnd) (allowed : ℕ) (managed : List Managed) (
   pub mets : List Met
   pub at : CutAt
   pub calls : List Call
-  pub cuts : CutsAt end (life_after from mets) at calls
+  pub cuts : CutsAt end managed (life_after from mets) at calls
   pub turns : AreTurns managed from (mets ++ cut_turns at)
   pub written : WritesFront out_from out_to (flat_map turn_lines mets) (cut_lines (life_after from mets) at)
-  pub tells : TellsUnlessMemory end old new (turns_calls from mets ++ calls)
+  pub tells : Tells old new (turns_calls from mets ++ calls)
   pub whole : AreWhole managed from old (mets ++ turns_left at)
   pub within : length mets + wakes_asked at calls ≤ allowed
   pub all : HandledAll end (length mets) allowed
@@ -94,7 +95,7 @@ pub record CutOpening (end : ServeEnd) (managed : List Managed) (specs : List If
   pub begins : opening.begin ≡ begun.begin
   pub opens : IsOpening managed specs opening
   pub written : WritesFront out_from out_to [] (opening_lines opening)
-  pub tells : TellsUnlessMemory end begun.seen new opening.calls
+  pub tells : Tells begun.seen new opening.calls
   pub foretold : IsForetold managed specs old opening rest
 
 -- a life was cut off after its opening and some turns, whose lines stand written whole
@@ -106,18 +107,18 @@ pub record CutLife (end : ServeEnd) (allowed : ℕ) (managed : List Managed) (sp
   pub calls : List Call
   pub begins : opening.begin ≡ begun.begin
   pub opens : IsOpening managed specs opening
-  pub cuts : CutsAt end (life_after opening.life mets) at calls
+  pub cuts : CutsAt end managed (life_after opening.life mets) at calls
   pub turns : AreTurns managed opening.life (mets ++ cut_turns at)
   pub written : WritesFront out_from out_to (opening_lines opening ++ flat_map turn_lines mets) (cut_lines (life_after opening.life mets) at)
-  pub tells : TellsUnlessMemory end begun.seen new (opening.calls ++ (turns_calls opening.life mets ++ calls))
+  pub tells : Tells begun.seen new (opening.calls ++ (turns_calls opening.life mets ++ calls))
   pub foretold : IsForetold managed specs old opening (mets ++ turns_left at)
   pub within : length mets + wakes_asked at calls ≤ allowed
   pub all : HandledAll end (length mets) allowed
 
--- a wait that failed, or wanted memory
+-- a wait that failed, or wanted memory and changed nothing that is told
 abbrev pub WaitFails : ServeEnd → (until : Option ℕ) → Seen → Seen → Type 0
 WaitFails ends.LinkFault until old new = Tells old new (Link (Waited until None) ∷ [])
-WaitFails ends.NoMemory until old new = Unit {0}
+WaitFails ends.NoMemory until old new = Tells old new []
 WaitFails other until old new = ⊥
 
 -- a life that could not begin, which was asked once; no other call was made
@@ -128,11 +129,18 @@ abbrev pub BeginFails : ServeEnd → Seen → Seen → Type 0
 BeginFails ends.LinkFault old new = FailsToBegin old new
 BeginFails other old new = ⊥
 
--- What stands written, where so many turns were allowed. Where beginning failed, or memory was wanted before the opening's lines were written, nothing was.
+-- a life that was begun once, and a front of what its opening asks
+pub record BeginsOpening (managed : List Managed) (specs : List IfSpec) (old new : Seen) : Type 0 where
+  pub begun : Begun old
+  pub opens : HasBegun (opening_asks managed specs begun.begin) begun.seen new
+
+-- What stands written, and what was asked, where so many turns were allowed. Where beginning failed, or memory was wanted before
+-- the opening's lines were written, nothing was written.
 abbrev pub Leaves : ServeEnd → (allowed : ℕ) → List Managed → List IfSpec → Seen → Seen → Option (List ℕ) → Option (List ℕ) → Type 0
 Leaves ends.End allowed managed specs old new out_from out_to = Unit {0}
 Leaves ends.TurnsOver allowed managed specs old new out_from out_to = CutLife ends.TurnsOver allowed managed specs old new out_from out_to
 Leaves ends.LinkFault allowed managed specs old new out_from out_to = ((out_to ≡ out_from) × FailsToBegin old new) ⊎ CutLife ends.LinkFault allowed managed specs old new out_from out_to
 Leaves ends.WriteFault allowed managed specs old new out_from out_to = CutOpening ends.WriteFault managed specs old new out_from out_to ⊎ CutLife ends.WriteFault allowed managed specs old new out_from out_to
 Leaves ends.NoMemory allowed managed specs old new out_from out_to =
-    (out_to ≡ out_from) ⊎ (CutOpening ends.NoMemory managed specs old new out_from out_to ⊎ CutLife ends.NoMemory allowed managed specs old new out_from out_to)
+    ((out_to ≡ out_from) × BeginsOpening managed specs old new)
+    ⊎ (CutOpening ends.NoMemory managed specs old new out_from out_to ⊎ CutLife ends.NoMemory allowed managed specs old new out_from out_to)

@@ -4,6 +4,7 @@ use Rattle.std.specs.List.{AllByRecursion}
 use Rattle.client_model.specs.declared.interfaces.Iface.{Iface}
 use Rattle.client_core.specs.Touched.{is_other, is_touched}
 use Rattle.device_calls.specs.Does.{Does}
+use Rattle.device_calls.specs.Fronts.{HasBegun}
 use Rattle.device_calls.specs.Worlds.{Seen}
 use Rattle.turn_model.specs.KeptFiles.{Keeps, Duid, Lease4, Lease6, Resolver, KeptFile, wanted_in, is_settled, is_unknown, keeping_one}
 use Rattle.daemon.specs.declared.keeping.Touched.{Touched}
@@ -49,3 +50,7 @@ AreKeptBut touched ifaces files = AllByRecursion (λ file. may_differ file.keeps
 -- a file is brought to what it is to hold
 abbrev pub KeepsFile : List Iface → (old new : KeptFile) → (seen_old seen_new : Seen) → (text_old text_new : List ℕ) → Type 0
 KeepsFile ifaces old new seen_old seen_new text_old text_new = Does (keeping_one (wanted_in ifaces old.keeps) old) new seen_old seen_new text_old text_new
+
+-- it was begun to bring a file to what it is to hold
+abbrev pub BeginsFile : List Iface → KeptFile → (old new : Seen) → Type 0
+BeginsFile ifaces file old new = HasBegun (keeping_one (wanted_in ifaces file.keeps) file) old new

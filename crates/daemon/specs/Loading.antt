@@ -5,6 +5,7 @@ use Rattle.settings.specs.declared.interfaces.Managed.{Managed}
 use Rattle.client_model.specs.ClientSettings6.{some_need_duid}
 use Rattle.client_model.specs.HostDuid.{host_duid}
 use Rattle.client_model.specs.KeptLeases.{Beginning}
+use Rattle.device_calls.specs.Programs.{Asks, after}
 use Rattle.device_calls.specs.Worlds.{Seen}
 use Rattle.device_calls.specs.Does.{Does}
 use Rattle.iface_core.specs.Beginnings as code
@@ -26,6 +27,10 @@ pub record LoadsLeases (managed : List Managed) (duid : List ℕ) (before : List
   pub does : Does (loading managed) loaded old new text_old text_new
   pub beginnings_are : beginnings ≡ map (beginning_of duid) loaded
   pub files_are : files ≡ before ++ flat_map files_by loaded
+
+-- the DUID, where some interface needs it, and the files of leases
+abbrev pub loading_own : List Managed → Asks (List model.Loaded)
+loading_own managed = after (reading_if (some_need_duid managed) duid_file) (λ duid. loading managed)
 
 -- the DUID was read, where some interface needs it, and the files of leases
 pub record LoadsOwn (managed : List Managed) (beginnings : List Beginning) (files : List KeptFile) (old new : Seen) (text_old text_new : List ℕ) : Type 0 where

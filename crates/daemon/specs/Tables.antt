@@ -9,6 +9,7 @@ use Rattle.host_model.specs.HostTable.{InRowOrder}
 use Rattle.host_model.specs.HostTurn.{changes, after_changes}
 use Rattle.client_core.specs.Leading.{Leads}
 use Rattle.device_calls.specs.Does.{Does}
+use Rattle.device_calls.specs.Fronts.{HasBegun}
 use Rattle.device_calls.specs.Worlds.{Seen}
 use Rattle.turn_model.specs.Turns.{changing, hosting}
 use Rattle.daemon.specs.declared.tables.Table.{Table}
@@ -51,3 +52,15 @@ abbrev pub Hosts : List Managed → Pending → (wanted : List HostRow) → Tabl
 Hosts managed pending wanted table old new text_old text_new =
     (known : Option (List HostRow)) → WasKnown pending wanted known
     → Does (hosting managed wanted known) (known_in table wanted) old new text_old text_new
+
+-- ---- the same where memory was wanted: these calls were begun
+
+abbrev pub BeginsChanges : List HostChange → (old new : Seen) → Type 0
+BeginsChanges made old new = (known : List HostRow) → HasBegun (changing made (Some known)) old new
+
+abbrev pub BeginsUpdate : Diff → (old new : Seen) → Type 0
+BeginsUpdate diff old new =
+    (known wanted : List HostRow) → InRowOrder known → InRowOrder wanted → Leads diff known wanted → HasBegun (changing (changes known wanted) (Some known)) old new
+
+abbrev pub BeginsHosts : List Managed → Pending → (wanted : List HostRow) → (old new : Seen) → Type 0
+BeginsHosts managed pending wanted old new = (known : Option (List HostRow)) → WasKnown pending wanted known → HasBegun (hosting managed wanted known) old new

@@ -1,11 +1,11 @@
 //! What a step of the client asks of the devices.
-ghost use Rattle.std.specs.Prelude.{◌≡◌, ◌<◌, ◌^◌, List, Option, IfOk};
+ghost use Rattle.std.specs.Prelude.{◌≡◌, ◌<◌, ◌^◌, List, Option, IfOk, IfErr};
 ghost use Rattle.std.specs.List.{AllByRecursion};
 ghost use Rattle.world.specs.declared.rows.HostRow.{HostRow};
 ghost use Rattle.iface_core.specs.Outcomes.{sends_in};
 ghost use Rattle.client_model.specs.Clients.{rows_of};
 ghost use Rattle.client_core.specs.Stepping.{IsOnInterface};
-ghost use Rattle.daemon.specs.Acts.{ActsAs};
+ghost use Rattle.daemon.specs.Acts.{ActsAs, BeginsActing};
 ghost use Rattle.daemon.specs.Keeping.{AreKeptBut};
 ghost use Rattle.daemon.specs.Lives.{IsBelowEnd, IsOrderly};
 ghost use Rattle.daemon.specs.Tables.{WasKnown};
@@ -65,6 +65,7 @@ pub fn act<W: Outside>(
     requires kept { AreKeptBut touched step.core.ifaces outlook.files }
     requires known { (known : Option (List HostRow)) × WasKnown outlook.pending (rows_of step.core) known }
     ensures does { IfOk result (λ life. ActsAs managed.now outlook step life (W.seen outside.old) (W.seen outside.new) text.old.items text.new.items) }
+    ensures begun { IfErr result (λ _. BeginsActing managed.now outlook step (W.seen outside.old) (W.seen outside.new)) }
     ensures child { IfOk result (λ life. KnowsChild life.hooks (W.seen outside.new)) }
     ensures moment { IfOk result (λ life. life.moment ≡ outlook.moment) }
     ensures stop { IfOk result (λ life. life.stop ≡ outlook.stop) }

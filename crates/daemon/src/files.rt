@@ -1,5 +1,5 @@
 //! The files that a life reads as it opens.
-ghost use Rattle.std.specs.Prelude.{◌≡◌, ◌++◌, Some, map, slice_get, IfOk, OnOk, option_map, option_to_list};
+ghost use Rattle.std.specs.Prelude.{◌≡◌, ◌++◌, Some, map, slice_get, IfOk, IfErr, OnOk, option_map, option_to_list};
 ghost use Rattle.std.specs.String.{string_bytes};
 ghost use Rattle.world.specs.FileNames.{IsFileName};
 ghost use Rattle.lease_file.specs.FileReads.{got_reading};
@@ -7,11 +7,12 @@ ghost use Rattle.settings.specs.Fitting.{AreManaged, FitsManaged};
 ghost use Rattle.client_model.specs.Fitting.{AreBeginnings, FitsBeginning};
 ghost use Rattle.iface_core.specs.Beginnings.{beginning_of};
 ghost use Rattle.device_calls.specs.Does.{Does};
+ghost use Rattle.device_calls.specs.Fronts.{HasBegun};
 ghost use Rattle.turn_model.specs.KeptFiles as model;
 ghost use Rattle.turn_model.specs.Loading as loading;
 ghost use Rattle.turn_model.specs.Loading.{known_by, file_with, reading_if};
 ghost use Rattle.daemon.specs.Files.{known_of, keeps_of};
-ghost use Rattle.daemon.specs.Loading.{LoadsOne, LoadsLeases, LoadsOwn, LoadsAll};
+ghost use Rattle.daemon.specs.Loading.{loading_own, LoadsOne, LoadsLeases, LoadsOwn, LoadsAll};
 
 use crate::duids::{duid_copied, host_duid, some_need_duid};
 use crate::keeping::{Keeps, KeptFile, Known};
@@ -38,6 +39,7 @@ fn read_if<W: Outside>(
 ) -> Result<Option<Got>, NoMemory>
     requires { IsFileName name.now }
     ensures does { IfOk result (λ got. Does (reading_if is_kept name.now) (option_map got_reading got) (W.seen outside.old) (W.seen outside.new) text.old.items text.new.items) }
+    ensures begun { IfErr result (λ _. HasBegun (reading_if is_kept name.now) (W.seen outside.old) (W.seen outside.new)) }
     ensures waiting { (W.seen outside.new).waiting ≡ (W.seen outside.old).waiting }
 {
     if !is_kept {
@@ -118,6 +120,7 @@ fn load_one<W: Outside>(
 ) -> Result<Loaded, NoMemory>
     requires { FitsManaged managed.now }
     ensures loads { IfOk result (λ one. LoadsOne managed.now duid.now.bytes.items one (W.seen outside.old) (W.seen outside.new) text.old.items text.new.items) }
+    ensures begun { IfErr result (λ _. HasBegun (loading.loading_one managed.now) (W.seen outside.old) (W.seen outside.new)) }
     ensures fit { IfOk result (λ one. FitsBeginning (beginning_of one.beginning)) }
     ensures waiting { (W.seen outside.new).waiting ≡ (W.seen outside.old).waiting }
 {
@@ -156,6 +159,7 @@ fn load_leases<W: Outside>(
     requires { AreManaged managed.now }
     ensures loads { IfOk result (λ found. LoadsLeases managed.now duid.now.bytes.items files.items (map beginning_of found.beginnings.items) found.files.items
         (W.seen outside.old) (W.seen outside.new) text.old.items text.new.items) }
+    ensures begun { IfErr result (λ _. HasBegun (loading.loading managed.now) (W.seen outside.old) (W.seen outside.new)) }
     ensures fit { IfOk result (λ found. AreBeginnings (map beginning_of found.beginnings.items)) }
     ensures waiting { (W.seen outside.new).waiting ≡ (W.seen outside.old).waiting }
 {
@@ -192,6 +196,7 @@ fn load_with<W: Outside>(
     requires managed { AreManaged managed.now }
     requires first { slice_get managed.now 0 ≡ Some first.now }
     ensures loads { IfOk result (λ found. LoadsOwn managed.now (map beginning_of found.beginnings.items) found.files.items (W.seen outside.old) (W.seen outside.new) text.old.items text.new.items) }
+    ensures begun { IfErr result (λ _. HasBegun (loading_own managed.now) (W.seen outside.old) (W.seen outside.new)) }
     ensures fit { IfOk result (λ found. AreBeginnings (map beginning_of found.beginnings.items)) }
     ensures waiting { (W.seen outside.new).waiting ≡ (W.seen outside.old).waiting }
 {
@@ -211,6 +216,7 @@ fn load_own<W: Outside>(
 ) -> Result<Found, NoMemory>
     requires { AreManaged managed.now }
     ensures loads { IfOk result (λ found. LoadsOwn managed.now (map beginning_of found.beginnings.items) found.files.items (W.seen outside.old) (W.seen outside.new) text.old.items text.new.items) }
+    ensures begun { IfErr result (λ _. HasBegun (loading_own managed.now) (W.seen outside.old) (W.seen outside.new)) }
     ensures fit { IfOk result (λ found. AreBeginnings (map beginning_of found.beginnings.items)) }
     ensures waiting { (W.seen outside.new).waiting ≡ (W.seen outside.old).waiting }
 {
@@ -240,6 +246,7 @@ pub fn load_all<W: Outside>(
 ) -> Result<Found, NoMemory>
     requires { AreManaged managed.now }
     ensures loads { IfOk result (λ found. LoadsAll managed.now (map beginning_of found.beginnings.items) found.files.items (W.seen outside.old) (W.seen outside.new) text.old.items text.new.items) }
+    ensures begun { IfErr result (λ _. HasBegun (loading.loading_files managed.now) (W.seen outside.old) (W.seen outside.new)) }
     ensures fit { IfOk result (λ found. AreBeginnings (map beginning_of found.beginnings.items)) }
     ensures waiting { (W.seen outside.new).waiting ≡ (W.seen outside.old).waiting }
 {

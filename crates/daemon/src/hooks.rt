@@ -1,5 +1,5 @@
 //! Hooks: the child that runs is polled, and jobs are put in line and started, one at a time.
-ghost use Rattle.std.specs.Prelude.{◌≡◌, ◌<◌, ◌^◌, true, false, bytes_eq, codes, find, map, Some, IfOk, OnOk, IsSome, option_map};
+ghost use Rattle.std.specs.Prelude.{◌≡◌, ◌<◌, ◌^◌, true, false, bytes_eq, codes, find, map, Some, IfOk, IfErr, OnOk, IsSome, option_map};
 ghost use Rattle.std.specs.Option.{option_copied};
 ghost use Rattle.std.specs.String.{string_bytes};
 ghost use Rattle.world.specs.HookCalls as calls;
@@ -11,6 +11,7 @@ ghost use Rattle.device_calls.specs.CallLines.{interface_of, variable_line, hook
 ghost use Rattle.device_calls.specs.Programs.{Then, Done};
 ghost use Rattle.device_calls.specs.Printing.{Prints};
 ghost use Rattle.device_calls.specs.Does.{Does};
+ghost use Rattle.device_calls.specs.Fronts.{HasBegun};
 ghost use Rattle.turn_model.specs.Hooking.{hooks_due, heard, polling, putting_one, putting, started, starting, hooking};
 ghost use Rattle.daemon.specs.Answered.{runs_on};
 ghost use Rattle.daemon.specs.Hooking.{Puts, is_abandon};
@@ -51,6 +52,7 @@ fn poll<W: Outside>(
 ) -> Result<Option<Poll>, NoMemory>
     requires { (W.seen outside.old).waiting.child ≡ true }
     ensures does { IfOk result (λ answer. Does (Then (asks.Poll number) Done) answer (W.seen outside.old) (W.seen outside.new) text.old.items text.new.items) }
+    ensures begun { IfErr result (λ _. HasBegun (Then (asks.Poll number) Done) (W.seen outside.old) (W.seen outside.new)) }
     ensures child { IfOk result (λ answer. (W.seen outside.new).waiting.child ≡ runs_on answer) }
     ensures waiting { OnlyChild (W.seen outside.old).waiting (W.seen outside.new).waiting }
 {
@@ -63,6 +65,7 @@ fn poll<W: Outside>(
 fn abandon<W: Outside>(outside: &mut W, number: u64, text: &mut Vec<u8>) -> Result<(), NoMemory>
     requires { (W.seen outside.old).waiting.child ≡ true }
     ensures does { IfOk result (λ x. Does (Then (Abandon number) Done) x (W.seen outside.old) (W.seen outside.new) text.old.items text.new.items) }
+    ensures begun { IfErr result (λ _. HasBegun (Then (Abandon number) Done) (W.seen outside.old) (W.seen outside.new)) }
     ensures child { (W.seen outside.new).waiting.child ≡ false }
     ensures waiting { OnlyChild (W.seen outside.old).waiting (W.seen outside.new).waiting }
 {
@@ -89,6 +92,7 @@ pub fn poll_child<W: Outside>(
 ) -> Result<(), NoMemory>
     requires { KnowsChild hooks.old (W.seen outside.old) }
     ensures does { OnOk result (Does (polling at hooks.old) hooks.new (W.seen outside.old) (W.seen outside.new) text.old.items text.new.items) }
+    ensures begun { IfErr result (λ _. HasBegun (polling at hooks.old) (W.seen outside.old) (W.seen outside.new)) }
     ensures child { OnOk result (KnowsChild hooks.new (W.seen outside.new)) }
     ensures waiting { OnlyChild (W.seen outside.old).waiting (W.seen outside.new).waiting }
 {
@@ -120,6 +124,7 @@ fn poll_running<W: Outside>(
     requires number { Some number ≡ option_map (λ child. child.number) hooks.old.child }
     requires child { (W.seen outside.old).waiting.child ≡ true }
     ensures does { OnOk result (Does (polling at hooks.old) hooks.new (W.seen outside.old) (W.seen outside.new) text.old.items text.new.items) }
+    ensures begun { IfErr result (λ _. HasBegun (polling at hooks.old) (W.seen outside.old) (W.seen outside.new)) }
     ensures child { OnOk result (KnowsChild hooks.new (W.seen outside.new)) }
     ensures waiting { OnlyChild (W.seen outside.old).waiting (W.seen outside.new).waiting }
 {
@@ -236,6 +241,7 @@ fn say_started(job: &HookJob, done: bool, text: &mut Vec<u8>) -> Result<(), NoMe
 fn start<W: Outside>(outside: &mut W, job: &HookJob, text: &mut Vec<u8>) -> Result<bool, NoMemory>
     requires { (W.seen outside.old).waiting.child ≡ false }
     ensures does { IfOk result (λ done. Does (Then (Start (job_of job.now)) Done) done (W.seen outside.old) (W.seen outside.new) text.old.items text.new.items) }
+    ensures begun { IfErr result (λ _. HasBegun (Then (Start (job_of job.now)) Done) (W.seen outside.old) (W.seen outside.new)) }
     ensures child { IfOk result (λ done. (W.seen outside.new).waiting.child ≡ done) }
     ensures waiting { OnlyChild (W.seen outside.old).waiting (W.seen outside.new).waiting }
 {
@@ -263,6 +269,7 @@ fn start_next<W: Outside>(
 ) -> Result<(), NoMemory>
     requires { KnowsChild hooks.old (W.seen outside.old) }
     ensures does { OnOk result (Does (starting (next_order hooks.old) (after_next at hooks.old)) hooks.new (W.seen outside.old) (W.seen outside.new) text.old.items text.new.items) }
+    ensures begun { IfErr result (λ _. HasBegun (starting (next_order hooks.old) (after_next at hooks.old)) (W.seen outside.old) (W.seen outside.new)) }
     ensures child { OnOk result (KnowsChild hooks.new (W.seen outside.new)) }
     ensures waiting { OnlyChild (W.seen outside.old).waiting (W.seen outside.new).waiting }
 {
@@ -288,6 +295,7 @@ pub fn hook_turn<W: Outside>(
 ) -> Result<(), NoMemory>
     requires { KnowsChild hooks.old (W.seen outside.old) }
     ensures does { OnOk result (Does (hooking at (map job_of jobs.items) hooks.old) hooks.new (W.seen outside.old) (W.seen outside.new) text.old.items text.new.items) }
+    ensures begun { IfErr result (λ _. HasBegun (hooking at (map job_of jobs.items) hooks.old) (W.seen outside.old) (W.seen outside.new)) }
     ensures child { OnOk result (KnowsChild hooks.new (W.seen outside.new)) }
     ensures waiting { OnlyChild (W.seen outside.old).waiting (W.seen outside.new).waiting }
 {

@@ -1,4 +1,4 @@
-ghost use Rattle.std.specs.Prelude.{◌≡◌, List, Option, Some, None, IfOk, IfSome, filter};
+ghost use Rattle.std.specs.Prelude.{◌≡◌, List, Option, Some, None, IfOk, IfErr, IfSome, filter};
 ghost use Rattle.std.specs.List.{AllByRecursion};
 ghost use Rattle.world.specs.declared.rows.HostRow.{HostRow};
 ghost use Rattle.world.specs.RowOrder.{in_row_order};
@@ -8,9 +8,10 @@ ghost use Rattle.host_model.specs.HostTable.{InRowOrder};
 ghost use Rattle.device_calls.specs.Calls.{ListRows, Change};
 ghost use Rattle.device_calls.specs.Programs.{Then, Done};
 ghost use Rattle.device_calls.specs.Does.{Does};
+ghost use Rattle.device_calls.specs.Fronts.{HasBegun};
 ghost use Rattle.turn_model.specs.Turns.{hosting};
 ghost use Rattle.daemon.specs.Answered.{rows_in, rows_listed, FitsChange};
-ghost use Rattle.daemon.specs.Tables.{known_in, MakesChanges, WasKnown, Updates, Hosts};
+ghost use Rattle.daemon.specs.Tables.{known_in, MakesChanges, BeginsChanges, WasKnown, Updates, BeginsUpdate, Hosts, BeginsHosts};
 
 use crate::changes::{changes_by, diff_between};
 use crate::outside::Outside;
@@ -81,6 +82,7 @@ fn list<W: Outside>(
     text: &mut Vec<u8>,
 ) -> Result<Option<Vec<HostRow>>, NoMemory>
     ensures does { IfOk result (λ rows. Does (Then ListRows Done) (rows_in rows) (W.seen outside.old) (W.seen outside.new) text.old.items text.new.items) }
+    ensures begun { IfErr result (λ _. HasBegun (Then ListRows Done) (W.seen outside.old) (W.seen outside.new)) }
     ensures in_order { IfOk result (λ rows. IfSome (rows_in rows) InRowOrder) }
     ensures waiting { (W.seen outside.new).waiting ≡ (W.seen outside.old).waiting }
 {
@@ -97,6 +99,7 @@ fn change<W: Outside>(
 ) -> Result<bool, NoMemory>
     requires { FitsChange change }
     ensures does { IfOk result (λ done. Does (Then (Change change) Done) done (W.seen outside.old) (W.seen outside.new) text.old.items text.new.items) }
+    ensures begun { IfErr result (λ _. HasBegun (Then (Change change) Done) (W.seen outside.old) (W.seen outside.new)) }
     ensures waiting { (W.seen outside.new).waiting ≡ (W.seen outside.old).waiting }
 {
     let done = outside.change(change)?;
@@ -112,6 +115,7 @@ fn make_changes<W: Outside>(
 ) -> Result<Table, NoMemory>
     requires { AllByRecursion FitsChange changes.now }
     ensures does { IfOk result (λ table. MakesChanges changes.now table (W.seen outside.old) (W.seen outside.new) text.old.items text.new.items) }
+    ensures begun { IfErr result (λ _. BeginsChanges changes.now (W.seen outside.old) (W.seen outside.new)) }
     ensures waiting { (W.seen outside.new).waiting ≡ (W.seen outside.old).waiting }
 {
     let mut table = Table::AsWanted;
@@ -131,6 +135,7 @@ fn update<W: Outside>(
 ) -> Result<Table, NoMemory>
     requires { AllByRecursion IsRow diff.now.come.items }
     ensures does { IfOk result (λ table. Updates diff.now table (W.seen outside.old) (W.seen outside.new) text.old.items text.new.items) }
+    ensures begun { IfErr result (λ _. BeginsUpdate diff.now (W.seen outside.old) (W.seen outside.new)) }
     ensures waiting { (W.seen outside.new).waiting ≡ (W.seen outside.old).waiting }
 {
     let changes = changes_by(alloc, diff)?;
@@ -148,6 +153,7 @@ fn look_again<W: Outside>(
     requires rows { AllByRecursion IsRow wanted.now }
     requires in_order { InRowOrder wanted.now }
     ensures does { IfOk result (λ table. Does (hosting managed.now wanted.now None) (known_in table wanted.now) (W.seen outside.old) (W.seen outside.new) text.old.items text.new.items) }
+    ensures begun { IfErr result (λ _. HasBegun (hosting managed.now wanted.now None) (W.seen outside.old) (W.seen outside.new)) }
     ensures waiting { (W.seen outside.new).waiting ≡ (W.seen outside.old).waiting }
 {
     match list(alloc, outside, text)? {
@@ -173,6 +179,7 @@ pub fn host_turn<W: Outside>(
     requires in_order { InRowOrder wanted.now }
     requires known { (known : Option (List HostRow)) × WasKnown pending wanted.now known }
     ensures does { IfOk result (λ table. Hosts managed.now pending wanted.now table (W.seen outside.old) (W.seen outside.new) text.old.items text.new.items) }
+    ensures begun { IfErr result (λ _. BeginsHosts managed.now pending wanted.now (W.seen outside.old) (W.seen outside.new)) }
     ensures waiting { (W.seen outside.new).waiting ≡ (W.seen outside.old).waiting }
 {
     match pending {

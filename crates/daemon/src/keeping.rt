@@ -1,5 +1,5 @@
 //! The files that a life keeps: what is known of each, and how it is brought to what it is to hold.
-ghost use Rattle.std.specs.Prelude.{◌≡◌, ◌||◌, false, length, IfOk, OnOk, Some, None, option_map};
+ghost use Rattle.std.specs.Prelude.{◌≡◌, ◌||◌, false, length, IfOk, IfErr, OnOk, Some, None, option_map};
 ghost use Rattle.std.specs.List.{AllByRecursion};
 ghost use Rattle.std.specs.String.{string_bytes};
 ghost use Rattle.world.specs.FileNames.{IsFileName};
@@ -10,9 +10,10 @@ ghost use Rattle.lease6_text.specs.LeaseLines.{lease6_text};
 ghost use Rattle.client_model.specs.ResolverParts.{resolver_wanted};
 ghost use Rattle.client_core.specs.Touched.{is_touched};
 ghost use Rattle.device_calls.specs.Does.{Does};
+ghost use Rattle.device_calls.specs.Fronts.{HasBegun};
 ghost use Rattle.turn_model.specs.KeptFiles.{wanted_in, same_content, is_left, is_settled, bringing, known_after, keeping, is_unknown};
 ghost use Rattle.daemon.specs.Files.{content_of, known_of, keeps_of};
-ghost use Rattle.daemon.specs.Keeping.{has_resolver, is_all, is_among, is_nothing, may_differ, IsKept, AreKept, AreKeptBut, KeepsFile};
+ghost use Rattle.daemon.specs.Keeping.{has_resolver, is_all, is_among, is_nothing, may_differ, IsKept, AreKept, AreKeptBut, KeepsFile, BeginsFile};
 
 use crate::outside::Outside;
 use crate::stores::{remove, rename, settle, sync, write};
@@ -238,6 +239,7 @@ fn save<'a, W: Outside>(
 ) -> Result<bool, NoMemory>
     requires { IsFileName name.now }
     ensures does { IfOk result (λ done. Does (bringing name.now (Some bytes.now)) done (W.seen outside.old) (W.seen outside.new) text.old.items text.new.items) }
+    ensures begun { IfErr result (λ _. HasBegun (bringing name.now (Some bytes.now)) (W.seen outside.old) (W.seen outside.new)) }
     ensures waiting { (W.seen outside.new).waiting ≡ (W.seen outside.old).waiting }
 {
     let written = write(outside, name, bytes, text)?;
@@ -259,6 +261,7 @@ fn save<'a, W: Outside>(
 fn discard<W: Outside>(outside: &mut W, name: &str, text: &mut Vec<u8>) -> Result<bool, NoMemory>
     requires { IsFileName name.now }
     ensures does { IfOk result (λ done. Does (bringing name.now None) done (W.seen outside.old) (W.seen outside.new) text.old.items text.new.items) }
+    ensures begun { IfErr result (λ _. HasBegun (bringing name.now None) (W.seen outside.old) (W.seen outside.new)) }
     ensures waiting { (W.seen outside.new).waiting ≡ (W.seen outside.old).waiting }
 {
     let removed = remove(outside, name, text)?;
@@ -277,6 +280,7 @@ fn bring<'a, W: Outside>(
 ) -> Result<bool, NoMemory>
     requires { IsFileName name.now }
     ensures does { IfOk result (λ done. Does (bringing name.now (content_of wanted.now)) done (W.seen outside.old) (W.seen outside.new) text.old.items text.new.items) }
+    ensures begun { IfErr result (λ _. HasBegun (bringing name.now (content_of wanted.now)) (W.seen outside.old) (W.seen outside.new)) }
     ensures waiting { (W.seen outside.new).waiting ≡ (W.seen outside.old).waiting }
 {
     match wanted {
@@ -320,6 +324,7 @@ impl KeptFile {
         text: &mut Vec<u8>,
     ) -> Result<(), NoMemory>
         ensures does { OnOk result (KeepsFile core.now.ifaces self.old self.new (W.seen outside.old) (W.seen outside.new) text.old.items text.new.items) }
+        ensures begun { IfErr result (λ _. BeginsFile core.now.ifaces self.old (W.seen outside.old) (W.seen outside.new)) }
         ensures waiting { (W.seen outside.new).waiting ≡ (W.seen outside.old).waiting }
     {
         let wanted = wanted_in(alloc, core, &self.keeps)?;
@@ -343,6 +348,7 @@ fn keep_one<W: Outside>(
 ) -> Result<(), NoMemory>
     requires { may_differ file.old.keeps touched ≡ false → IsKept core.now.ifaces file.old }
     ensures does { OnOk result (KeepsFile core.now.ifaces file.old file.new (W.seen outside.old) (W.seen outside.new) text.old.items text.new.items) }
+    ensures begun { IfErr result (λ _. BeginsFile core.now.ifaces file.old (W.seen outside.old) (W.seen outside.new)) }
     ensures waiting { (W.seen outside.new).waiting ≡ (W.seen outside.old).waiting }
 {
     if !file.is_due(touched) {
@@ -362,6 +368,7 @@ fn keep_each<W: Outside>(
 ) -> Result<(), NoMemory>
     requires { AreKeptBut touched core.now.ifaces files.old }
     ensures does { OnOk result (Does (keeping core.now.ifaces files.old) files.new (W.seen outside.old) (W.seen outside.new) text.old.items text.new.items) }
+    ensures begun { IfErr result (λ _. HasBegun (keeping core.now.ifaces files.old) (W.seen outside.old) (W.seen outside.new)) }
     ensures waiting { (W.seen outside.new).waiting ≡ (W.seen outside.old).waiting }
     ensures kept { OnOk result (AreKept core.now.ifaces files.new) }
     ensures count { OnOk result (length files.new ≡ length files.old) }
@@ -383,6 +390,7 @@ pub fn keep_all<W: Outside>(
 ) -> Result<Vec<KeptFile>, NoMemory>
     requires { AreKeptBut touched core.now.ifaces files.items }
     ensures does { IfOk result (λ kept. Does (keeping core.now.ifaces files.items) kept.items (W.seen outside.old) (W.seen outside.new) text.old.items text.new.items) }
+    ensures begun { IfErr result (λ _. HasBegun (keeping core.now.ifaces files.items) (W.seen outside.old) (W.seen outside.new)) }
     ensures waiting { (W.seen outside.new).waiting ≡ (W.seen outside.old).waiting }
     ensures kept { IfOk result (λ kept. AreKept core.now.ifaces kept.items) }
 {

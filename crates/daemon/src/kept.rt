@@ -1,7 +1,8 @@
 //! The files that a life keeps, all together.
-ghost use Rattle.std.specs.Prelude.{◌≡◌, IfOk};
+ghost use Rattle.std.specs.Prelude.{◌≡◌, IfOk, IfErr};
 ghost use Rattle.std.specs.List.{list_any};
 ghost use Rattle.device_calls.specs.Does.{Does};
+ghost use Rattle.device_calls.specs.Fronts.{HasBegun};
 ghost use Rattle.turn_model.specs.KeptFiles.{keeping, is_unknown};
 ghost use Rattle.daemon.specs.Files.{is_partial};
 ghost use Rattle.daemon.specs.Keeping.{AreKept, AreKeptBut};
@@ -90,6 +91,7 @@ pub fn keep_files<W: Outside>(
 ) -> Result<KeptFiles, NoMemory>
     requires { AreKeptBut touched core.now.ifaces files }
     ensures does { IfOk result (λ kept. Does (keeping core.now.ifaces files) kept (W.seen outside.old) (W.seen outside.new) text.old.items text.new.items) }
+    ensures begun { IfErr result (λ _. HasBegun (keeping core.now.ifaces files) (W.seen outside.old) (W.seen outside.new)) }
     ensures waiting { (W.seen outside.new).waiting ≡ (W.seen outside.old).waiting }
     ensures kept { IfOk result (λ kept. AreKept core.now.ifaces kept) }
 {

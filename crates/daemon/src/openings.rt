@@ -1,12 +1,13 @@
 //! The opening of a life.
-ghost use Rattle.std.specs.Prelude.{◌≡◌, Some, false, IfOk, map};
+ghost use Rattle.std.specs.Prelude.{◌≡◌, Some, false, IfOk, IfErr, map};
 ghost use Rattle.std.specs.List.{AllByRecursion};
 ghost use Rattle.std.specs.String.{string_bytes};
 ghost use Rattle.world.specs.FileNames.{IsFileName};
 ghost use Rattle.settings.specs.Fitting.{AreManaged};
 ghost use Rattle.device_calls.specs.Does.{Does};
+ghost use Rattle.device_calls.specs.Fronts.{HasBegun};
 ghost use Rattle.turn_model.specs.Turns.{is_over};
-ghost use Rattle.turn_model.specs.Opening.{clearing_listed, clearing};
+ghost use Rattle.turn_model.specs.Opening.{clearing_listed, clearing, opening_asks};
 ghost use Rattle.daemon.specs.Lives.{life_of, IsOrderly};
 ghost use Rattle.daemon.specs.Serving.{MakesOpening};
 ghost use Rattle.daemon.specs.Waits.{KnowsChild, OnlyChild};
@@ -36,6 +37,7 @@ fn remove_all<W: Outside>(
 ) -> Result<(), NoMemory>
     requires { AllByRecursion (λ name. IsFileName (string_bytes name)) names.now }
     ensures does { IfOk result (λ x. Does (clearing_listed (Some (map string_bytes names.now))) x (W.seen outside.old) (W.seen outside.new) text.old.items text.new.items) }
+    ensures begun { IfErr result (λ _. HasBegun (clearing_listed (Some (map string_bytes names.now))) (W.seen outside.old) (W.seen outside.new)) }
     ensures waiting { (W.seen outside.new).waiting ≡ (W.seen outside.old).waiting }
 {
     if names.is_empty() {
@@ -51,6 +53,7 @@ fn remove_all<W: Outside>(
 /// Clears the files that an interrupted save left.
 fn clear<W: Outside>(alloc: Global, outside: &mut W, text: &mut Vec<u8>) -> Result<(), NoMemory>
     ensures does { IfOk result (λ x. Does clearing x (W.seen outside.old) (W.seen outside.new) text.old.items text.new.items) }
+    ensures begun { IfErr result (λ _. HasBegun clearing (W.seen outside.old) (W.seen outside.new)) }
     ensures waiting { (W.seen outside.new).waiting ≡ (W.seen outside.old).waiting }
 {
     match list(alloc, outside, text)? {
@@ -76,6 +79,7 @@ pub fn open<W: Outside>(
     ensures orderly { IfOk result IsOrderly }
     ensures going { IfOk result (λ life. is_over (life_of life) ≡ false) }
     ensures made { IfOk result (λ life. MakesOpening managed.now specs.now begin (life_of life) (W.seen outside.old) (W.seen outside.new) text.old.items text.new.items) }
+    ensures begun { IfErr result (λ _. HasBegun (opening_asks managed.now specs.now begin) (W.seen outside.old) (W.seen outside.new)) }
 {
     say(&TranscriptLine::Start(begin), text)?;
     clear(alloc, outside, text)?;

@@ -1,4 +1,4 @@
-ghost use Rattle.std.specs.Prelude.{◌≡◌, IfOk, map};
+ghost use Rattle.std.specs.Prelude.{◌≡◌, IfOk, IfErr, map};
 ghost use Rattle.std.specs.List.{AllByRecursion};
 ghost use Rattle.world.specs.Rows.{IsInterface};
 ghost use Rattle.iface_core.specs.Outcomes.{sending_of};
@@ -6,6 +6,7 @@ ghost use Rattle.client_core.specs.Stepping.{IsOnInterface};
 ghost use Rattle.device_calls.specs.Calls.{Offer};
 ghost use Rattle.device_calls.specs.Programs.{Then, Done};
 ghost use Rattle.device_calls.specs.Does.{Does};
+ghost use Rattle.device_calls.specs.Fronts.{HasBegun};
 ghost use Rattle.turn_model.specs.Turns.{marked, offering};
 
 use crate::outside::Outside;
@@ -34,6 +35,7 @@ fn offer<W: Outside>(
     text: &mut Vec<u8>,
 ) -> Result<bool, NoMemory>
     ensures does { IfOk result (λ taken. Does (Then (Offer sending.now.iface.number sending.now.bytes.items) Done) taken (W.seen outside.old) (W.seen outside.new) text.old.items text.new.items) }
+    ensures begun { IfErr result (λ _. HasBegun (Then (Offer sending.now.iface.number sending.now.bytes.items) Done) (W.seen outside.old) (W.seen outside.new)) }
     ensures waiting { (W.seen outside.new).waiting ≡ (W.seen outside.old).waiting }
 {
     let taken = outside.offer(sending.iface, &sending.bytes)?;
@@ -56,6 +58,7 @@ pub fn offer_all<W: Outside>(
 ) -> Result<u64, NoMemory>
     requires { AllByRecursion IsOnInterface (map sending_of sends.now) }
     ensures does { IfOk result (λ set. Does (offering (map sending_of sends.now) unsent) set (W.seen outside.old) (W.seen outside.new) text.old.items text.new.items) }
+    ensures begun { IfErr result (λ _. HasBegun (offering (map sending_of sends.now) unsent) (W.seen outside.old) (W.seen outside.new)) }
     ensures waiting { (W.seen outside.new).waiting ≡ (W.seen outside.old).waiting }
 {
     match sends {

@@ -1,5 +1,5 @@
 //! The calls of the store, each with its line in the transcript.
-ghost use Rattle.std.specs.Prelude.{◌≡◌, [], ◌∷◌, IfOk, OnOk, IfSome};
+ghost use Rattle.std.specs.Prelude.{◌≡◌, [], ◌∷◌, IfOk, IfErr, OnOk, IfSome};
 ghost use Rattle.std.specs.List.{AllByRecursion};
 ghost use Rattle.std.specs.String.{string_bytes};
 ghost use Rattle.world.specs.FileNames.{IsFileName};
@@ -12,6 +12,7 @@ ghost use Rattle.device_calls.specs.CallLines.{store_lines};
 ghost use Rattle.device_calls.specs.Programs.{Then, Done};
 ghost use Rattle.device_calls.specs.Printing.{Prints};
 ghost use Rattle.device_calls.specs.Does.{Does};
+ghost use Rattle.device_calls.specs.Fronts.{HasBegun};
 ghost use Rattle.daemon.specs.Answered.{names_of};
 
 use crate::outside::Outside;
@@ -37,6 +38,7 @@ pub fn list<W: Outside>(
     text: &mut Vec<u8>,
 ) -> Result<Option<Vec<String>>, NoMemory>
     ensures does { IfOk result (λ names. Does (Then ListAsides Done) (names_of names) (W.seen outside.old) (W.seen outside.new) text.old.items text.new.items) }
+    ensures begun { IfErr result (λ _. HasBegun (Then ListAsides Done) (W.seen outside.old) (W.seen outside.new)) }
     ensures fit { IfOk result (λ names. IfSome names (λ v. AllByRecursion (λ name. IsFileName (string_bytes name)) v.items)) }
     ensures waiting { (W.seen outside.new).waiting ≡ (W.seen outside.old).waiting }
 {
@@ -49,6 +51,7 @@ pub fn list<W: Outside>(
 pub fn remove<W: Outside>(outside: &mut W, name: &str, text: &mut Vec<u8>) -> Result<bool, NoMemory>
     requires { IsFileName name.now }
     ensures does { IfOk result (λ done. Does (Then (RemoveFile name.now) Done) done (W.seen outside.old) (W.seen outside.new) text.old.items text.new.items) }
+    ensures begun { IfErr result (λ _. HasBegun (Then (RemoveFile name.now) Done) (W.seen outside.old) (W.seen outside.new)) }
     ensures waiting { (W.seen outside.new).waiting ≡ (W.seen outside.old).waiting }
 {
     let done = outside.remove(name)?;
@@ -59,6 +62,7 @@ pub fn remove<W: Outside>(outside: &mut W, name: &str, text: &mut Vec<u8>) -> Re
 /// Settles what was put in place or removed.
 pub fn settle<W: Outside>(outside: &mut W, text: &mut Vec<u8>) -> Result<bool, NoMemory>
     ensures does { IfOk result (λ done. Does (Then Settle Done) done (W.seen outside.old) (W.seen outside.new) text.old.items text.new.items) }
+    ensures begun { IfErr result (λ _. HasBegun (Then Settle Done) (W.seen outside.old) (W.seen outside.new)) }
     ensures waiting { (W.seen outside.new).waiting ≡ (W.seen outside.old).waiting }
 {
     let done = outside.settle()?;
@@ -93,6 +97,7 @@ pub fn read<W: Outside>(
 ) -> Result<Got, NoMemory>
     requires { IsFileName name.now }
     ensures does { IfOk result (λ got. Does (Then (Read name.now) Done) (got_reading got) (W.seen outside.old) (W.seen outside.new) text.old.items text.new.items) }
+    ensures begun { IfErr result (λ _. HasBegun (Then (Read name.now) Done) (W.seen outside.old) (W.seen outside.new)) }
     ensures waiting { (W.seen outside.new).waiting ≡ (W.seen outside.old).waiting }
 {
     let got = outside.read(alloc, name)?;
@@ -109,6 +114,7 @@ pub fn write<'a, W: Outside>(
 ) -> Result<bool, NoMemory>
     requires { IsFileName name.now }
     ensures does { IfOk result (λ done. Does (Then (WriteAside name.now bytes.now) Done) done (W.seen outside.old) (W.seen outside.new) text.old.items text.new.items) }
+    ensures begun { IfErr result (λ _. HasBegun (Then (WriteAside name.now bytes.now) Done) (W.seen outside.old) (W.seen outside.new)) }
     ensures waiting { (W.seen outside.new).waiting ≡ (W.seen outside.old).waiting }
 {
     let done = outside.write_aside(name, bytes)?;
@@ -120,6 +126,7 @@ pub fn write<'a, W: Outside>(
 pub fn sync<W: Outside>(outside: &mut W, name: &str, text: &mut Vec<u8>) -> Result<bool, NoMemory>
     requires { IsFileName name.now }
     ensures does { IfOk result (λ done. Does (Then (SyncAside name.now) Done) done (W.seen outside.old) (W.seen outside.new) text.old.items text.new.items) }
+    ensures begun { IfErr result (λ _. HasBegun (Then (SyncAside name.now) Done) (W.seen outside.old) (W.seen outside.new)) }
     ensures waiting { (W.seen outside.new).waiting ≡ (W.seen outside.old).waiting }
 {
     let done = outside.sync_aside(name)?;
@@ -131,6 +138,7 @@ pub fn sync<W: Outside>(outside: &mut W, name: &str, text: &mut Vec<u8>) -> Resu
 pub fn rename<W: Outside>(outside: &mut W, name: &str, text: &mut Vec<u8>) -> Result<bool, NoMemory>
     requires { IsFileName name.now }
     ensures does { IfOk result (λ done. Does (Then (RenameAside name.now) Done) done (W.seen outside.old) (W.seen outside.new) text.old.items text.new.items) }
+    ensures begun { IfErr result (λ _. HasBegun (Then (RenameAside name.now) Done) (W.seen outside.old) (W.seen outside.new)) }
     ensures waiting { (W.seen outside.new).waiting ≡ (W.seen outside.old).waiting }
 {
     let done = outside.rename_aside(name)?;

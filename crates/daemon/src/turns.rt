@@ -1,9 +1,10 @@
-ghost use Rattle.std.specs.Prelude.{◌≡◌, false, [], ◌∷◌, IfOk, OnOk, length};
+ghost use Rattle.std.specs.Prelude.{◌≡◌, false, [], ◌∷◌, IfOk, IfErr, OnOk, length};
 ghost use Rattle.world.specs.LinkCalls.{frame_len};
 ghost use Rattle.script_model.specs.Lines as lines;
 ghost use Rattle.iface_core.specs.Inputs.{event_of, bytes_of};
 ghost use Rattle.device_calls.specs.Printing.{Prints};
-ghost use Rattle.turn_model.specs.Turns.{is_end};
+ghost use Rattle.device_calls.specs.Fronts.{HasBegun};
+ghost use Rattle.turn_model.specs.Turns.{is_end, turn_asks};
 ghost use Rattle.daemon.specs.Lives.{life_of, IsOrderly};
 ghost use Rattle.daemon.specs.Serving.{MakesTurn};
 ghost use Rattle.daemon.specs.Waits.{KnowsChild, OnlyChild};
@@ -70,6 +71,7 @@ pub fn turn<W: Outside>(
     ensures child { IfOk result (λ next. KnowsChild next.hooks (W.seen outside.new)) }
     ensures orderly { IfOk result IsOrderly }
     ensures made { IfOk result (λ next. MakesTurn managed.now (life_of life) wake bytes.now (life_of next) (W.seen outside.old) (W.seen outside.new) text.old.items text.new.items) }
+    ensures begun { IfErr result (λ _. HasBegun (turn_asks managed.now (life_of life) wake bytes.now) (W.seen outside.old) (W.seen outside.new)) }
 {
     let Life {
         core,

@@ -32,7 +32,7 @@ pub fn write_all<O: Sink>(out: &mut O, bytes: &[u8]) -> Result<(), ServeEnd>
     }
 }
 
-#[tactic(auto, using(crate::proofs::Waitings::failed_wait_tells))]
+#[tactic(auto, using(crate::proofs::Waitings::failed_wait_tells, crate::proofs::Waitings::memory_wait_tells))]
 fn wait<W: Outside>(outside: &mut W, until: Option<u64>, buf: &mut [u8]) -> Result<Wake, ServeEnd>
     ensures room { IfOk result (λ wake. frame_len wake.event ≤ length buf.new) }
     ensures waits { IfOk result (λ wake. WaitsThere until (W.seen outside.old) (W.seen outside.new) buf.new (Ok wake)) }

@@ -97,7 +97,7 @@ module _ (managed : List Managed) (specs : List IfSpec) (failing : Failing) (bet
     stops_life ends.TurnsOver is cut = cut_later ends.TurnsOver cut
     stops_life ends.LinkFault is leaves = ⊎_elim (λ unbegun. untouched unbegun.0) (cut_later ends.LinkFault) leaves
     stops_life ends.WriteFault is leaves = ⊎_elim (cut_in_opening ends.WriteFault) (cut_later ends.WriteFault) leaves
-    stops_life ends.NoMemory is leaves = ⊎_elim untouched (λ later. ⊎_elim (cut_in_opening ends.NoMemory) (cut_later ends.NoMemory) later) leaves
+    stops_life ends.NoMemory is leaves = ⊎_elim (λ unwritten. untouched unwritten.0) (λ later. ⊎_elim (cut_in_opening ends.NoMemory) (cut_later ends.NoMemory) later) leaves
 
 -- a front may be the whole
 pub front_whole : (old new : Option (List ℕ)) (all : List Line) → WritesLines old new all → WritesFront old new [] all

@@ -2,6 +2,8 @@ use Rattle.std.proofs.Common.{ap, sym, ◌∙◌}
 use Rattle.world.specs.HookCalls.{job_of}
 use Rattle.hook_child.specs.Supervision.{order_of}
 use Rattle.daemon.proofs.Hookings.{starts_one, starts_no_more, abandons_none, none_ran, runs_now, child_started, child_stays}
+use Rattle.daemon.proofs.Begins.{on_err}
+use Rattle.daemon.proofs.BegunParts.{starts_begun}
 use Rattle.daemon.proofs.hooks.start_next.Goals as goal
 
 pub start-requires : goal.start-requires
@@ -32,3 +34,7 @@ returns-in-Abandon-clause-does g c = abandons_none c.args.hooks.now.child c.args
 
 pub returns-in-Abandon-clause-child : goal.returns-in-Abandon-clause-child
 returns-in-Abandon-clause-child g c = abandons_none c.args.hooks.now.child c.args.hooks.now.waiting (sym (ap order_of c.in-Abandon.is) ∙ c.next_job.ensures.order)
+
+pub returns-in_err-done-in-Start-clause-begun : goal.returns-in_err-done-in-Start-clause-begun
+returns-in_err-done-in-Start-clause-begun g c =
+    on_err c.from_residual.result (starts_begun c.args.hooks.now c.args.at (job_of c.in-Start.job) (order_of c.next_job.result) _ _ c.next_job.ensures.order (ap order_of c.in-Start.is) c.in_err-done-in-Start.ensures.begun)

@@ -3,6 +3,8 @@ use Rattle.device_calls.specs.Does.{Does}
 use Rattle.turn_model.specs.KeptFiles.{KeptFile, keeping}
 use Rattle.daemon.specs.Keeping.{AreKept, AreKeptBut}
 use Rattle.daemon.proofs.KeptFiles.{stays_in_place}
+use Rattle.device_calls.specs.Fronts.{HasBegun}
+use Rattle.daemon.proofs.Begins.{on_err}
 use Rattle.daemon.proofs.keeping.keep_all.Goals as goal
 
 pub keep_each-requires : goal.keep_each-requires
@@ -18,3 +20,8 @@ returns-clause-does g c =
 pub returns-clause-kept : goal.returns-clause-kept
 returns-clause-kept g c =
     subst (AreKept c.args.core.now.ifaces) (sym (stays_in_place c.args.files c.keep_each.new.files (c.in_ok-keep_each.ensures.count ∙ ap length c.deref_mut.ensures.value))) c.in_ok-keep_each.ensures.kept
+
+pub returns-in_err-keep_each-clause-begun : goal.returns-in_err-keep_each-clause-begun
+returns-in_err-keep_each-clause-begun g c =
+    on_err c.from_residual.result
+    (subst (λ (files : List KeptFile). HasBegun (keeping c.args.core.now.ifaces files) (g.W.Outside.seen c.args.outside.now) (g.W.Outside.seen c.keep_each.new.outside)) c.deref_mut.ensures.value c.in_err-keep_each.ensures.begun)

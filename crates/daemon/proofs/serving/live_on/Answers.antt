@@ -3,7 +3,7 @@ use Rattle.daemon.specs.Lives.{life_of}
 use Rattle.daemon.specs.Cuts.{Leaves}
 use Rattle.daemon.proofs.Causes.{error_is, error_was}
 use Rattle.daemon.proofs.CutOffs.{breaks_at_end}
-use Rattle.daemon.proofs.Whole.{serves, leaves_opening, leaves_life, leaves_unbegun, many_before}
+use Rattle.daemon.proofs.Whole.{serves, leaves_opening, leaves_life, leaves_unbegun, many_before, leaves_opened}
 use Rattle.daemon.proofs.serving.live_on.Goals as goal
 
 pub returns-clause-ok : goal.returns-clause-ok
@@ -45,3 +45,9 @@ returns-in_err-last-clause-many g c over =
     many_before c.args.managed.now c.args.specs.now c.in_ok-start.start (life_of c.in_ok-life.life) c.args.turns (g.W.Outside.seen c.args.outside.now) (g.W.Outside.seen c.begin.new.outside) (g.W.Outside.seen c.open.new.outside) c.new-text.result.items c.open.new.text.items
     c.in_ok-start.ensures.ok.1 c.in_ok-life.ensures.made
     (c.in_err-last.ensures.many (error_was c.from_residual-in_err-last.result c.in_err-last.field-0.0 ends.TurnsOver c.from_residual-in_err-last.ensures.1 over))
+
+pub returns-in_err-life-clause-cut : goal.returns-in_err-life-clause-cut
+returns-in_err-life-clause-cut g c =
+    error_is c.from_residual-in_err-life.result ends.NoMemory (λ end. Leaves end c.args.turns c.args.managed.now c.args.specs.now (g.W.Outside.seen c.args.outside.now) (g.W.Outside.seen c.open.new.outside) (g.O.Sink.written c.args.out.now) (g.O.Sink.written c.args.out.now)) c.from_residual-in_err-life.ensures.1
+    (leaves_opened c.args.turns c.args.managed.now c.args.specs.now c.in_ok-start.start (g.W.Outside.seen c.args.outside.now) (g.W.Outside.seen c.begin.new.outside) (g.W.Outside.seen c.open.new.outside) (g.O.Sink.written c.args.out.now)
+    c.in_ok-start.ensures.ok.1 c.in_err-life.ensures.begun)

@@ -2,6 +2,7 @@ use Rattle.std.proofs.Common.{refl, arith, ◌∙◌}
 use Rattle.daemon.specs.Lives.{life_of}
 use Rattle.daemon.specs.declared.serving.ServeEnd.TheVariants as ends
 use Rattle.daemon.specs.Cuts.{BreaksOff}
+use Rattle.device_calls.proofs.Doing.{tells_none}
 use Rattle.daemon.proofs.Causes.{error_is}
 use Rattle.daemon.proofs.CutOffs.{breaks_for_memory}
 use Rattle.daemon.proofs.Wakings.{takes_none, takes_more, takes_last, takes_breaks, takes_over}
@@ -48,7 +49,7 @@ returns-in-Over-clause-child g c =
 pub returns-in_err-buf-clause-cut : goal.returns-in_err-buf-clause-cut
 returns-in_err-buf-clause-cut g c =
     error_is c.from_residual.result ends.NoMemory (λ end. BreaksOff end c.args.turns c.args.managed.now (life_of c.args.life) (g.W.Outside.seen c.args.outside.now) (g.W.Outside.seen c.args.outside.now) (g.O.Sink.written c.args.out.now) (g.O.Sink.written c.args.out.now)) c.from_residual.ensures.1
-    (breaks_for_memory c.args.turns c.args.managed.now (life_of c.args.life) (g.W.Outside.seen c.args.outside.now) (g.W.Outside.seen c.args.outside.now) (g.O.Sink.written c.args.out.now))
+    (breaks_for_memory c.args.turns c.args.managed.now (life_of c.args.life) (g.W.Outside.seen c.args.outside.now) (g.W.Outside.seen c.args.outside.now) (g.O.Sink.written c.args.out.now) c.requires.going (tells_none (g.W.Outside.seen c.args.outside.now)))
 
 pub returns-in_err-last-clause-cut : goal.returns-in_err-last-clause-cut
 returns-in_err-last-clause-cut g c =

@@ -6,7 +6,7 @@ use Rattle.daemon.specs.Cuts.{BreaksOff}
 use Rattle.daemon.proofs.Causes.{error_is}
 use Rattle.daemon.proofs.Stretches.{goes_ends}
 use Rattle.daemon.proofs.OneTurn.{one_goes, wait_ends}
-use Rattle.daemon.proofs.CutOffs.{breaks_for_memory, breaks_at_wait, breaks_in_turn}
+use Rattle.daemon.proofs.CutOffs.{breaks_within_turn, breaks_at_wait, breaks_in_turn}
 use Rattle.daemon.proofs.waking.one_turn.Goals as goal
 
 pub returns-in_err-wake-clause-cut : goal.returns-in_err-wake-clause-cut
@@ -25,7 +25,10 @@ returns-then-ends_life-clause-ok g c = (
 pub returns-in_err-life-clause-cut : goal.returns-in_err-life-clause-cut
 returns-in_err-life-clause-cut g c =
     error_is c.from_residual-in_err-life.result ends.NoMemory (λ end. BreaksOff end 1 c.args.managed.now (life_of c.args.life) (g.W.Outside.seen c.args.outside.now) (g.W.Outside.seen c.turn.new.outside) (g.O.Sink.written c.args.out.now) (g.O.Sink.written c.args.out.now)) c.from_residual-in_err-life.ensures.1
-    (breaks_for_memory 1 c.args.managed.now (life_of c.args.life) (g.W.Outside.seen c.args.outside.now) (g.W.Outside.seen c.turn.new.outside) (g.O.Sink.written c.args.out.now))
+    (breaks_within_turn c.args.managed.now (life_of c.args.life) c.in_ok-wake.wake c.front.result.now c.wait.new.buf c.until.result
+    (g.W.Outside.seen c.args.outside.now) (g.W.Outside.seen c.wait.new.outside) (g.W.Outside.seen c.turn.new.outside) (g.O.Sink.written c.args.out.now)
+    c.requires.going (sym c.ends_life.ensures ∙ c.if-ends_life.false) (c.wait.auto.buf ∙ c.requires.room) (c.front.ensures ∙ ap (λ n. take n c.wait.new.buf) c.frame_size-len.ensures) c.in_ok-wake.ensures.waits c.until.ensures
+    c.in_err-life.ensures.begun)
 
 pub returns-in_err-write_all-clause-cut : goal.returns-in_err-write_all-clause-cut
 returns-in_err-write_all-clause-cut g c =
