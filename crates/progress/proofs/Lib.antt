@@ -1,5 +1,7 @@
+mod Addresses
 mod Gaining
 mod Instance
 mod Interface
+mod Reaching
 mod Staying
 mod Turns

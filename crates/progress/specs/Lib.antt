@@ -1,3 +1,5 @@
+pub mod AddressesReach
+pub mod FilesReach
 pub mod GoingWell
 pub mod InterfaceHeld
 pub mod LocalHeld
