@@ -1,5 +1,5 @@
 -- That the addresses which are held reach the host, where no call of it fails.
-use Rattle.std.specs.Prelude.{◌≡◌, true, List, IfSome}
+use Rattle.std.specs.Prelude.{◌≡◌, true, List, [], IfSome}
 use Rattle.std.specs.List.{AllByRecursion}
 use Rattle.net_types.specs.declared.address.Net.{Net}
 use Rattle.net_types.specs.declared.address.Net.TheVariants.{V4, V6}
@@ -57,3 +57,9 @@ TurnsReachHost = (managed : List Managed) (specs : List IfSpec) (world : World) 
     → let before = life_run managed specs world earlier in
     let after = running_turned managed before given in
     NoneFails managed world.host.failing (rows_of after.life.client) (table_of before) → AllAreThere after
+
+-- So over a host of which no call fails they are there after the opening and after every turn.
+abbrev pub AlwaysReachesHost : Type 0
+AlwaysReachesHost = (managed : List Managed) (specs : List IfSpec) (world : World) (turns : List Given)
+    → SharesAreManaged managed → InRowOrder world.host.told.rows → world.host.failing ≡ []
+    → AllAreThere (life_run managed specs world turns)
