@@ -139,8 +139,8 @@ found4 [] apart = tt
 found4 (iface ∷ others) apart = (
   when_true (nat_eq (index_of iface) (index_of iface)) iface.dhcp4.kept (kept_lease (index_of iface) others) (itself (index_of iface)),
   all_both (Differs iface) (Found4 others) (Found4 (iface ∷ others))
-  (λ other differs found. when_false (nat_eq (index_of iface) (index_of other)) iface.dhcp4.kept (kept_lease (index_of other) others) differs ∙ found)
-  others (differ iface others apart.0) (found4 others apart.1),
+      (λ other differs found. when_false (nat_eq (index_of iface) (index_of other)) iface.dhcp4.kept (kept_lease (index_of other) others) differs ∙ found)
+      others (differ iface others apart.0) (found4 others apart.1),
 )
 
 found6 : (ifaces : List Iface) → AreNumberedApart (managed_in ifaces) → AllByRecursion (Found6 ifaces) ifaces
@@ -149,8 +149,8 @@ found6 [] apart = tt
 found6 (iface ∷ others) apart = (
   when_true (nat_eq (index_of iface) (index_of iface)) iface.dhcp6.kept (kept_lease6 (index_of iface) others) (itself (index_of iface)),
   all_both (Differs iface) (Found6 others) (Found6 (iface ∷ others))
-  (λ other differs found. when_false (nat_eq (index_of iface) (index_of other)) iface.dhcp6.kept (kept_lease6 (index_of other) others) differs ∙ found)
-  others (differ iface others apart.0) (found6 others apart.1),
+      (λ other differs found. when_false (nat_eq (index_of iface) (index_of other)) iface.dhcp6.kept (kept_lease6 (index_of other) others) differs ∙ found)
+      others (differ iface others apart.0) (found6 others apart.1),
 )
 
 -- ---- the interfaces of a life are those that are managed
