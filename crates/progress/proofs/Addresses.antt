@@ -29,8 +29,8 @@ use Rattle.settings.specs.declared.outlet.Outlet.{Outlet}
 use Rattle.host_model.specs.Precedence.{outranks, is_kept}
 use Rattle.host_model.proofs.HostTableRows.{has_filter}
 use Rattle.client_model.specs.declared.interfaces.Iface.{Iface}
-use Rattle.client_model.specs.WantedRows.{outlet_of, address_rows, network_routes, network6_routes, router_routes, static_rows, static6_rows, classless_in, router_for, lease_routes, lease_rows, local_net, local_rows, shares_of, item_rows, ia_rows, lease6_rows, is_in_force, iface_rows, wanted_rows}
-use Rattle.progress.specs.AddressesReach.{AddressesAreThere, GrantedAreThere}
+use Rattle.client_model.specs.WantedRows.{outlet_of, network_routes, network6_routes, router_routes, static_rows, static6_rows, classless_in, router_for, lease_routes, lease_rows, local_net, local_rows, shares_of, item_rows, ia_rows, lease6_rows, is_in_force, iface_rows, wanted_rows}
+use Rattle.progress.specs.AddressesReach.{AddressesAreThere}
 
 -- ---- rows among rows
 

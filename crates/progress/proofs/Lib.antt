@@ -1,4 +1,5 @@
 mod Addresses
+mod Filing
 mod Gaining
 mod Instance
 mod Interface

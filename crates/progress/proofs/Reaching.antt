@@ -1,40 +1,28 @@
--- What is held reaches the host, and what is kept its file.
-use Rattle.std.proofs.Common.{◌≡◌, ◌⊎◌, inl, inr, ℕ, Bool, true, false, ◌&&◌, List, [], ◌∷◌, ◌++◌, map, Option, Some, None, refl, sym, ap, subst, ◌∙◌}
-use Rattle.std.specs.Prelude.{flat_map, IfSome, option_map}
-use Rattle.std.specs.List.{AllByRecursion}
+-- What is held reaches the host.
+use Rattle.std.proofs.Common.{◌≡◌, ℕ, ◌≤◌, Bool, true, false, ◌&&◌, List, [], ◌∷◌, ◌++◌, length, refl, sym, subst, ◌∙◌}
+use Rattle.std.specs.Prelude.{flat_map}
 use Rattle.std.proofs.lemmas.Bool.{false≢true}
-use Rattle.net_types.specs.declared.address.Net.{Net}
-use Rattle.net_types.specs.declared.interface.IfIndex.{IfIndex}
+use Rattle.std.proofs.lemmas.List.Elements.{All-nil}
+use Rattle.net_types.specs.declared.interface.IfSpec.{IfSpec}
 use Rattle.net_types.proofs.AllLaws.{all_map}
-use Rattle.lease_text.specs.Leases.{LeaseContent}
-use Rattle.lease_text.specs.LeaseLines.{lease4_text}
-use Rattle.lease6_text.specs.Leases.{Lease6Content}
-use Rattle.lease6_text.specs.LeaseLines.{lease6_text}
 use Rattle.world.specs.declared.rows.HostRow.{HostRow}
 use Rattle.world.specs.declared.rows.HostRow.TheVariants.{Addr}
-use Rattle.world.specs.FileLists.{StoreFile, file_at}
+use Rattle.world.specs.HostCalls.{HostTold}
+use Rattle.world.specs.LinkCalls.{Given}
 use Rattle.world.specs.RowOrder.{has_row}
 use Rattle.settings.specs.declared.interfaces.Managed.{Managed}
-use Rattle.settings.specs.ManagedRows.{is_managed}
-use Rattle.host_model.specs.HostTable.{Holds}
+use Rattle.settings.specs.ManagedRows.{SharesAreManaged, is_managed}
+use Rattle.host_model.specs.HostTable.{AllPast, Holds, InRowOrder, unknown_table}
 use Rattle.host_model.proofs.HostTableRows.{has_filter}
+use Rattle.host_model.proofs.HostTableTurns.{none_fails}
 use Rattle.client_model.specs.declared.interfaces.Iface.{Iface}
-use Rattle.client_model.specs.Clients.{kept_lease, kept_lease6, rows_of}
-use Rattle.client_model.specs.ClientSettings.{runs_dhcp4}
-use Rattle.client_model.specs.ClientSettings6.{runs_dhcp6, some_need_duid}
+use Rattle.client_model.specs.Clients.{rows_of}
 use Rattle.client_model.specs.WantedRows.{iface_rows}
-use Rattle.device_calls.specs.Calls.{Call}
-use Rattle.turn_model.specs.KeptFiles.{Keeps, Duid, Lease4, Lease6, Resolver, KeptFile, wanted_in, is_left}
-use Rattle.turn_model.specs.Loading.{duid_file, lease4_file, lease6_file, resolver_file}
-use Rattle.turn_model.specs.FilesInLife.{Filed, filed_as, filed_if, filed_for, filed_by, IsAsKept, KeepsFiles, all_done}
-use Rattle.turn_model.specs.HostInLife.{Running, running_opened, running_turned, life_run}
+use Rattle.device_calls.specs.Worlds.{World}
+use Rattle.turn_model.specs.HostInLife.{Running, running_opened, running_turned, running_after, life_run, table_of}
 use Rattle.turn_model.proofs.HostInLifeTurns.{opening_holds, turn_in_life}
-use Rattle.turn_model.proofs.FilesInLifeTurns.{opening_files, turn_files}
-use Rattle.progress.specs.AddressesReach.{AddressesAreThere, AllAreThere, OpeningReachesHost, TurnsReachHost}
-use Rattle.progress.specs.FilesReach.{LeasesAreFiled, FilesAreThere, OpeningReachesFiles, TurnsReachFiles}
+use Rattle.progress.specs.AddressesReach.{AddressesAreThere, AllAreThere, OpeningReachesHost, TurnsReachHost, AlwaysReachesHost}
 use Rattle.progress.proofs.Addresses.{AddressesWithin, each_within, addresses_there, wanted_too}
-
--- ---- the host
 
 second : (a b : Bool) → (a && b) ≡ true → b ≡ true
 second true b e = e
@@ -66,90 +54,39 @@ turns_reach managed specs world earlier given shares order none =
     all_there managed world.host.told.rows (running_turned managed (life_run managed specs world earlier) given)
     (turn_in_life managed specs world shares order earlier given none)
 
--- ---- the files
+-- ---- where no call fails
 
--- what isn't left alone is as it is to be
-abbrev IsThere : (ifaces : List Iface) → (files : List StoreFile) → Filed → Type 0
-IsThere ifaces files filed =
-    is_left filed.keeps (wanted_in ifaces filed.keeps) ≡ false → file_at filed.name files ≡ wanted_in ifaces filed.keeps
+none_past : (failing : List ℕ) (told : HostTold) → failing ≡ [] → AllPast failing told
+none_past failing told e = subst (λ (f : List ℕ). AllPast f told) (sym e) (All-nil (λ number. number ≤ length told.calls))
 
-module _ (ifaces : List Iface) (files : List StoreFile) where
-  front_there : (xs ys : List Filed) → AllByRecursion (IsThere ifaces files) (xs ++ ys) → AllByRecursion (IsThere ifaces files) xs
-  front_there [] ys all = tt
-  front_there (x ∷ xs) ys all = (all.0, front_there xs ys all.1)
+one_later : (managed : List Managed) (earlier : List Given) (given : Given) (running : Running)
+    → running_after managed (earlier ++ given ∷ []) running ≡ running_turned managed (running_after managed earlier running) given
+one_later managed [] given running = refl
+one_later managed (first ∷ earlier) given running = one_later managed earlier given (running_turned managed running first)
 
-  back_there : (xs ys : List Filed) → AllByRecursion (IsThere ifaces files) (xs ++ ys) → AllByRecursion (IsThere ifaces files) ys
-  back_there [] ys all = all
-  back_there (x ∷ xs) ys all = back_there xs ys all.1
+module _ (managed : List Managed) (specs : List IfSpec) (world : World) (shares : SharesAreManaged managed) (order : InRowOrder world.host.told.rows) (e : world.host.failing ≡ []) where
+  begins : AllAreThere (running_opened managed specs world)
+  begins =
+      opening_reaches managed specs world shares order
+      (none_fails world.host.failing managed (rows_of (running_opened managed specs world).life.client) (unknown_table world.host.told)
+      (none_past world.host.failing world.host.told e))
 
-  filed_there : (is_kept : Bool) (keeps : Keeps) (name : List ℕ) → AllByRecursion (IsThere ifaces files) (filed_if is_kept keeps name)
-      → is_kept ≡ true → IsThere ifaces files (record { keeps = keeps; name = name })
-  filed_there true keeps name all e = all.0
-  filed_there false keeps name all e = absurd (false≢true e)
+  turns_on : (earlier : List Given) (given : Given) → AllAreThere (running_turned managed (life_run managed specs world earlier) given)
+  turns_on earlier given =
+      let before : Running = life_run managed specs world earlier in
+      turns_reach managed specs world earlier given shares order
+      (none_fails world.host.failing managed (rows_of (running_turned managed before given).life.client) (table_of before)
+      (none_past world.host.failing before.world.host.told e))
 
-  lease4_there : (number : ℕ) (name : List ℕ) (kept : Option LeaseContent) → kept_lease number ifaces ≡ kept
-      → IsThere ifaces files (record { keeps = Lease4 number; name = name })
-      → IfSome kept (λ lease. file_at name files ≡ Some (lease4_text lease))
-  lease4_there number name None e there = tt
-  lease4_there number name (Some lease) e there =
-      let texts : wanted_in ifaces (Lease4 number) ≡ Some (lease4_text lease) = ap (λ (k : Option LeaseContent). option_map lease4_text k) e in
-      there (ap (λ (w : Option (List ℕ)). is_left (Lease4 number) w) texts) ∙ texts
+  goes_on : (coming earlier : List Given) → AllAreThere (life_run managed specs world earlier)
+      → AllAreThere (running_after managed coming (life_run managed specs world earlier))
+  goes_on [] earlier there = there
+  goes_on (given ∷ coming) earlier there =
+      let one : life_run managed specs world (earlier ++ given ∷ []) ≡ running_turned managed (life_run managed specs world earlier) given =
+      one_later managed earlier given (running_opened managed specs world) in
+      subst (λ (r : Running). AllAreThere (running_after managed coming r)) one
+      (goes_on coming (earlier ++ given ∷ []) (subst AllAreThere (sym one) (turns_on earlier given)))
 
-  lease6_there : (number : ℕ) (name : List ℕ) (kept : Option Lease6Content) → kept_lease6 number ifaces ≡ kept
-      → IsThere ifaces files (record { keeps = Lease6 number; name = name })
-      → IfSome kept (λ lease. file_at name files ≡ Some (lease6_text lease))
-  lease6_there number name None e there = tt
-  lease6_there number name (Some lease) e there =
-      let texts : wanted_in ifaces (Lease6 number) ≡ Some (lease6_text lease) = ap (λ (k : Option Lease6Content). option_map lease6_text k) e in
-      there (ap (λ (w : Option (List ℕ)). is_left (Lease6 number) w) texts) ∙ texts
-
-  leases_there : (m : Managed) → AllByRecursion (IsThere ifaces files) (filed_for m) → LeasesAreFiled ifaces files m
-  leases_there m all =
-      let four : List Filed = filed_if (runs_dhcp4 m.conf) (Lease4 m.spec.index.number) (lease4_file m) in
-      let six : List Filed = filed_if (runs_dhcp6 m.conf) (Lease6 m.spec.index.number) (lease6_file m) in
-      record {
-        lease4 = λ runs. lease4_there m.spec.index.number (lease4_file m) (kept_lease m.spec.index.number ifaces) refl
-            (filed_there (runs_dhcp4 m.conf) (Lease4 m.spec.index.number) (lease4_file m) (front_there four six all) runs);
-        lease6 = λ runs. lease6_there m.spec.index.number (lease6_file m) (kept_lease6 m.spec.index.number ifaces) refl
-            (filed_there (runs_dhcp6 m.conf) (Lease6 m.spec.index.number) (lease6_file m) (back_there four six all) runs);
-      }
-
-  all_leases : (managed : List Managed) → AllByRecursion (IsThere ifaces files) (flat_map filed_for managed)
-      → AllByRecursion (LeasesAreFiled ifaces files) managed
-  all_leases [] all = tt
-  all_leases (m ∷ more) all =
-      (leases_there m (front_there (filed_for m) (flat_map filed_for more) all), all_leases more (back_there (filed_for m) (flat_map filed_for more) all))
-
-kept_there : (after : Running) (file : KeptFile) → IsAsKept after file
-    → IsThere after.life.client.ifaces after.world.store.told.files (filed_as file)
-kept_there after file (inl e) left = e
-kept_there after file (inr alone) left = absurd (false≢true (sym left ∙ alone.1))
-
-all_filed : (after : Running) (files : List KeptFile) → AllByRecursion (IsAsKept after) files
-    → AllByRecursion (IsThere after.life.client.ifaces after.world.store.told.files) (map filed_as files)
-all_filed after [] all = tt
-all_filed after (file ∷ files) all = (kept_there after file all.0, all_filed after files all.1)
-
-files_there : (managed : List Managed) (calls : List Call) (after : Running) → KeepsFiles managed calls after → all_done calls ≡ true
-    → FilesAreThere managed after
-files_there managed calls after keeps done =
-    let ifaces : List Iface = after.life.client.ifaces in
-    let files : List StoreFile = after.world.store.told.files in
-    let of_duid : List Filed = filed_if (some_need_duid managed) (Duid keeps.duid) duid_file in
-    let of_leases : List Filed = flat_map filed_for managed in
-    let of_resolver : List Filed = filed_if true Resolver resolver_file in
-    let all : AllByRecursion (IsThere ifaces files) (of_duid ++ (of_leases ++ of_resolver)) =
-    subst (λ (filed : List Filed). AllByRecursion (IsThere ifaces files) filed) keeps.filed (all_filed after after.life.files (keeps.kept done)) in
-    let rest : AllByRecursion (IsThere ifaces files) (of_leases ++ of_resolver) = back_there ifaces files of_duid (of_leases ++ of_resolver) all in
-    record {
-      leases = all_leases ifaces files managed (front_there ifaces files of_leases of_resolver rest);
-      resolver = filed_there ifaces files true Resolver resolver_file (back_there ifaces files of_leases of_resolver rest) refl refl;
-    }
-
-pub opening_reaches_files : OpeningReachesFiles
-opening_reaches_files managed specs world apart order done =
-    files_there managed _ (running_opened managed specs world) (opening_files managed apart specs world order) done
-
-pub turns_reach_files : TurnsReachFiles
-turns_reach_files managed specs world earlier given apart order done =
-    files_there managed _ (running_turned managed (life_run managed specs world earlier) given) (turn_files managed apart specs world order earlier given) done
+pub always_reaches : AlwaysReachesHost
+always_reaches managed specs world turns shares order e =
+    goes_on managed specs world shares order e turns [] (begins managed specs world shares order e)

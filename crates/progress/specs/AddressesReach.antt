@@ -1,5 +1,5 @@
 -- That the addresses which are held reach the host, where no call of it fails.
-use Rattle.std.specs.Prelude.{◌≡◌, true, List, IfSome}
+use Rattle.std.specs.Prelude.{◌≡◌, true, List, [], IfSome}
 use Rattle.std.specs.List.{AllByRecursion}
 use Rattle.net_types.specs.declared.address.Net.{Net}
 use Rattle.net_types.specs.declared.address.Net.TheVariants.{V4, V6}
@@ -30,8 +30,8 @@ HasAddress rows iface net = has_row rows (Addr iface.managed.spec.index net) ≡
 abbrev pub GrantedAreThere : (rows : List HostRow) → Iface → IaLeaseContent → Type 0
 GrantedAreThere rows iface ia = ia.kind ≡ Na → AllByRecursion (λ item. HasAddress rows iface (V6 item.net)) ia.items
 
--- The addresses of an interface are there: of the leases that it holds, its link-local one, and those configured, while these
--- are in force.
+-- The addresses of an interface are there: of the leases that it holds, its link-local one, and those configured, while
+-- these are in force.
 pub record AddressesAreThere (rows : List HostRow) (iface : Iface) : Type 0 where
   pub lease4 : IfSome (held_of iface.dhcp4) (λ lease. HasAddress rows iface (V4 lease.net))
   pub lease6 : IfSome (dhcp6.held_of iface.dhcp6) (λ lease. AllByRecursion (GrantedAreThere rows iface) lease.ias)
@@ -52,8 +52,14 @@ OpeningReachesHost = (managed : List Managed) (specs : List IfSpec) (world : Wor
 
 -- and after every such turn, whatever failed before
 abbrev pub TurnsReachHost : Type 0
-TurnsReachHost = (managed : List Managed) (specs : List IfSpec) (world : World) (earlier : List Given) (given : Given) → SharesAreManaged managed
-    → InRowOrder world.host.told.rows
+TurnsReachHost = (managed : List Managed) (specs : List IfSpec) (world : World) (earlier : List Given) (given : Given)
+    → SharesAreManaged managed → InRowOrder world.host.told.rows
     → let before = life_run managed specs world earlier in
     let after = running_turned managed before given in
     NoneFails managed world.host.failing (rows_of after.life.client) (table_of before) → AllAreThere after
+
+-- So over a host of which no call fails they are there after the opening and after every turn.
+abbrev pub AlwaysReachesHost : Type 0
+AlwaysReachesHost = (managed : List Managed) (specs : List IfSpec) (world : World) (turns : List Given)
+    → SharesAreManaged managed → InRowOrder world.host.told.rows → world.host.failing ≡ []
+    → AllAreThere (life_run managed specs world turns)
