@@ -162,13 +162,15 @@ same_opened managed specs world =
     let step : ClientStep = opening_step managed (ran_loading managed specs begin world).result specs begin in
     let it : Acts managed None step.client world.host (ran_opening managed specs world) = opening_acts managed specs begin world in
     let same : managed_in step.client.ifaces ≡ managed =
-    opening_managed managed specs begin _ (ran_loading managed specs begin world).result (run_makes (loading_files managed) (ran_clearing managed specs begin world).world) in
+    opening_managed managed specs begin _ (ran_loading managed specs begin world).result
+    (run_makes (loading_files managed) (ran_clearing managed specs begin world).world) in
     ap (λ (c : Client). managed_in c.ifaces) it.client_is ∙ same
 
 same_turned : (managed : List Managed) (running : Running) (given : Given) → managed_in running.life.client.ifaces ≡ managed
     → managed_in (running_turned managed running given).life.client.ifaces ≡ managed
 same_turned managed running given was =
-    let it : Acts managed running.life.known (step_of running.life (told_wake given) (told_bytes given)).client running.world.host (ran_turn managed running.life running.world given) =
+    let it : Acts managed running.life.known (step_of running.life (told_wake given) (told_bytes given)).client running.world.host
+    (ran_turn managed running.life running.world given) =
     turn_acts managed running.life (told_wake given) (told_bytes given) (woken (until running.life) (told_wake given) (told_bytes given) running.world) in
     let same : managed_in (step_of running.life (told_wake given) (told_bytes given)).client.ifaces ≡ managed =
     all_turned running.life.client.own (input_of running.life (told_wake given) (told_bytes given)) running.life.client.ifaces ∙ was in
@@ -200,10 +202,12 @@ files_there managed calls after keeps done apart same =
     let apart_here : AreNumberedApart (managed_in ifaces) = subst AreNumberedApart (sym same) apart in
     record {
       leases4 = all_both (λ (iface : Iface). Numbered ifaces files iface.managed) (Found4 ifaces) (Lease4IsFiled files)
-          (λ iface it found runs. subst (λ (kept : Option LeaseContent). IfSome kept (λ lease. file_at (lease4_file iface.managed) files ≡ Some (lease4_text lease))) found (it.lease4 runs))
+          (λ iface it found runs.
+          subst (λ (kept : Option LeaseContent). IfSome kept (λ lease. file_at (lease4_file iface.managed) files ≡ Some (lease4_text lease))) found (it.lease4 runs))
           ifaces numbered (found4 ifaces apart_here);
       leases6 = all_both (λ (iface : Iface). Numbered ifaces files iface.managed) (Found6 ifaces) (Lease6IsFiled files)
-          (λ iface it found runs. subst (λ (kept : Option Lease6Content). IfSome kept (λ lease. file_at (lease6_file iface.managed) files ≡ Some (lease6_text lease))) found (it.lease6 runs))
+          (λ iface it found runs.
+          subst (λ (kept : Option Lease6Content). IfSome kept (λ lease. file_at (lease6_file iface.managed) files ≡ Some (lease6_text lease))) found (it.lease6 runs))
           ifaces numbered (found6 ifaces apart_here);
       resolver = filed_there ifaces files true Resolver resolver_file (back_there ifaces files of_leases of_resolver rest) refl refl;
     }

@@ -8,7 +8,6 @@ use Rattle.v6_frames.specs.Heard.{HeardMessage6, heard6_in}
 use Rattle.v4_client.specs.Settings.{SettingsContent}
 use Rattle.v4_client.specs.Calls.{brought, carrier_step, rebind_step}
 use Rattle.v4_client.specs.declared.states.Carrier.TheVariants as carrier4
-use Rattle.v4_client.specs.Clients as clients
 use Rattle.v4_client.specs.Moments.{earlier}
 use Rattle.v4_client.specs.declared.states.State4.TheVariants as state4
 use Rattle.v6_client.specs.Clients as clients6

@@ -64,7 +64,8 @@ one_later : (managed : List Managed) (earlier : List Given) (given : Given) (run
 one_later managed [] given running = refl
 one_later managed (first ∷ earlier) given running = one_later managed earlier given (running_turned managed running first)
 
-module _ (managed : List Managed) (specs : List IfSpec) (world : World) (shares : SharesAreManaged managed) (order : InRowOrder world.host.told.rows) (e : world.host.failing ≡ []) where
+module _ (managed : List Managed) (specs : List IfSpec) (world : World) (shares : SharesAreManaged managed)
+    (order : InRowOrder world.host.told.rows) (e : world.host.failing ≡ []) where
   begins : AllAreThere (running_opened managed specs world)
   begins =
       opening_reaches managed specs world shares order

@@ -26,19 +26,19 @@ pub fn link_local_premises_are_met()
     ensures { OneLifeGoesWell }
 {}
 
-/// Law of a life over devices that tell what they hold and which of their calls fail, from any host: after the opening, and
-/// after every turn, in which no host call failed, whatever failed before, the host has the address of each DHCPv4 lease that
-/// an interface holds, each address of a DHCPv6 lease, each link-local one, and the static ones that are in force. Where
-/// no call of the host ever fails, it always has them.
+/// Law of a life over devices that tell what they hold and which of their calls fail, from any host: after the opening,
+/// and after every turn, in which no host call failed, whatever failed before, the host has the address of each DHCPv4
+/// lease that an interface holds, each address of a DHCPv6 lease, each link-local one, and the static ones that are in
+/// force. Where no call of the host ever fails, it always has them.
 pub fn what_is_held_reaches_the_host()
     ensures opening { OpeningReachesHost }
     ensures turns { TurnsReachHost }
     ensures always { AlwaysReachesHost }
 {}
 
-/// Law of such a life over any store whose files stand in order, where no two interfaces have one name or number: after the
-/// opening, and after every turn, in which each call that was to change files was done, whatever failed before, the file of
-/// each lease that an interface keeps is the lease's text, and the resolver's file what the interfaces tell it.
+/// Law of such a life over any store whose files stand in order, where no two interfaces have one name or number: after
+/// the opening, and after every turn, in which each call that was to change files was done, whatever failed before, the
+/// file of each lease that an interface keeps is the lease's text, and the resolver's file what the interfaces tell it.
 pub fn what_is_kept_reaches_its_file()
     ensures opening { OpeningReachesFiles }
     ensures turns { TurnsReachFiles }
