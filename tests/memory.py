@@ -1,10 +1,10 @@
 #!/usr/bin/env python3
-"""Memory that is refused, at one place a run: the program ends with 10 or 0, and what stands written is a front of the whole.
+"""Memory that is refused, at one place a run: the program ends with 10 or 0, and has written a front of the whole.
 
     tests/memory.py [N..]    the Nth allocation fails, in a small replay and in `make 1`; without numbers, eleven places
 
-Each run builds the program anew (`rt try`, a minute), so this is no part of the gate. Beyond the last allocation nothing fails,
-and the whole is written. Ends with 0 where each run ends so.
+Each run builds the program anew (`rt try`, a minute), so this is no part of the gate. Beyond the last allocation
+nothing fails, and the whole is written. Ends with 0 where each run ends so.
 """
 
 import os
@@ -29,7 +29,8 @@ TRIES = {"replay": (["replay"], example("lease")), "make": (["make", "1"], b"")}
 def run(words, text, refused=None):
     """The status and the output, where that allocation fails."""
     flags = [] if refused is None else ["--fail-alloc", str(refused)]
-    done = subprocess.run(["rt", "try", *flags, "--", *words], cwd=PROGRAM, input=text, capture_output=True, check=False)
+    command = ["rt", "try", *flags, "--", *words]
+    done = subprocess.run(command, cwd=PROGRAM, input=text, capture_output=True, check=False)
     return done.returncode, done.stdout
 
 
@@ -52,7 +53,8 @@ def main(places):
             status, output = run(words, text, place)
             why = fault(status, output, whole)
             wrong += why is not None
-            print(f"{name}, allocation {place}: status {status}, {len(output)} of {len(whole)} bytes{'' if why is None else ': ' + why}", flush=True)
+            told = f"{name}, allocation {place}: status {status}, {len(output)} of {len(whole)} bytes"
+            print(told if why is None else f"{told}: {why}", flush=True)
     return 1 if wrong else 0
 
 
