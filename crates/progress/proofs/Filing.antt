@@ -203,11 +203,13 @@ files_there managed calls after keeps done apart same =
     record {
       leases4 = all_both (λ (iface : Iface). Numbered ifaces files iface.managed) (Found4 ifaces) (Lease4IsFiled files)
           (λ iface it found runs.
-          subst (λ (kept : Option LeaseContent). IfSome kept (λ lease. file_at (lease4_file iface.managed) files ≡ Some (lease4_text lease))) found (it.lease4 runs))
+          subst (λ (kept : Option LeaseContent). IfSome kept (λ lease. file_at (lease4_file iface.managed) files ≡ Some (lease4_text lease)))
+          found (it.lease4 runs))
           ifaces numbered (found4 ifaces apart_here);
       leases6 = all_both (λ (iface : Iface). Numbered ifaces files iface.managed) (Found6 ifaces) (Lease6IsFiled files)
           (λ iface it found runs.
-          subst (λ (kept : Option Lease6Content). IfSome kept (λ lease. file_at (lease6_file iface.managed) files ≡ Some (lease6_text lease))) found (it.lease6 runs))
+          subst (λ (kept : Option Lease6Content). IfSome kept (λ lease. file_at (lease6_file iface.managed) files ≡ Some (lease6_text lease)))
+          found (it.lease6 runs))
           ifaces numbered (found6 ifaces apart_here);
       resolver = filed_there ifaces files true Resolver resolver_file (back_there ifaces files of_leases of_resolver rest) refl refl;
     }

@@ -23,8 +23,8 @@ use Rattle.turn_model.specs.Loading.{lease4_file, lease6_file, resolver_file}
 abbrev pub AreNumberedApart : List Managed → Type 0
 AreNumberedApart managed = IsDistinct nat_eq (map (λ m. m.spec.index.number) managed)
 
--- The file of the lease that an interface keeps is the lease's text, where its protocol runs. The lease that it holds is
--- the one that it keeps.
+-- The file of the lease that an interface keeps is the lease's text, where its protocol runs. The lease that it
+-- holds is the one that it keeps.
 abbrev pub Lease4IsFiled : (files : List StoreFile) → Iface → Type 0
 Lease4IsFiled files iface = runs_dhcp4 iface.managed.conf ≡ true
     → IfSome iface.dhcp4.kept (λ lease. file_at (lease4_file iface.managed) files ≡ Some (lease4_text lease))
