@@ -1,13 +1,12 @@
 -- Pairs by blocks: what front and rest spell, and zeros.
-use Rattle.std.proofs.Common.{◌≡◌, ℕ, zero, suc, ◌+◌, ◌*◌, ◌/◌, ◌%◌, ◌≤◌, true, inl, inr, List, [], ◌∷◌, ◌++◌, length, take, drop, replicate, Option, Some, None, Result, Ok, Err, option_map, option_and_then, refl, sym, ap, ◌∙◌, arith, eqb, flat_map, append_assoc}
-use Rattle.std.specs.List.{list_all}
+use Rattle.std.proofs.Common.{◌≡◌, ℕ, ◌/◌, ◌%◌, ◌≤◌, true, inl, inr, List, [], ◌∷◌, ◌++◌, length, take, drop, replicate, Option, Some, None, Result, Ok, Err, option_map, option_and_then, refl, sym, ap, ◌∙◌, arith, flat_map, append_assoc}
 use Rattle.std.specs.Result.{result_ok}
-use Rattle.std.proofs.lemmas.Bool.{and_parts, cases_eq, eqb-true}
+use Rattle.std.proofs.lemmas.Bool.{cases_eq}
 use Rattle.std.proofs.lemmas.List.{take-append-drop, length-take-le}
 use Rattle.std.proofs.lemmas.Grind.{flat_map-append}
 use Rattle.std.specs.Prelude.{MatchResult}
 use Rattle.hex.specs.declared.error.FromHexError.{FromHexError}
-use Rattle.hex.specs.Hex.{decode_of, decode_sized}
+use Rattle.hex.specs.Hex.{decode_sized}
 use Rattle.hex.proofs.HexLemmas.{decode_of-odd, decode_sized-odd, decode_sized-twice}
 use Rattle.net_types.specs.HexText.{byte_hex, hex_byte_at, hex_digit_at, lacks_capitals, pairs_at}
 use Rattle.net_types.proofs.HexLaws.{capital_pairs, pairs_decoded}
@@ -42,18 +41,10 @@ appended_some items text out e = ap (option_map (λ more. items ++ more)) e
 pub appended_none : (items text : List ℕ) → pairs_at text ≡ None → option_map (λ more. items ++ more) (pairs_at text) ≡ None
 appended_none items text e = ap (option_map (λ more. items ++ more)) e
 
-all_are : (byte : ℕ) (bytes : List ℕ) → list_all (λ b. eqb b byte) bytes ≡ true → bytes ≡ replicate (length bytes) byte
-all_are byte [] all = refl
-all_are byte (b ∷ bytes) all =
-    let parts = and_parts (eqb b byte) _ all in
-    ap (λ c. c ∷ bytes) (eqb-true b byte parts.0) ∙ ap (λ rest. byte ∷ rest) (all_are byte bytes parts.1)
-
-pub zeros_read : (text : List ℕ) → length text ≡ 32 → list_all (λ b. eqb b 48) text ≡ true → pairs_at text ≡ Some (replicate 16 0)
+-- a block of the digit zero spells zeros
+pub zeros_read : (text : List ℕ) → text ≡ replicate 32 48 → pairs_at text ≡ Some (replicate 16 0)
 unfolding hex_byte_at hex_digit_at
-zeros_read text len all = ap pairs_at (all_are 48 text all ∙ ap (λ n. replicate n 48) len)
-
-pub zeros_written : (bytes : List ℕ) → length bytes ≡ 16 → list_all (λ b. eqb b 0) bytes ≡ true → flat_map byte_hex bytes ≡ replicate 32 48
-zeros_written bytes len all = ap (flat_map byte_hex) (all_are 0 bytes all ∙ ap (λ n. replicate n 0) len)
+zeros_read text zeros = ap pairs_at zeros
 
 -- what a block of digits gives
 pub ruleset block_steps = (block_decoded, zeros_read, capital_pairs)

@@ -6,7 +6,7 @@ ghost use Rattle.net_types.specs.HexText.{byte_hex, hex_text};
 
 use crate::address::{Ip4, Mac, Net4};
 use crate::fault::NoMemory;
-use crate::hexadecimal::{BLOCK_LEN, digits_of, digits_of_block, write_pairs};
+use crate::hexadecimal::{BLOCK_DIGITS, BLOCK_LEN, digits_of, write_pairs};
 use itoa::Buffer;
 
 /// Appends bytes as they are; where memory runs out nothing.
@@ -38,6 +38,18 @@ fn append_tail(bytes: &[u8], into: &mut Vec<u8>) -> Result<(), NoMemory>
     Ok(())
 }
 
+/// Appends the digits of a block of bytes. Most blocks of a frame are zeros, which are seen at once.
+fn append_block(block: &[u8; BLOCK_LEN], into: &mut Vec<u8>) -> Result<(), NoMemory>
+    ensures ok { OnOk result (into.new.items ≡ into.old.items ++ flat_map byte_hex block.now) }
+    ensures err { OnErr result (into.new.items ≡ into.old.items) }
+{
+    if *block == [0; BLOCK_LEN] {
+        append_bytes(&[b'0'; BLOCK_DIGITS], into)
+    } else {
+        append_tail(block, into)
+    }
+}
+
 /// Appends two digits a byte, by blocks, or those of a front of the bytes where memory runs out.
 fn append_blocks(bytes: &[u8], into: &mut Vec<u8>) -> Result<(), NoMemory>
     ensures ok { OnOk result (into.new.items ≡ into.old.items ++ flat_map byte_hex bytes.now) }
@@ -45,7 +57,7 @@ fn append_blocks(bytes: &[u8], into: &mut Vec<u8>) -> Result<(), NoMemory>
 {
     let mut rest = bytes;
     'chunks: while let Some((block, others)) = rest.split_first_chunk::<BLOCK_LEN>() {
-        into.extend_from_slice(&digits_of_block(block))?;
+        append_block(block, into)?;
         rest = others;
     }
     append_tail(rest, into)

@@ -1,7 +1,6 @@
 //! Bytes as pairs of lower-case hexadecimal digits.
 ghost use Rattle.std.specs.Prelude.{◌≡◌, ◌*◌, ◌/◌, ◌<◌, ◌++◌, ◌==◌, flat_map, length, option_map};
 ghost use Rattle.std.specs.Prelude.{if◌then◌else◌, IfOk, None, Some};
-ghost use Rattle.std.specs.List.{list_all};
 ghost use Rattle.net_types.specs.HexText.{byte_hex, hex_at, hex_byte_at, lacks_capitals, pairs_at};
 
 use crate::fault::NoMemory;
@@ -12,17 +11,6 @@ use std::alloc::Global;
 pub(crate) const BLOCK_LEN: usize = 16;
 /// How many digits they have.
 pub(crate) const BLOCK_DIGITS: usize = 2 * BLOCK_LEN;
-
-/// Whether all bytes are this one. Without a branch, so that many are asked at once.
-fn are_all(byte: u8, bytes: &[u8]) -> bool
-    ensures { result ≡ list_all (λ b. b == byte) bytes.now }
-{
-    let mut good = true;
-    'bytes: for i in 0..bytes.len() {
-        good &= bytes[i] == byte;
-    }
-    good
-}
 
 /// Whether no byte is a capital letter. Without a branch, so that many are asked at once.
 fn lacks_capitals(text: &[u8]) -> bool
@@ -52,7 +40,7 @@ pub fn hex_byte_of(bytes: &[u8]) -> Option<u8>
 fn block_of(block: &[u8; BLOCK_DIGITS]) -> Option<[u8; BLOCK_LEN]>
     ensures { result ≡ pairs_at block.now }
 {
-    if are_all(b'0', block) {
+    if *block == [b'0'; BLOCK_DIGITS] {
         return Some([0; BLOCK_LEN]);
     }
     if !lacks_capitals(block) {
@@ -136,18 +124,6 @@ pub(crate) fn write_pairs(bytes: &[u8], pairs: &mut [u8])
         Ok(()) => (),
         Err(_) => unreachable!(),
     }
-}
-
-/// The digits of a block of bytes. Most blocks of a frame are zeros, which are seen at once.
-#[tactic(auto, using(crate::proofs::HexBlocks::zeros_written))]
-pub(crate) fn digits_of_block(block: &[u8; BLOCK_LEN]) -> [u8; BLOCK_DIGITS]
-    ensures { result ≡ flat_map byte_hex block.now }
-{
-    let mut digits = [b'0'; BLOCK_DIGITS];
-    if !are_all(0, block) {
-        write_pairs(block, &mut digits);
-    }
-    digits
 }
 
 /// The two digits of a byte.
