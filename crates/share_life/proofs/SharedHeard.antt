@@ -31,7 +31,7 @@ use Rattle.client_model.specs.Clients.{rows_of}
 use Rattle.client_model.specs.ResolverParts.{resolver_wanted}
 use Rattle.turn_model.specs.Lives.{IsOpening, life_after}
 use Rattle.turn_model.specs.FilesInLife.{AreNamedApart}
-use Rattle.turn_model.specs.HostInLife.{running_opened}
+use Rattle.turn_model.specs.HostInLife.{life_run, running_opened}
 use Rattle.turn_model.specs.Opening.{opening_asks}
 use Rattle.turn_model.specs.Turns.{turn_asks}
 use Rattle.evidence_words.specs.Entries.{shown_of}
@@ -54,12 +54,16 @@ are_turns = are_made managed coming (running_opened managed specs devices)
 
 -- what the turns show is what those of eth0 alone do
 pub turns_show : shown_of opens turns ≡ shown opening three_turns
-unfolding frame_in arp_in heard4_in heard6_in packet6_in datagram_in udp6_in is_checked6 udp6_text udp6_frame_text message6_in malformed_in instances_in front_of resolver_wanted turn_asks opening_asks carrier_turned tick_turned hears_turned name_text
+unfolding frame_in arp_in heard4_in heard6_in packet6_in datagram_in udp6_in is_checked6 udp6_text udp6_frame_text message6_in malformed_in instances_in front_of outranks resolver_wanted turn_asks opening_asks carrier_turned tick_turned hears_turned name_text
 turns_show = refl
 
 pub is_wanted : has_row (rows_of (life_after opens.life turns).client) (Addr downstream shared) ≡ true
 unfolding frame_in arp_in heard4_in heard6_in packet6_in datagram_in udp6_in is_checked6 udp6_text udp6_frame_text message6_in malformed_in instances_in front_of outranks resolver_wanted turn_asks opening_asks carrier_turned tick_turned hears_turned name_text
 is_wanted = refl
+
+pub is_held : has_row (life_run managed specs devices coming).world.host.told.rows (Addr downstream shared) ≡ true
+unfolding frame_in arp_in heard4_in heard6_in packet6_in datagram_in udp6_in is_checked6 udp6_text udp6_frame_text message6_in malformed_in instances_in front_of outranks resolver_wanted turn_asks opening_asks carrier_turned tick_turned hears_turned name_text
+is_held = refl
 
 -- ---- the interfaces
 
