@@ -13,7 +13,9 @@ use Rattle.net_types.specs.declared.address.Ip6.{Ip6}
 use Rattle.net_types.specs.declared.address.Net4.{Net4}
 use Rattle.net_types.specs.declared.address.Net6.{Net6}
 use Rattle.net_types.specs.AddressText.{ip4_text, ip6_text, net4_text, net6_text}
-use Rattle.safe_texts.specs.Grammars.{IsMadeOf, is_address4_byte, is_address6_byte, is_network4_byte, is_network6_byte}
+use Rattle.hook_env.specs.Lists.{route_text}
+use Rattle.v4_options.specs.declared.routes.ClasslessRoute.{ClasslessRoute}
+use Rattle.safe_texts.specs.Grammars.{IsMadeOf, IsPair, is_address4_byte, is_address6_byte, is_network4_byte, is_network6_byte}
 use Rattle.safe_texts.proofs.NumberTexts.{decimal_made, filled, made_join, made_weaker}
 
 -- ---- IPv4
@@ -24,7 +26,7 @@ digit_in4 b h = or_left _ _ h
 decimal_in4 : (n : ℕ) → IsMadeOf is_address4_byte (decimal n)
 decimal_in4 n = made_weaker is_ascii_digit is_address4_byte (decimal n) digit_in4 (decimal_made n)
 
-dotted_made : (a b c d : ℕ) → IsMadeOf is_address4_byte (dotted_text a b c d)
+pub dotted_made : (a b c d : ℕ) → IsMadeOf is_address4_byte (dotted_text a b c d)
 dotted_made a b c d =
     next (decimal a ++ 46 ∷ [] ++ decimal b ++ 46 ∷ [] ++ decimal c) d (next (decimal a ++ 46 ∷ [] ++ decimal b) c (next (decimal a) b (decimal_in4 a)))
   where
@@ -38,14 +40,25 @@ ip4_made ip = dotted_made _ _ _ _
 in_network4 : (b : ℕ) → is_address4_byte b ≡ true → is_network4_byte b ≡ true
 in_network4 b h = or_left _ _ h
 
-pub ip4_in_network : (ip : Ip4) → IsMadeOf is_network4_byte (ip4_text ip)
-ip4_in_network ip = made_weaker is_address4_byte is_network4_byte (ip4_text ip) in_network4 (ip4_made ip)
+-- an address, a slash and a length
+pub slash4_made : (address : List ℕ) → IsMadeOf is_address4_byte address → (len : ℕ) → IsMadeOf is_network4_byte (address ++ 47 ∷ [] ++ decimal len)
+slash4_made address made len =
+    made_join is_network4_byte (address ++ 47 ∷ []) (decimal len)
+    (made_join is_network4_byte address (47 ∷ []) (made_weaker is_address4_byte is_network4_byte address in_network4 made) refl)
+    (made_weaker is_address4_byte is_network4_byte (decimal len) in_network4 (decimal_in4 len)).only
 
-pub net4_made : (net : Net4) → IsMadeOf is_network4_byte (net4_text net)
+net4_made : (net : Net4) → IsMadeOf is_network4_byte (net4_text net)
 unfolding net4_text
-net4_made net =
-    made_join is_network4_byte (ip4_text net.ip ++ 47 ∷ []) (decimal net.len) (made_join is_network4_byte (ip4_text net.ip) (47 ∷ []) (ip4_in_network net.ip) refl)
-    (made_weaker is_address4_byte is_network4_byte (decimal net.len) in_network4 (decimal_in4 net.len)).only
+net4_made net = slash4_made (ip4_text net.ip) (ip4_made net.ip) net.len
+
+pub route_made : (route : ClasslessRoute) → IsPair (IsMadeOf is_network4_byte) (IsMadeOf is_address4_byte) (route_text route)
+route_made route = record {
+  first = net4_text route.dest;
+  second = ip4_text route.via;
+  is_first = net4_made route.dest;
+  is_second = ip4_made route.via;
+  parted = refl;
+}
 
 -- ---- IPv6
 

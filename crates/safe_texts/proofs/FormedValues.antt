@@ -1,5 +1,5 @@
 -- The value of each option has the form that its code tells.
-use Rattle.std.proofs.Common.{◌≡◌, ◌≢◌, ℕ, zero, suc, ◌%◌, ◌/◌, ◌+◌, ◌<◌, true, ◌&&◌, List, [], ◌∷◌, map, length, Option, Some, None, refl, arith, eqb, ltb, decimal}
+use Rattle.std.proofs.Common.{◌≡◌, ◌≢◌, ℕ, zero, suc, ◌%◌, ◌/◌, ◌+◌, ◌^◌, ◌<◌, true, ◌&&◌, List, [], ◌∷◌, map, length, Option, Some, None, refl, arith, eqb, ltb, decimal}
 use Rattle.std.proofs.lemmas.Bool.{and_parts, eqb-true, false≢true, ltb-true}
 use Rattle.std.specs.Prelude.{IfSome}
 use Rattle.std.specs.Option.{option_and_then, option_map}
@@ -16,18 +16,18 @@ use Rattle.v4_options.specs.Numbers.{addr_in, address, addresses, addrs_in, u16_
 use Rattle.v4_options.specs.Routes.{all_routes, has_route, route_of, routes_after, routes_in, sent_bytes}
 use Rattle.v6_options.specs.Readers.{addresses_in, dns6_in, search6_in}
 use Rattle.domain_names.specs.SearchList.{search_in}
-use Rattle.safe_texts.specs.Grammars.{Form, HasForm, IsListOf, One, Several, Number, Address4, Network4, Address6}
+use Rattle.safe_texts.specs.Grammars.{Form, HasForm, HasGrammar, IsListOf, One, Several, Number, Address4, Route4, Address6}
 use Rattle.safe_texts.specs.Grammars as grammar
 use Rattle.safe_texts.proofs.NumberTexts.{chosen_by, decimal_made}
-use Rattle.safe_texts.proofs.AddressBytes.{ip4_made, ip6_made}
+use Rattle.safe_texts.proofs.AddressBytes.{ip4_made, ip6_made, route_made}
 use Rattle.safe_texts.proofs.DomainTexts.{AreSomeNames, search6_named, search_named, text_named}
-use Rattle.safe_texts.proofs.TextLists.{routes_listed, values_listed}
+use Rattle.safe_texts.proofs.TextLists.{values_listed}
 
 -- what holds of each value that is read holds of its text
-abbrev Filled : {A : Type 0} → List A → Type 0
+abbrev pub Filled : {A : Type 0} → List A → Type 0
 Filled xs = xs ≢ []
 
-of_read : {A : Type 0} (P : A → Type 0) (Q : List ℕ → Type 0) (text_of : A → List ℕ) → ((x : A) → P x → Q (text_of x)) → (found : Option A) → IfSome found P
+pub of_read : {A : Type 0} (P : A → Type 0) (Q : List ℕ → Type 0) (text_of : A → List ℕ) → ((x : A) → P x → Q (text_of x)) → (found : Option A) → IfSome found P
     → IfSome (option_map text_of found) Q
 of_read P Q text_of each None h = tt
 of_read P Q text_of each (Some x) h = each x h
@@ -49,7 +49,7 @@ addresses_some (a ∷ b ∷ []) e = absurd (false≢true e)
 addresses_some (a ∷ b ∷ c ∷ []) e = absurd (false≢true e)
 addresses_some (a ∷ b ∷ c ∷ d ∷ rest) e = filled (address (a ∷ b ∷ c ∷ d ∷ [])) (addresses rest)
 
-addrs_some : (value : List ℕ) → IfSome (addrs_in value) Filled
+pub addrs_some : (value : List ℕ) → IfSome (addrs_in value) Filled
 addrs_some value =
     chosen_by (λ (o : Option (List Ip4)). IfSome o Filled) (ltb 0 (length value) && eqb (length value % 4) 0) (Some (addresses value)) None (addresses_some value) (λ e. tt)
 
@@ -57,7 +57,7 @@ more_some : {A : Type 0} (x : A) (found : Option (List A)) → IfSome (option_ma
 more_some x None = tt
 more_some x (Some xs) = filled x xs
 
-routes_some : (value : List ℕ) → IfSome (routes_in value) Filled
+pub routes_some : (value : List ℕ) → IfSome (routes_in value) Filled
 unfolding all_routes
 routes_some [] = tt
 routes_some (width ∷ rest) =
@@ -77,7 +77,7 @@ sixteen n e =
     let whole : n % 16 ≡ 0 = eqb-true (n % 16) 0 parts.1 in
     omega arith
 
-dns6_some : (value : List ℕ) → IfSome (dns6_in value) Filled
+pub dns6_some : (value : List ℕ) → IfSome (dns6_in value) Filled
 dns6_some value =
     chosen_by (λ (o : Option (List Ip6)). IfSome o Filled) (ltb 0 (length value) && eqb (length value % 16) 0) (Some (addresses_in (length value / 16) value)) None
     (λ e. counted_some (length value / 16) value (sixteen (length value) e)) (λ e. tt)
@@ -87,34 +87,37 @@ dns6_some value =
 abbrev pub form_for : ValueForm → Form
 form_for Address = One Address4
 form_for Addresses = Several Address4
-form_for Number16 = One Number
-form_for Number32 = One Number
+form_for Number16 = One (Number (2 ^ 16))
+form_for Number32 = One (Number (2 ^ 32))
 form_for DomainName = One grammar.DomainName
 form_for DomainNames = Several grammar.DomainName
-form_for Routes = Several Network4
-form_for Opaque = One Number
+form_for Routes = Several Route4
+form_for Opaque = One (Number (2 ^ 32))
 
-names_listed : (names : List (List ℕ)) → AreSomeNames names → IsListOf grammar.DomainName (listed names)
+pub names_listed : (names : List (List ℕ)) → AreSomeNames names → IsListOf (HasGrammar grammar.DomainName) (listed names)
 names_listed names are = record { texts = names; some = are.some; listed = refl; each = are.each }
 
 pub value_formed : (form : ValueForm) (value : List ℕ) → IfSome (value_text form value) (HasForm (form_for form))
 value_formed Address value = any_read (HasForm (One Address4)) ip4_text ip4_made (addr_in value)
 value_formed Addresses value =
-    of_read Filled (IsListOf Address4) (λ (found : List Ip4). listed (map ip4_text found)) (values_listed Address4 ip4_text ip4_made) (addrs_in value) (addrs_some value)
-value_formed Number16 value = any_read (HasForm (One Number)) decimal decimal_made (u16_in value)
-value_formed Number32 value = any_read (HasForm (One Number)) decimal decimal_made (u32_in value)
+    of_read Filled (IsListOf (HasGrammar Address4)) (λ (found : List Ip4). listed (map ip4_text found)) (values_listed (HasGrammar Address4) ip4_text ip4_made) (addrs_in value)
+    (addrs_some value)
+value_formed Number16 value = any_read (HasForm (One (Number (2 ^ 16)))) decimal decimal_made (u16_in value)
+value_formed Number32 value = any_read (HasForm (One (Number (2 ^ 32)))) decimal decimal_made (u32_in value)
 value_formed DomainName value = text_named value
-value_formed DomainNames value = of_read AreSomeNames (IsListOf grammar.DomainName) listed names_listed (search_in value) (search_named value)
+value_formed DomainNames value = of_read AreSomeNames (IsListOf (HasGrammar grammar.DomainName)) listed names_listed (search_in value) (search_named value)
 value_formed Routes value =
-    of_read Filled (IsListOf Network4) (λ (routes : List ClasslessRoute). listed (map route_text routes)) routes_listed (routes_in value) (routes_some value)
+    of_read Filled (IsListOf (HasGrammar Route4)) (λ (routes : List ClasslessRoute). listed (map route_text routes)) (values_listed (HasGrammar Route4) route_text route_made)
+    (routes_in value) (routes_some value)
 value_formed Opaque value = tt
 
-pub servers6_formed : (value : List ℕ) → IfSome (servers6_text value) (IsListOf Address6)
+pub servers6_formed : (value : List ℕ) → IfSome (servers6_text value) (IsListOf (HasGrammar Address6))
 servers6_formed value =
-    of_read Filled (IsListOf Address6) (λ (servers : List Ip6). listed (map ip6_text servers)) (values_listed Address6 ip6_text ip6_made) (dns6_in value) (dns6_some value)
+    of_read Filled (IsListOf (HasGrammar Address6)) (λ (servers : List Ip6). listed (map ip6_text servers)) (values_listed (HasGrammar Address6) ip6_text ip6_made) (dns6_in value)
+    (dns6_some value)
 
-pub names6_formed : (value : List ℕ) → IfSome (names6_text value) (IsListOf grammar.DomainName)
-names6_formed value = of_read AreSomeNames (IsListOf grammar.DomainName) listed names_listed (search6_in value) (search6_named value)
+pub names6_formed : (value : List ℕ) → IfSome (names6_text value) (IsListOf (HasGrammar grammar.DomainName))
+names6_formed value = of_read AreSomeNames (IsListOf (HasGrammar grammar.DomainName)) listed names_listed (search6_in value) (search6_named value)
 
 -- of a value, where there is one
 pub found_formed : (Q : List ℕ → Type 0) (reading : List ℕ → Option (List ℕ)) → ((value : List ℕ) → IfSome (reading value) Q) → (found : Option (List ℕ))

@@ -2,12 +2,10 @@
 use Rattle.std.proofs.Common.{◌≡◌, ℕ, Bool, true, false, not, ◌&&◌, List, [], ◌∷◌, flat_map, length, map, Option, Some, None, IfSome, refl, nat_le}
 use Rattle.std.specs.List.{AllByRecursion}
 use Rattle.std.specs.Option.{option_and_then, option_map}
-use Rattle.std.specs.Prelude.{bytes_eq}
 use Rattle.machine.specs.Moment.{is_due}
 use Rattle.net_types.proofs.AllLaws.{all_join}
 use Rattle.net_types.proofs.CaseLaws.{gated}
 use Rattle.net_types.specs.Marks.{AreBytes}
-use Rattle.net_types.specs.NameText.{name_text}
 use Rattle.net_types.specs.declared.address.Ip6.{Ip6}
 use Rattle.net_types.specs.declared.interface.IfSpec.{IfSpec}
 use Rattle.net_types.specs.declared.interface.Name.{Name}

@@ -5,6 +5,9 @@ pub mod TextLists
 pub mod FormedValues
 pub mod PrintableForms
 pub mod MadeOfEvents
+pub mod PlainSpellings
+pub mod SpelledValues
+pub mod MadeExactly
 pub mod KeptThrough
 pub mod StepJobs
 pub mod ProgramEnds

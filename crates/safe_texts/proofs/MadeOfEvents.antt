@@ -1,5 +1,5 @@
 -- What is made of an event is safe.
-use Rattle.std.proofs.Common.{ℕ, Bool, true, false, List, [], ◌∷◌, ◌++◌, map, flat_map, Option, Some, None, refl, arith, decimal}
+use Rattle.std.proofs.Common.{ℕ, ◌^◌, Bool, true, false, List, [], ◌∷◌, ◌++◌, map, flat_map, Option, Some, None, refl, arith, codes, decimal}
 use Rattle.std.specs.Prelude.{IfSome}
 use Rattle.std.specs.Char.{is_ascii_alphanumeric}
 use Rattle.std.specs.List.{AllByRecursion, Contains}
@@ -38,9 +38,9 @@ use Rattle.hook_env.specs.Situations.{HeldContent, SituationContent, Nothing, Le
 use Rattle.hook_env.specs.Stages.{tells_before, tells_now}
 use Rattle.hook_env.specs.ValueTexts.{names6_text, servers6_text, value_in, value_text}
 use Rattle.hook_env.specs.Words.{delegated_word, job_word, lease6_word, lease_time_word, net_word, option_code, option_word, server_word}
-use Rattle.safe_texts.specs.Grammars.{Form, HasForm, HasGrammar, IsMadeOf, One, Several, Word, Number}
+use Rattle.safe_texts.specs.Grammars.{Form, HasForm, HasGrammar, IsMadeOf, One, Several, OneOf, Number}
 use Rattle.safe_texts.specs.Grammars as grammar
-use Rattle.safe_texts.specs.SafeVariables.{AreSafe, HELD_FORMS, IsSafe, JOB_FORMS, MadeVariablesAreSafe, OfHeld, OfJob}
+use Rattle.safe_texts.specs.SafeVariables.{AreSafe, HELD_FORMS, IsSafe, JOB_FORMS, MadeVariablesAreSafe, OfHeld, OfJob, REASONS}
 use Rattle.safe_texts.proofs.AddressBytes.{ip4_made, ip6_made, net6_made}
 use Rattle.safe_texts.proofs.FormedValues.{form_for, found_formed, names6_formed, servers6_formed, value_formed}
 use Rattle.safe_texts.proofs.NumberTexts.{decimal_made, filled}
@@ -74,13 +74,13 @@ told_if_safe stage word (Some value) form among formed = (told_safe stage word v
 
 net_safe : (stage : Stage) (held : Net4) (variable : NetVariable) → IsSafe (net_told stage held variable)
 net_safe stage held net.Address = told_safe stage (net_word net.Address) _ (One grammar.Address4) (0, omega arith, refl) (ip4_made held.ip)
-net_safe stage held net.Length = told_safe stage (net_word net.Length) _ (One Number) (1, omega arith, refl) (decimal_made held.len)
+net_safe stage held net.Length = told_safe stage (net_word net.Length) _ (One (Number 33)) (1, omega arith, refl) (decimal_made held.len)
 net_safe stage held net.Mask = told_safe stage (net_word net.Mask) _ (One grammar.Address4) (2, omega arith, refl) (ip4_made (mask_of held.len))
 
 nets_safe : (stage : Stage) (held : Net4) → AreSafe (net_variables stage held)
 nets_safe stage held = all_mapped (net_told stage held) (net_safe stage held) NET_VARIABLES
 
-option_listed : (variable : OptionVariable) → Contains HELD_FORMS (option_word variable, form_for (form_of (option_code variable)))
+pub option_listed : (variable : OptionVariable) → Contains HELD_FORMS (option_word variable, form_for (form_of (option_code variable)))
 option_listed option.BroadcastAddress = (3, omega arith, refl)
 option_listed option.Routers = (4, omega arith, refl)
 option_listed option.DomainNameServers = (5, omega arith, refl)
@@ -102,7 +102,7 @@ options_safe stage values = all_flat (option_told stage values) (option_safe sta
 
 terms_safe : (stage : Stage) (lease : LeaseContent) → AreSafe (term_variables stage lease)
 terms_safe stage lease = (
-  told_safe stage lease_time_word (decimal lease.lease) (One Number) (12, omega arith, refl) (decimal_made lease.lease),
+  told_safe stage lease_time_word (decimal lease.lease) (One (Number (2 ^ 32))) (12, omega arith, refl) (decimal_made lease.lease),
   (told_safe stage server_word (ip4_text lease.server) (One grammar.Address4) (13, omega arith, refl) (ip4_made lease.server), tt),
 )
 
@@ -113,7 +113,7 @@ lease_safe stage lease =
 
 -- ---- of IPv6
 
-texts_flat : {A : Type 0} (P : List ℕ → Type 0) (f : A → List (List ℕ)) → ((x : A) → AllByRecursion P (f x)) → (xs : List A) → AllByRecursion P (flat_map f xs)
+pub texts_flat : {A : Type 0} (P : List ℕ → Type 0) (f : A → List (List ℕ)) → ((x : A) → AllByRecursion P (f x)) → (xs : List A) → AllByRecursion P (flat_map f xs)
 texts_flat P f each [] = tt
 texts_flat P f each (x ∷ xs) = all_join P (f x) (flat_map f xs) (each x) (texts_flat P f each xs)
 
@@ -128,10 +128,10 @@ prefixes_made Pd items = mapped_all (HasGrammar grammar.Network6) prefix_item (�
 lease6_safe : (stage : Stage) (lease : Lease6Content) (variable : Lease6Variable) → AreSafe (lease6_told stage lease variable)
 lease6_safe stage lease lease6.Addresses =
     told_if_safe stage (lease6_word lease6.Addresses) (lease6_value lease lease6.Addresses) (Several grammar.Address6) (14, omega arith, refl)
-    (texts_listed grammar.Address6 (flat_map ia_addresses lease.ias) (texts_flat (HasGrammar grammar.Address6) ia_addresses (λ ia. addresses_made ia.kind ia.items) lease.ias))
+    (texts_listed (HasGrammar grammar.Address6) (flat_map ia_addresses lease.ias) (texts_flat (HasGrammar grammar.Address6) ia_addresses (λ ia. addresses_made ia.kind ia.items) lease.ias))
 lease6_safe stage lease lease6.Prefixes =
     told_if_safe stage (lease6_word lease6.Prefixes) (lease6_value lease lease6.Prefixes) (Several grammar.Network6) (15, omega arith, refl)
-    (texts_listed grammar.Network6 (flat_map ia_prefixes lease.ias) (texts_flat (HasGrammar grammar.Network6) ia_prefixes (λ ia. prefixes_made ia.kind ia.items) lease.ias))
+    (texts_listed (HasGrammar grammar.Network6) (flat_map ia_prefixes lease.ias) (texts_flat (HasGrammar grammar.Network6) ia_prefixes (λ ia. prefixes_made ia.kind ia.items) lease.ias))
 lease6_safe stage lease lease6.NameServers =
     told_if_safe stage (lease6_word lease6.NameServers) (lease6_value lease lease6.NameServers) (Several grammar.Address6) (16, omega arith, refl)
     (found_formed (HasForm (Several grammar.Address6)) servers6_text servers6_formed (value_in DNS_SERVERS lease.values))
@@ -155,7 +155,7 @@ if_told_safe false stage held = tt
 word_made : (byte : ℕ) (text : List ℕ) → Only is_ascii_alphanumeric (byte ∷ text) → IsMadeOf is_ascii_alphanumeric (byte ∷ text)
 word_made byte text only = record { some = filled byte text; only = only }
 
-reason_made : (reason : Reason) → IsMadeOf is_ascii_alphanumeric (reason_word reason)
+pub reason_made : (reason : Reason) → IsMadeOf is_ascii_alphanumeric (reason_word reason)
 reason_made Preinit = word_made _ _ refl
 reason_made Carrier = word_made _ _ refl
 reason_made NoCarrier = word_made _ _ refl
@@ -178,7 +178,7 @@ reason_made Rebind6 = word_made _ _ refl
 reason_made Expire6 = word_made _ _ refl
 reason_made Delegated6 = word_made _ _ refl
 
-carrier_made : (up : Bool) → IsMadeOf is_ascii_alphanumeric (carrier_word up)
+pub carrier_made : (up : Bool) → IsMadeOf is_ascii_alphanumeric (carrier_word up)
 carrier_made true = word_made _ _ refl
 carrier_made false = word_made _ _ refl
 
@@ -193,9 +193,9 @@ of_job word value form among formed = record {
 module _ (situation : SituationContent) (fits : FitsName situation.interface.name) where
   job_safe : (variable : JobVariable) → IsSafe (job_said situation variable)
   job_safe job.Interface = of_job (job_word job.Interface) (name_text situation.interface.name) (One grammar.InterfaceName) (0, omega arith, refl) fits.spelled
-  job_safe job.Reason = of_job (job_word job.Reason) (reason_word situation.reason) (One Word) (1, omega arith, refl) (reason_made situation.reason)
-  job_safe job.Carrier = of_job (job_word job.Carrier) (carrier_word situation.up) (One Word) (2, omega arith, refl) (carrier_made situation.up)
-  job_safe job.Metric = of_job (job_word job.Metric) (decimal situation.metric) (One Number) (3, omega arith, refl) (decimal_made situation.metric)
+  job_safe job.Reason = of_job (job_word job.Reason) (reason_word situation.reason) (One (OneOf REASONS)) (1, omega arith, refl) (reason_made situation.reason)
+  job_safe job.Carrier = of_job (job_word job.Carrier) (carrier_word situation.up) (One (OneOf (codes "up" ∷ codes "down" ∷ []))) (2, omega arith, refl) (carrier_made situation.up)
+  job_safe job.Metric = of_job (job_word job.Metric) (decimal situation.metric) (One (Number (2 ^ 32))) (3, omega arith, refl) (decimal_made situation.metric)
 
   made_safe : AreSafe (made_variables situation)
   made_safe =

@@ -1,5 +1,5 @@
 -- What has a form is printable.
-use Rattle.std.proofs.Common.{◌≡◌, ℕ, Bool, true, false, cond, ◌&&◌, List, [], ◌∷◌, flat_map, length, Option, Some, None, refl, sym, subst, arith, ltb}
+use Rattle.std.proofs.Common.{◌≡◌, ℕ, Bool, true, false, cond, ◌&&◌, List, [], ◌∷◌, ◌++◌, flat_map, length, Option, Some, None, refl, sym, subst, arith, ltb}
 use Rattle.std.proofs.lemmas.Bool.{and_parts, false≢true}
 use Rattle.std.proofs.lemmas.Bool.Decides.{nat_tests}
 use Rattle.std.specs.Prelude.{IsTrue, is_some}
@@ -14,7 +14,7 @@ use Rattle.domain_names.specs.NameText.{is_name, labels_of}
 use Rattle.domain_names.proofs.Labels.{labels_joined}
 use Rattle.domain_names.proofs.NameBytes.{name_parts}
 use Rattle.hook_env.specs.Lists.{after_blank, listed}
-use Rattle.safe_texts.specs.Grammars.{Form, Grammar, HasForm, HasGrammar, IsListOf, IsMadeOf, One, Several, Word, Number, InterfaceName, DomainName, Address4, Network4, Address6, Network6, is_address4_byte, is_address6_byte, is_network4_byte, is_network6_byte}
+use Rattle.safe_texts.specs.Grammars.{Form, Grammar, HasForm, HasGrammar, IsListOf, IsMadeOf, IsPair, One, Several, OneOf, Number, InterfaceName, DomainName, Address4, Network4, Route4, Address6, Network6, is_address4_byte, is_address6_byte, is_network4_byte, is_network6_byte}
 
 made_printable : (test : ℕ → Bool) (text : List ℕ) → ((b : ℕ) → test b ≡ true → is_printable b ≡ true) → IsMadeOf test text → IsPrintable text
 made_printable test text each made = only_weaker test is_printable text each made.only
@@ -80,15 +80,25 @@ domain_printable text is = by_case (name_of (labels_of text)) refl is
         let parts = name_parts (labels_of text) other e in
         subst IsPrintable (labels_joined [] text) (dotted_printable (labels_of text) parts.1)
 
+-- ---- routes
+
+route_printable : (text : List ℕ) → IsPair (IsMadeOf is_network4_byte) (IsMadeOf is_address4_byte) text → IsPrintable text
+route_printable text is =
+    subst IsPrintable (sym is.parted)
+    (only-append is_printable (is.first ++ 32 ∷ []) is.second
+    (only-append is_printable is.first (32 ∷ []) (made_printable is_network4_byte is.first network4_byte is.is_first) refl)
+    (made_printable is_address4_byte is.second address4_byte is.is_second))
+
 -- ---- forms
 
 grammar_printable : (grammar : Grammar) (text : List ℕ) → HasGrammar grammar text → IsPrintable text
-grammar_printable Word text is = made_printable is_ascii_alphanumeric text word_byte is
-grammar_printable Number text is = made_printable is_ascii_digit text digit_byte is
+grammar_printable (OneOf words) text is = made_printable is_ascii_alphanumeric text word_byte is
+grammar_printable (Number limit) text is = made_printable is_ascii_digit text digit_byte is
 grammar_printable InterfaceName text is = interface_printable text is
 grammar_printable DomainName text is = domain_printable text is
 grammar_printable Address4 text is = made_printable is_address4_byte text address4_byte is
 grammar_printable Network4 text is = made_printable is_network4_byte text network4_byte is
+grammar_printable Route4 text is = route_printable text is
 grammar_printable Address6 text is = made_printable is_address6_byte text address6_byte is
 grammar_printable Network6 text is = made_printable is_network6_byte text network6_byte is
 
@@ -102,7 +112,7 @@ texts_printable grammar [] each = refl
 texts_printable grammar (text ∷ texts) each =
     only-append is_printable text (flat_map after_blank texts) (grammar_printable grammar text each.0) (behind_blanks grammar texts each.1)
 
-list_printable : (grammar : Grammar) (value : List ℕ) → IsListOf grammar value → IsPrintable value
+list_printable : (grammar : Grammar) (value : List ℕ) → IsListOf (HasGrammar grammar) value → IsPrintable value
 list_printable grammar value is = subst IsPrintable (sym is.listed) (texts_printable grammar is.texts is.each)
 
 pub form_printable : (form : Form) (value : List ℕ) → HasForm form value → IsPrintable value

@@ -1,5 +1,5 @@
--- Which variables a hook is given of an event, and what their values are made of (dhcpcd-run-hooks(8)).
-use Rattle.std.specs.Prelude.{ℕ, List, [], ◌∷◌, ◌++◌, codes}
+-- Which variables a hook is given of an event, their forms, and that the values are made of the bytes of these (dhcpcd-run-hooks(8)).
+use Rattle.std.specs.Prelude.{ℕ, ◌^◌, List, [], ◌∷◌, ◌++◌, codes}
 use Rattle.std.specs.List.{AllByRecursion, Contains}
 use Rattle.net_types.specs.Marks.{IsPrintable}
 use Rattle.net_types.specs.NameText.{FitsName}
@@ -8,22 +8,30 @@ use Rattle.hook_env.specs.declared.situation.Stage.{Stage}
 use Rattle.hook_env.specs.Jobs.{made_variables}
 use Rattle.hook_env.specs.Situations.{SituationContent}
 use Rattle.hook_env.specs.Stages.{prefix}
-use Rattle.safe_texts.specs.Grammars.{Form, HasForm, One, Several, Word, Number, InterfaceName, DomainName, Address4, Network4, Address6, Network6}
+use Rattle.safe_texts.specs.Grammars.{Form, HasForm, One, Several, OneOf, Number, InterfaceName, DomainName, Address4, Route4, Address6, Network6}
+
+-- the reasons of jobs
+abbrev pub REASONS : List (List ℕ)
+REASONS =
+    codes "PREINIT" ∷ codes "CARRIER" ∷ codes "NOCARRIER" ∷ codes "STATIC" ∷ codes "BOUND" ∷ codes "REBOOT" ∷ codes "RENEW"
+    ∷ codes "REBIND" ∷ codes "NAK" ∷ codes "EXPIRE" ∷ codes "TIMEOUT" ∷ codes "IPV4LL" ∷ codes "STOP" ∷ codes "STOP6"
+    ∷ codes "STOPPED" ∷ codes "BOUND6" ∷ codes "REBOOT6" ∷ codes "RENEW6" ∷ codes "REBIND6" ∷ codes "EXPIRE6"
+    ∷ codes "DELEGATED6" ∷ []
 
 -- of the interface and the event
 abbrev pub JOB_FORMS : List (List ℕ × Form)
 JOB_FORMS =
     (codes "interface", One InterfaceName)
-    ∷ (codes "reason", One Word)
-    ∷ (codes "ifcarrier", One Word)
-    ∷ (codes "ifmetric", One Number)
+    ∷ (codes "reason", One (OneOf REASONS))
+    ∷ (codes "ifcarrier", One (OneOf (codes "up" ∷ codes "down" ∷ [])))
+    ∷ (codes "ifmetric", One (Number (2 ^ 32)))
     ∷ []
 
 -- of what was held, with `old_` before the name, and of what is held, with `new_`
 abbrev pub HELD_FORMS : List (List ℕ × Form)
 HELD_FORMS =
     (codes "ip_address", One Address4)
-    ∷ (codes "subnet_cidr", One Number)
+    ∷ (codes "subnet_cidr", One (Number 33))
     ∷ (codes "subnet_mask", One Address4)
     ∷ (codes "broadcast_address", One Address4)
     ∷ (codes "routers", Several Address4)
@@ -31,10 +39,10 @@ HELD_FORMS =
     ∷ (codes "domain_name", One DomainName)
     ∷ (codes "domain_search", Several DomainName)
     ∷ (codes "host_name", One DomainName)
-    ∷ (codes "interface_mtu", One Number)
+    ∷ (codes "interface_mtu", One (Number (2 ^ 16)))
     ∷ (codes "ntp_servers", Several Address4)
-    ∷ (codes "classless_static_routes", Several Network4)
-    ∷ (codes "dhcp_lease_time", One Number)
+    ∷ (codes "classless_static_routes", Several Route4)
+    ∷ (codes "dhcp_lease_time", One (Number (2 ^ 32)))
     ∷ (codes "dhcp_server_identifier", One Address4)
     ∷ (codes "dhcp6_addresses", Several Address6)
     ∷ (codes "dhcp6_prefixes", Several Network6)
@@ -48,7 +56,7 @@ pub data IsNamed : (name : List ℕ) → Form → Type 0 where
   OfJob : (word : List ℕ) (form : Form) → Contains JOB_FORMS (word, form) → IsNamed word form
   OfHeld : (stage : Stage) (word : List ℕ) (form : Form) → Contains HELD_FORMS (word, form) → IsNamed (prefix stage ++ word) form
 
--- The name is one of these, and the value is of its form: it has no control character, and no byte past ASCII.
+-- The name is one of these, and the value is made of the bytes of its form: it has no control character, and no byte past ASCII.
 pub record IsSafe (variable : Variable) : Type 0 where
   pub form : Form
   pub named : IsNamed variable.name form

@@ -1,6 +1,7 @@
 //! These functions do nothing: their contracts are the laws.
 ghost use Rattle.safe_texts.specs.SafeJobs.{LifeJobsAreSafe, OpeningJobsAreSafe, TurnJobsAreSafe};
 ghost use Rattle.safe_texts.specs.SafeVariables.{MadeVariablesAreSafe};
+ghost use Rattle.safe_texts.specs.ExactVariables.{ExactVariablesAreSafe, MadeVariablesAreExact};
 ghost use Rattle.safe_texts.specs.ConfiguredTexts.{ConfiguredLivesAreLives, ConfiguredTextsAreSafe, VariablesArePrintable};
 ghost use Rattle.safe_texts.specs.ResolverLines.{WantedLinesAreSafe, WrittenLinesAreSafe};
 
@@ -12,6 +13,15 @@ pub fn job_variables_are_safe()
     ensures opening { OpeningJobsAreSafe }
     ensures turn { TurnJobsAreSafe }
     ensures life { LifeJobsAreSafe }
+{}
+
+/// Law of a hook's job: where the lease that is held has a text, as each has that is granted or read, or an address and its length are such,
+/// each value that is made of an event is what its form says: an address reads as one, a number is below its limit (a length of 32, an
+/// MTU of 65,535, a time or metric of 32 bits), a name is one, and a reason is one of those of dhcpcd-run-hooks(8). That is more than the
+/// law above says of every event.
+pub fn job_variables_are_exact()
+    ensures exact { MadeVariablesAreExact }
+    ensures safe { ExactVariablesAreSafe }
 {}
 
 /// Law of the resolver's file: over every life it is to be lines of names to search in and of addresses, and nothing else; and so is
