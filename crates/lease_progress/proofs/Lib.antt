@@ -1,0 +1,4 @@
+pub mod Lived
+pub mod ClientTurns
+pub mod Shown
+pub mod Pending
