@@ -28,7 +28,7 @@ use Rattle.lease_progress.specs.Serving.{Answered, AnsweredBy, Serves, asks, gra
 
 -- By a moment that is over one of some turns answered, and none of those before did: the last one did, and in time.
 module _ (limit : ℕ) (good : Entry → Bool) (f : Entry) where
-  none_did : (later : List Entry) → list_any good later ≡ false → list_any (λ e. nat_le e.moment limit && good e) later ≡ false
+  pub none_did : (later : List Entry) → list_any good later ≡ false → list_any (λ e. nat_le e.moment limit && good e) later ≡ false
   none_did [] h = refl
   none_did (e ∷ later) h = by (good e) (list_any good later) (nat_le e.moment limit) h (none_did later)
     where
