@@ -11,7 +11,7 @@ use Rattle.ipv4ll.specs.Table.{ll_hears, ll_tick}
 use Rattle.v4_frames.specs.Heard.{HeardMessage, heard4_in}
 use Rattle.v4_frames.specs.InRange.{FitsMac}
 use Rattle.v6_frames.specs.Heard.{HeardMessage6, heard6_in}
-use Rattle.v6_client.specs.Runs.{Turned6, contested_turned, hears_turned, rebind_turned, tick_turned}
+use Rattle.v6_client.specs.Runs.{contested_turned, hears_turned, rebind_turned, tick_turned}
 use Rattle.v4_client.specs.declared.states.Step4.{Step4}
 use Rattle.v4_client.specs.Calls.{arp_step, brought, heard_step, rebind_step}
 use Rattle.v4_client.specs.Clients.{ClientContent, turn_of}
@@ -26,7 +26,7 @@ use Rattle.client_model.specs.declared.interfaces.Iface.{Iface}
 use Rattle.client_model.specs.Messages.{Said, Arp}
 use Rattle.client_model.specs.ClientSettings.{runs_dhcp4}
 use Rattle.client_model.specs.ClientSettings6.{runs_dhcp6}
-use Rattle.client_model.specs.Dhcp4Steps.{arms, arrival_at, begin_local, dhcp4_step, holds_lease, rebind_dhcp4, said_in}
+use Rattle.client_model.specs.Dhcp4Steps.{arms, arrival_at, begin_local, dhcp4_step, holds_lease, said_in}
 use Rattle.client_model.specs.Dhcp6Steps.{dhcp6_step, rebind_dhcp6, said6_in}
 use Rattle.client_model.specs.IfaceSteps.{IfaceStep, Report, silent, then_step}
 use Rattle.client_model.specs.IfaceTurns.{Turn, arp_heard, hears_either, hears_message6, iface_turned, input_step}

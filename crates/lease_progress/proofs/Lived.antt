@@ -17,22 +17,21 @@ use Rattle.client_model.specs.Messages.{Said}
 use Rattle.client_model.specs.ClientSettings.{ask_of}
 use Rattle.client_model.specs.Clients.{frame_of}
 use Rattle.client_model.specs.Fitting.{FitsBeginning}
-use Rattle.client_model.specs.IfaceSteps.{index_of}
 use Rattle.client_model.specs.IfaceTurns.{iface_turned}
 use Rattle.client_model.specs.KeptLeases.{Beginning}
 use Rattle.client_model.proofs.SameInterfaces.{opened_same, turned_same}
 use Rattle.v4_message.specs.Requests.{AskContent}
 use Rattle.evidence_words.specs.Entries.{Entry, Offer}
-use Rattle.evidence_words.specs.Inputs.{Site, GoesOn, StaysOn, carrier_after, has_carrier, index_at, is_stop, is_stopped, offers_at}
+use Rattle.evidence_words.specs.Inputs.{Site, GoesOn, carrier_after, has_carrier, index_at, is_stop, is_stopped, offers_at}
 use Rattle.evidence_words.proofs.Offers.{Offered}
-use Rattle.evidence_words.specs.IfaceLives.{Opening, Met, site_of, opening_entry, entry_of, shown, opens, iface_after, failed_last, has_failed, IsLived, now_in}
+use Rattle.evidence_words.specs.IfaceLives.{Opening, Met, site_of, opening_entry, entry_of, shown, opens, iface_after, failed_last, IsLived, now_in}
 use Rattle.lease_evidence.specs.HeldLeases.{KeepsTyped}
 use Rattle.lease_evidence.proofs.Carrying.{Carries, clean_carries}
 use Rattle.lease_evidence.proofs.LeasedInputs.{Turned}
 use Rattle.lease_evidence.proofs.LeasedTurns.{opens_leased, turn_leased}
 use Rattle.lease_evidence.proofs.Spoken.{FitsSaid}
 use Rattle.lease_evidence.proofs.Watching.{AnyTerms, Lasts}
-use Rattle.lease_progress.specs.FairTurns.{Fair, GoesWell}
+use Rattle.lease_progress.specs.FairTurns.{Fair}
 use Rattle.lease_progress.specs.Serving.{Answered}
 
 -- ---- the frames of what was said

@@ -18,7 +18,6 @@ use Rattle.v4_client.specs.declared.states.State4.TheVariants.{Off, Init, Select
 use Rattle.v4_client.specs.Moments.{expiry, standing_until}
 use Rattle.evidence_words.specs.Entries.{Entry}
 use Rattle.evidence_words.specs.Inputs.{Site}
-use Rattle.evidence_words.specs.IfaceLives.{now_in}
 use Rattle.lease_evidence.specs.Exchanges.{Numbered, messages_at, seen_in}
 use Rattle.lease_progress.specs.FairTurns.{probing}
 use Rattle.lease_progress.specs.LeaseHeld.{least_asking}

@@ -1,10 +1,9 @@
 -- A tick keeps what is pending.
-use Rattle.std.proofs.Common.{◌≡◌, ℕ, ◌+◌, ◌-◌, ◌*◌, ◌<◌, ◌≤◌, ◌==◌, ◌%◌, max, min, Bool, true, false, nat_le, nat_lt, nat_eq, List, [], ◌∷◌, ◌++◌, Option, Some, None, refl, sym, ap, subst, ◌∙◌, arith, if◌then◌else◌}
+use Rattle.std.proofs.Common.{◌≡◌, ℕ, ◌+◌, ◌<◌, ◌≤◌, ◌==◌, ◌%◌, max, min, Bool, true, false, nat_le, nat_lt, nat_eq, List, [], ◌∷◌, Option, Some, None, refl, arith, if◌then◌else◌}
 use Rattle.std.proofs.lemmas.Bool.Decides.{nat_tests}
 use Rattle.std.specs.List.{list_any}
 use Rattle.machine.specs.Draw.{draw_of}
 use Rattle.machine.specs.Moment.{is_due}
-use Rattle.net_types.proofs.CaseLaws.{split}
 use Rattle.net_types.specs.declared.address.Ip4.{Ip4}
 use Rattle.net_types.specs.declared.interface.IfIndex.{IfIndex}
 use Rattle.net_types.specs.declared.interface.Name.{Name}
@@ -33,7 +32,7 @@ use Rattle.v4_client.specs.Due.{due_of}
 use Rattle.v4_client.specs.Moments.{doubled, earlier, expiry, standing_until}
 use Rattle.v4_client.specs.Moves.{kept_after}
 use Rattle.v4_client.specs.Saying.{sent_of}
-use Rattle.v4_client.specs.Steps.{discovers, expires, new_xid, rebooting, rests, selecting, to_init}
+use Rattle.v4_client.specs.Steps.{discovers, expires, new_xid, rebooting, rests, selecting}
 use Rattle.v4_client.specs.Ticks.{checking_tick, rebooting_tick, requesting_tick, tick_row}
 use Rattle.evidence_words.specs.Entries.{Entry}
 use Rattle.evidence_words.specs.Inputs.{Site}
@@ -41,8 +40,8 @@ use Rattle.lease_evidence.specs.Exchanges.{messages_at}
 use Rattle.lease_progress.specs.FairTurns.{probing}
 use Rattle.lease_progress.specs.LeaseHeld.{least_asking}
 use Rattle.lease_progress.specs.Prompt.{NotAfter}
-use Rattle.lease_progress.specs.Serving.{Answered, Serves, grants, offers, seeks}
-use Rattle.lease_progress.proofs.Pending.{Again, AgainNow, Amid, Asked, AskedNow, BoundNow, Checks, Pending, Sought, SoughtNow, Waits, asks_longer, asks_on, left_after, left_in, seeks_on}
+use Rattle.lease_progress.specs.Serving.{Answered, Serves, seeks}
+use Rattle.lease_progress.proofs.Pending.{Again, AgainNow, Amid, Asked, AskedNow, Checks, Pending, Sought, Waits, asks_longer, asks_on, left_after, left_in, seeks_on}
 
 -- ---- moments
 

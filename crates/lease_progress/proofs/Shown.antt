@@ -1,8 +1,7 @@
 -- What a turn shows of the messages that are said in it.
-use Rattle.std.proofs.Common.{◌≡◌, ℕ, Bool, true, false, ◌||◌, List, [], ◌∷◌, ◌++◌, map, Option, Some, None, refl, sym, ap, subst, ◌∙◌}
+use Rattle.std.proofs.Common.{◌≡◌, Bool, true, false, ◌||◌, List, [], ◌∷◌, ◌++◌, map, Option, Some, refl, sym, ap, subst, ◌∙◌}
 use Rattle.std.specs.Prelude.{option_to_list}
 use Rattle.std.specs.List.{list_any, AllByRecursion}
-use Rattle.arp_acd.specs.declared.detection.ArpSay.{ArpSay}
 use Rattle.v4_message.specs.Requests.{AskFits}
 use Rattle.v4_frames.specs.declared.sent.Sent4.{Sent4}
 use Rattle.v4_frames.specs.InRange.{FitsMac}
