@@ -1,0 +1,5 @@
+pub mod Prompt
+pub mod Serving
+pub mod FairTurns
+pub mod LeaseHeld
+pub mod LeaseStays
