@@ -1,0 +1,6 @@
+mod Lives
+mod TurnParts
+mod Asking
+mod Carrying
+mod Moments
+mod Ticking
