@@ -1,11 +1,17 @@
 -- What was asked, one after another.
-use Rattle.std.proofs.Common.{ℕ, ◌≡◌, List, [], ◌∷◌, ◌++◌, Option, Some, None, refl, sym, ap, subst, ◌∙◌, append_assoc, append-nil}
-use Rattle.std.specs.Prelude.{flat_map, IfSome, option_map}
+use Rattle.std.proofs.Common.{ℕ, ◌≡◌, ◌≤◌, ◌+◌, Bool, cond, List, [], ◌∷◌, ◌++◌, Option, Some, None, refl, sym, ap, subst, ◌∙◌, append_assoc, append-nil, arith}
+use Rattle.std.specs.Prelude.{flat_map, count_by, IfSome, option_map}
 use Rattle.std.proofs.lemmas.List.Concat.{flat_map-append}
+use Rattle.std.proofs.lemmas.List.Sums.{sum_by-append}
+use Rattle.world.specs.StoreFails.{StoreFails}
+use Rattle.world.specs.StoreCalls.{StoreCall, StoreTold}
+use Rattle.file_choices.specs.StoreWalks.{Answered}
+use Rattle.file_choices.proofs.Walking.{answered_more}
 use Rattle.device_calls.specs.Calls.{Ask, AnswerTo, Call, made, link_call, host_call, store_call, hook_call}
 use Rattle.device_calls.specs.CallLines.{lines_of}
 use Rattle.device_calls.specs.Programs.{Asks, Done, Then, after}
 use Rattle.device_calls.specs.Worlds.{Device, Seen, World, Ran, world_of, run, answer_to, world_with, asked_first}
+use Rattle.device_calls.specs.Faults.{failed_send, failed_host_call, failed_store_call, failed_hook_call, CountsFailed, CountsEach}
 use Rattle.device_calls.specs.Telling.{Adds, TellsCalls, Tells}
 use Rattle.device_calls.specs.Does.{One, IsRun, Did, Does}
 use Rattle.device_calls.specs.Printing.{Prints}
@@ -24,14 +30,58 @@ adds_then (Some old) None new a b p q = absurd p
 adds_then (Some old) (Some mid) None a b p q = absurd q
 adds_then {C} (Some old) (Some mid) (Some new) a b p q = q ∙ ap (λ (cs : List C). cs ++ b) p ∙ append_assoc old a b
 
+pub answered_none : (failing : Option StoreFails) (told : Option StoreTold) → Answered failing [] told told
+answered_none failing None = refl
+answered_none failing (Some told) = (told, refl, refl)
+
+pub counts_none : {C : Type 0} (failed : C → Bool) (count : ℕ) → CountsFailed failed [] count count
+counts_none failed count = omega arith
+
+pub counts_nothing : (seen : Seen) → CountsEach seen seen []
+counts_nothing seen = record {
+  sends = counts_none failed_send seen.link.faults;
+  host = counts_none failed_host_call seen.host.faults;
+  store = counts_none failed_store_call seen.store.faults;
+  hooks = counts_none failed_hook_call seen.hooks.faults;
+}
+
 pub tells_none : (seen : Seen) → Tells seen seen []
-tells_none seen = record { link = adds_none _; host = adds_none _; store = adds_none _; hooks = adds_none _; begins = refl }
+tells_none seen = record {
+  link = adds_none _;
+  host = adds_none _;
+  store = adds_none _;
+  hooks = adds_none _;
+  begins = refl;
+  answers = answered_none seen.store.failing seen.store.told;
+  failing = refl;
+  counts = counts_nothing seen;
+}
 
 both_tell : {T F C : Type 0} (calls_in : T → List C) (own : Call → List C) (old mid new : Device T F) (a b : List Call)
     → TellsCalls calls_in old mid (flat_map own a) → TellsCalls calls_in mid new (flat_map own b) → TellsCalls calls_in old new (flat_map own (a ++ b))
 both_tell {T} {F} {C} calls_in own old mid new a b p q =
     subst (λ (cs : List C). TellsCalls calls_in old new cs) (sym (flat_map-append own a b))
     (adds_then (option_map calls_in old.told) (option_map calls_in mid.told) (option_map calls_in new.told) (flat_map own a) (flat_map own b) p q)
+
+both_counted : {C : Type 0} (failed : C → Bool) (xs ys : List C) (old mid new : ℕ) → old + count_by failed xs ≤ mid → mid + count_by failed ys ≤ new
+    → old + count_by failed (xs ++ ys) ≤ new
+both_counted failed xs ys old mid new p q =
+    let both : count_by failed (xs ++ ys) ≡ count_by failed xs + count_by failed ys = sum_by-append (λ x. cond (failed x) 1 0) xs ys in
+    omega (arith, both, p, q)
+
+both_count : {C : Type 0} (failed : C → Bool) (own : Call → List C) (a b : List Call) (old mid new : ℕ)
+    → CountsFailed failed (flat_map own a) old mid → CountsFailed failed (flat_map own b) mid new → CountsFailed failed (flat_map own (a ++ b)) old new
+both_count {C} failed own a b old mid new p q =
+    subst (λ (cs : List C). CountsFailed failed cs old new) (sym (flat_map-append own a b))
+    (both_counted failed (flat_map own a) (flat_map own b) old mid new p q)
+
+pub counts_then : (old mid new : Seen) (a b : List Call) → CountsEach old mid a → CountsEach mid new b → CountsEach old new (a ++ b)
+counts_then old mid new a b p q = record {
+  sends = both_count failed_send link_call a b old.link.faults mid.link.faults new.link.faults p.sends q.sends;
+  host = both_count failed_host_call host_call a b old.host.faults mid.host.faults new.host.faults p.host q.host;
+  store = both_count failed_store_call store_call a b old.store.faults mid.store.faults new.store.faults p.store q.store;
+  hooks = both_count failed_hook_call hook_call a b old.hooks.faults mid.hooks.faults new.hooks.faults p.hooks q.hooks;
+}
 
 pub tells_then : (old mid new : Seen) (a b : List Call) → Tells old mid a → Tells mid new b → Tells old new (a ++ b)
 tells_then old mid new a b p q = record {
@@ -40,6 +90,11 @@ tells_then old mid new a b p q = record {
   store = both_tell (λ told. told.calls) store_call old.store mid.store new.store a b p.store q.store;
   hooks = both_tell (λ told. told.calls) hook_call old.hooks mid.hooks new.hooks a b p.hooks q.hooks;
   begins = q.begins ∙ p.begins;
+  answers = subst (λ (calls : List StoreCall). Answered old.store.failing calls old.store.told new.store.told) (sym (flat_map-append store_call a b))
+      (answered_more old.store.failing mid.store.failing (flat_map store_call a) (flat_map store_call b) old.store.told mid.store.told new.store.told
+      p.failing p.answers q.answers);
+  failing = q.failing ∙ p.failing;
+  counts = counts_then old mid new a b p.counts q.counts;
 }
 
 -- ---- where all tell

@@ -2,6 +2,7 @@ pub mod Calls
 pub mod CallLines
 pub mod Programs
 pub mod Worlds
+pub mod Faults
 pub mod Telling
 pub mod Printing
 pub mod Does

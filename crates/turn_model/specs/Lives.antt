@@ -60,10 +60,10 @@ abbrev pub turns_calls : Life → List Met → List Call
 turns_calls from [] = []
 turns_calls from (met ∷ mets) = turn_calls from met ++ turns_calls met.life mets
 
--- A life ends where the five seconds after a stop are over, or with a wait that gave no more.
+-- A life ends where the five seconds after a stop are over, or before that with a wait that gave no more.
 abbrev pub IsLast : Life → List Call → Type 0
 IsLast life [] = is_over life ≡ true
-IsLast life (Link (Waited asked (Some given)) ∷ []) = (asked ≡ until life) × (is_end given.wake.event ≡ true)
+IsLast life (Link (Waited asked (Some given)) ∷ []) = (is_over life ≡ false) × (asked ≡ until life) × (is_end given.wake.event ≡ true)
 IsLast life other = ⊥
 
 -- ---- the lines
