@@ -1,6 +1,9 @@
-mod Lives
-mod TurnParts
 mod Asking
 mod Carrying
+mod Hearing
+mod Keeping
+mod Lives
 mod Moments
 mod Ticking
+mod TurnParts
+mod Turning

@@ -50,6 +50,7 @@ module _ (spec : IfSpec) (ask : AskContent) (clean : Type 0) where
 
   pub offered : (said : List Said) (offers : List Offer) → map (λ o. o.bytes) offers ≡ map (frame_of spec ask) said
       → (clean → list_any (λ o. not o.taken) offers ≡ false) → Offered spec ask clean said offers
+  unfolding first_of rest_of
   offered [] [] same none = tt
   offered [] (o ∷ offers) same none = absurd cc
   offered (say ∷ said) [] same none = absurd cc

@@ -46,11 +46,12 @@ pub renews_now : (endless : Bool) (renews rebinds ends last at gap : ℕ) → re
 renews_now true renews rebinds ends last at gap le ahead before prompt = record { lasts = refl; early = refl; ahead = tt; enough = tt }
 renews_now false renews rebinds ends last at gap le ahead before prompt =
     let now : at ≤ renews = before_it renews last at prompt ahead in
+    let soon : renews + gap < rebinds = before in
     record {
-      lasts = not_come ends at (omega (arith, now, before, le));
-      early = not_come rebinds at (omega (arith, now, before));
+      lasts = not_come ends at (omega (arith, now, soon, le));
+      early = not_come rebinds at (omega (arith, now, soon));
       ahead = now;
-      enough = omega (arith, now, before);
+      enough = omega (arith, now, soon);
     }
 
 -- no later than T2, and servers that answer broadcasts alone are asked then
@@ -65,11 +66,8 @@ pub rebinds_now : (endless : Bool) (asked rebinds ends last at gap : ℕ) → If
 rebinds_now true asked rebinds ends last at gap le ahead before prompt = record { lasts = refl; ahead = tt; enough = tt }
 rebinds_now false asked rebinds ends last at gap le ahead before prompt =
     let now : at ≤ rebinds = between asked rebinds last at le ahead (prompt refl) in
-    record {
-      lasts = not_come ends at (omega (arith, now, before));
-      ahead = now;
-      enough = omega (arith, now, before);
-    }
+    let soon : rebinds + gap < ends = before in
+    record { lasts = not_come ends at (omega (arith, now, soon)); ahead = now; enough = omega (arith, now, soon) }
   where
     between : (asked rebinds last at : ℕ) → asked ≤ rebinds → last ≤ rebinds → at ≤ max asked last → at ≤ rebinds
     between asked rebinds last at a b h = grind arith
@@ -92,7 +90,8 @@ pub awaits_now : (endless : Bool) (by needed ends at : ℕ) → needed ≤ ends 
     → AwaitsNow endless needed ends at
 awaits_now true by needed ends at le enough h = record { lasts = refl; early = refl }
 awaits_now false by needed ends at le enough h =
-    record { lasts = not_come ends at (omega (arith, le, enough, h)); early = not_come needed at (omega (arith, enough, h)) }
+    let soon : by < needed = enough in
+    record { lasts = not_come ends at (omega (arith, le, soon, h)); early = not_come needed at (omega (arith, soon, h)) }
 
 -- ---- the end of the probing
 

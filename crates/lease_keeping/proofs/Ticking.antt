@@ -1,5 +1,5 @@
 -- A tick in time keeps what a client carries.
-use Rattle.std.proofs.Common.{◌≡◌, ℕ, ◌+◌, ◌*◌, ◌<◌, ◌≤◌, ◌&&◌, ◌==◌, inl, inr, Bool, true, false, List, Option, Some, None, IfSome, eqb, nat_le, nat_lt, refl, ap, ◌∙◌, subst, arith, if◌then◌else◌}
+use Rattle.std.proofs.Common.{◌≡◌, ℕ, ◌+◌, ◌*◌, ◌<◌, ◌≤◌, ◌&&◌, ◌==◌, inl, inr, Bool, true, false, List, Option, Some, None, IfSome, eqb, nat_le, nat_lt, refl, sym, ap, ◌∙◌, subst, arith, if◌then◌else◌}
 use Rattle.std.proofs.lemmas.Bool.Decides.{nat_tests}
 use Rattle.machine.specs.Moment.{is_due}
 use Rattle.net_types.proofs.CaseLaws.{split, gated}
@@ -15,6 +15,9 @@ use Rattle.arp_acd.proofs.Standing.{mk}
 use Rattle.lease_text.specs.Bounds.{FitsTerms}
 use Rattle.lease_text.specs.declared.lease.TheConstants.{INFINITE_LEASE}
 use Rattle.lease_text.specs.declared.lease.Terms4.{Terms4}
+use Rattle.v4_message.specs.declared.writing.Kind4.{Kind4}
+use Rattle.v4_message.specs.declared.writing.Kind4.TheVariants.{Request}
+use Rattle.v4_frames.specs.declared.sent.Sent4.{Sent4}
 use Rattle.v4_client.specs.declared.moments.TheConstants.{SECOND}
 use Rattle.v4_client.specs.declared.moments.Backoff.{Backoff}
 use Rattle.v4_client.specs.declared.states.Exchange4.{Exchange4}
@@ -26,15 +29,16 @@ use Rattle.v4_client.specs.declared.states.Turn4.{Turn4}
 use Rattle.v4_client.specs.Detection.{checked, defended, with_acd}
 use Rattle.v4_client.specs.Due.{acd_due, due_of}
 use Rattle.v4_client.specs.Moments.{earlier, expiry, renewal_at, rebinding_at, standing_until, doubled}
+use Rattle.v4_client.specs.Saying.{rebinding_request, renewing_request, sent_of}
 use Rattle.v4_client.specs.Sound.{FitsState}
-use Rattle.v4_client.specs.Steps.{rests, to_init, discovers, expires, requesting, rebooting, new_exchange, renewing, rebinding}
+use Rattle.v4_client.specs.Steps.{rests, to_init, discovers, expires, requesting, rebooting, new_exchange, new_xid, renewing, rebinding}
 use Rattle.v4_client.specs.Ticks.{bound_tick, checking_tick, detects, falls, rebinding_tick, renewing_tick, is_longest, tick_row}
 use Rattle.evidence_words.specs.Entries.{Entry}
 use Rattle.evidence_words.specs.Inputs.{Site}
 use Rattle.lease_evidence.proofs.Watching.{message_in}
 use Rattle.lease_progress.specs.LeaseStays.{IsBefore, asked_at, needed_by}
 use Rattle.lease_progress.specs.Prompt.{NotAfter}
-use Rattle.lease_progress.specs.Serving.{Answered, EachRequest, BroadcastAlone, asks}
+use Rattle.lease_progress.specs.Serving.{Answered, EachRequest, BroadcastAlone, asks, is_answered, is_request}
 use Rattle.lease_keeping.proofs.Asking.{AskedIn}
 use Rattle.lease_keeping.proofs.Carrying.{Probed, EndsBy, Pends, DetectsIp, Ahead, Awaits, WhileRenewing, WhileRebinding, Keeps, Amid}
 use Rattle.lease_keeping.proofs.Moments.{sooner, before_it, RenewsNow, renews_now, RebindsNow, rebinds_now, renews_first, finite, AwaitsNow, awaits_now, next, fewer, probe_more, over}
@@ -113,8 +117,15 @@ tick_probes i a Over (Some end) last at salt prompt h = absurd h
 
 -- ---- the rows
 
-same_xid : (xid : ℕ) → (xid == xid) ≡ true
-same_xid xid = grind (arith, nat_tests)
+-- a REQUEST asks in its own exchange
+asks_itself : (which : Answered) (xid : ℕ) (sent : Sent4) → sent.said.kind ≡ Request → sent.said.xid ≡ xid → is_answered which sent ≡ true
+    → asks which xid (Some sent) ≡ true
+asks_itself which xid sent kind same answers =
+    subst (λ (k : Kind4). (is_request k && (sent.said.xid == xid) && is_answered which sent) ≡ true) (sym kind)
+    (subst (λ (b : Bool). (b && is_answered which sent) ≡ true) (sym (equal sent.said.xid xid same)) answers)
+  where
+    equal : (a b : ℕ) → a ≡ b → (a == b) ≡ true
+    equal a b e = grind (arith, nat_tests)
 
 module _ (site : Site) (answered : Answered) (wait : ℕ) (free : Type 0) (past : List Entry) (last : ℕ) (turn : Turn4)
     (then_by : (exchange : Exchange4) → AskedIn site answered exchange past → turn.at ≤ exchange.first + wait) where
@@ -220,6 +231,13 @@ module _ (site : Site) (wait : ℕ) (free : Type 0) (past : List Entry) (last : 
   abbrev Kept : Answered → State4 → Type 0
   Kept answered state = Keeps site answered wait free past last state
 
+  -- the REQUESTs that are said now
+  renewal_asks : (terms : Terms4) → asks EachRequest (new_xid turn) (Some (sent_of (renewing_request turn.site terms (new_xid turn)))) ≡ true
+  renewal_asks terms = asks_itself EachRequest (new_xid turn) (sent_of (renewing_request turn.site terms (new_xid turn))) refl refl refl
+
+  rebinding_asks : (terms : Terms4) → asks BroadcastAlone (new_xid turn) (Some (sent_of (rebinding_request turn.site terms (new_xid turn)))) ≡ true
+  rebinding_asks terms = asks_itself BroadcastAlone (new_xid turn) (sent_of (rebinding_request turn.site terms (new_xid turn))) refl refl refl
+
   -- ---- Bound
 
   bound_row : (answered : Answered) → ThenBy answered → (xid : ℕ) (terms : Terms4) (acd : Option Acd) → FitsTerms terms
@@ -230,14 +248,14 @@ module _ (site : Site) (wait : ℕ) (free : Type 0) (past : List Entry) (last : 
       let early : is_due (rebinding_at terms) turn.at ≡ false = n.early in
       let on : Ahead site EachRequest wait turn.at terms = record { ahead = n.ahead; enough = h.1.enough } in
       rw lasts (rw early (gated (AfterFor EachRequest) (is_due (renewal_at terms) turn.at) _ _
-      (h.0, refl, record { asked = inr (rw (same_xid (new_exchange turn terms.net.ip).xid) refl, refl); enough = n.enough })
+      (h.0, refl, record { asked = inr (renewal_asks terms, refl); enough = n.enough })
       (detecting site EachRequest wait free past last turn then_by xid terms (Bound xid terms acd) acd h.0 (λ next addr. (addr, on)) (h.0, on))))
   bound_row BroadcastAlone then_by xid terms acd fits prompt h =
       let n = bound_broadcast terms fits last turn.at wait site h.1 prompt in
       let lasts : is_due (expiry terms) turn.at ≡ false = n.lasts in
       let on : Ahead site BroadcastAlone wait turn.at terms = record { ahead = n.ahead; enough = h.1.enough } in
       rw lasts (gated (AfterFor BroadcastAlone) (is_due (rebinding_at terms) turn.at) _ _
-      (h.0, refl, record { asked = inr (rw (same_xid (new_exchange turn terms.net.ip).xid) refl, refl); enough = n.enough })
+      (h.0, refl, record { asked = inr (rebinding_asks terms, refl); enough = n.enough })
       (gated (AfterFor BroadcastAlone) (is_due (renewal_at terms) turn.at) _ _ (h.0, refl, on)
       (detecting site BroadcastAlone wait free past last turn then_by xid terms (Bound xid terms acd) acd h.0 (λ next addr. (addr, on)) (h.0, on))))
 
@@ -266,7 +284,7 @@ module _ (site : Site) (wait : ℕ) (free : Type 0) (past : List Entry) (last : 
       let lasts : is_due (expiry terms) turn.at ≡ false = n.lasts in
       let on : Ahead site BroadcastAlone wait turn.at terms = record { ahead = n.ahead; enough = h.2.enough } in
       rw lasts (gated (AfterFor BroadcastAlone) (is_due (rebinding_at terms) turn.at) _ _
-      (h.0, refl, record { asked = inr (rw (same_xid (new_exchange turn terms.net.ip).xid) refl, refl); enough = n.enough })
+      (h.0, refl, record { asked = inr (rebinding_asks terms, refl); enough = n.enough })
       (gated (AfterFor BroadcastAlone) (nat_le due turn.at) _ _ (h.0, h.1, on)
       (detecting site BroadcastAlone wait free past last turn then_by exchange.xid terms (Renewing exchange terms acd due) acd h.0
       (λ next addr. (addr, h.1, on)) (h.0, h.1, on))))
