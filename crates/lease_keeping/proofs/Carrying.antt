@@ -1,5 +1,5 @@
 -- What a client carries of the turns shown while it acquires a lease and keeps it, state by state.
-use Rattle.std.proofs.Common.{◌≡◌, ℕ, ◌+◌, ◌*◌, ◌<◌, ◌≤◌, ◌⊎◌, Bool, true, List, Option, Some, None, IfSome, refl}
+use Rattle.std.proofs.Common.{◌≡◌, ℕ, ◌+◌, ◌*◌, ◌<◌, ◌≤◌, ◌⊎◌, true, List, Option, Some, None, IfSome, refl}
 use Rattle.net_types.specs.declared.address.Ip4.{Ip4}
 use Rattle.arp_acd.specs.declared.detection.Acd.{Acd}
 use Rattle.arp_acd.specs.declared.detection.Phase.{Phase}

@@ -1,5 +1,5 @@
 -- What is heard in a turn keeps what a client carries, where no server refuses and nobody contests the address.
-use Rattle.std.proofs.Common.{◌≡◌, ℕ, ◌+◌, ◌<◌, ◌≤◌, ◌||◌, inl, inr, Bool, true, false, List, ◌∷◌, Option, Some, None, IfSome, refl, sym, ap, subst, ◌∙◌, arith, if◌then◌else◌}
+use Rattle.std.proofs.Common.{◌≡◌, ℕ, ◌+◌, ◌≤◌, ◌||◌, Bool, true, false, List, ◌∷◌, Option, Some, None, IfSome, refl, sym, ap, subst, ◌∙◌, arith, if◌then◌else◌}
 use Rattle.net_types.proofs.CaseLaws.{split, gated}
 use Rattle.net_types.specs.declared.address.Ip4.{Ip4}
 use Rattle.net_types.specs.declared.address.Mac.{Mac}
@@ -41,7 +41,7 @@ use Rattle.lease_progress.specs.FairTurns.{probing}
 use Rattle.lease_progress.specs.LeaseStays.{IsBefore, asked_at, needed_by}
 use Rattle.lease_progress.specs.Serving.{Answered, EachRequest, BroadcastAlone}
 use Rattle.lease_keeping.proofs.Asking.{AskedIn}
-use Rattle.lease_keeping.proofs.Carrying.{Probed, EndsBy, Pends, DetectsIp, Ahead, Awaits, WhileRenewing, WhileRebinding, Carried, Keeps, AskedSoFar, Amid}
+use Rattle.lease_keeping.proofs.Carrying.{Pends, DetectsIp, WhileRenewing, WhileRebinding, Keeps, AskedSoFar, Amid}
 use Rattle.lease_keeping.proofs.Moments.{first_probe}
 
 -- ---- a packet that contests nothing

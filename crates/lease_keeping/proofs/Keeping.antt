@@ -39,14 +39,13 @@ use Rattle.client_model.specs.declared.interfaces.Iface.{Iface}
 use Rattle.client_model.specs.ClientSettings.{runs_dhcp4}
 use Rattle.client_model.specs.ClientSettings6.{runs_dhcp6}
 use Rattle.client_model.specs.Dhcp4Steps.{begin_dhcp4, begin_local, dhcp4_step, said_in}
-use Rattle.client_model.specs.Dhcp6Steps.{dhcp6_step}
 use Rattle.client_model.specs.IfaceSteps.{IfaceStep, index_of, silent, then_step}
 use Rattle.client_model.specs.IfaceTurns.{arp_heard, input_step, iface_turned}
-use Rattle.client_model.specs.Interfaces.{begins as machines_begin, carrier_at_opening, iface_due, opening_told, resting, restarted, ticked}
+use Rattle.client_model.specs.Interfaces.{begins as machines_begin, carrier_at_opening, opening_told, resting, restarted, ticked}
 use Rattle.client_model.specs.KeptLeases.{Beginning}
 use Rattle.evidence_words.specs.Entries.{Entry}
 use Rattle.evidence_words.specs.Inputs.{Site, GoesOn, StaysOn, arp_on, carrier_after, has_carrier, index_at, is_stop, is_stopped}
-use Rattle.evidence_words.specs.IfaceLives.{Opening, Met, site_of, entry_of, shown, opens, iface_after, failed_last, now_in, IsLived}
+use Rattle.evidence_words.specs.IfaceLives.{Opening, Met, site_of, entry_of, shown, opens, iface_after, failed_last, now_in}
 use Rattle.lease_evidence.specs.Exchanges.{messages_at, seen_in, show, shows}
 use Rattle.lease_evidence.specs.Replies.{message_on}
 use Rattle.lease_evidence.proofs.Carrying as evidence
@@ -55,7 +54,7 @@ use Rattle.lease_evidence.proofs.Spoken.{message_said, said_all, shows_all}
 use Rattle.lease_evidence.proofs.Watching.{AnyTerms, Lasts, message_in}
 use Rattle.lease_progress.specs.FairTurns.{Fair, GoesWell}
 use Rattle.lease_progress.specs.LeaseStays.{Renewable, StaysHeld}
-use Rattle.lease_progress.specs.Prompt.{IsPrompt, NotAfter}
+use Rattle.lease_progress.specs.Prompt.{NotAfter}
 use Rattle.lease_progress.specs.Serving.{Answered, EachRequest, BroadcastAlone, asks}
 use Rattle.lease_keeping.specs.LeaseKept.{HoldsAt, HoldsMeanwhile}
 use Rattle.lease_keeping.proofs.Asking.{AskedIn, by_then}

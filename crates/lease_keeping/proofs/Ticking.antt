@@ -1,5 +1,5 @@
 -- A tick in time keeps what a client carries.
-use Rattle.std.proofs.Common.{◌≡◌, ℕ, ◌+◌, ◌*◌, ◌<◌, ◌≤◌, ◌&&◌, ◌==◌, inl, inr, Bool, true, false, List, Option, Some, None, IfSome, eqb, nat_le, nat_lt, refl, sym, ap, ◌∙◌, subst, arith, if◌then◌else◌}
+use Rattle.std.proofs.Common.{◌≡◌, ℕ, ◌+◌, ◌*◌, ◌<◌, ◌≤◌, ◌&&◌, ◌==◌, inl, inr, Bool, true, false, List, Option, Some, None, IfSome, eqb, nat_le, nat_lt, refl, sym, ◌∙◌, subst, arith, if◌then◌else◌}
 use Rattle.std.proofs.lemmas.Bool.Decides.{nat_tests}
 use Rattle.machine.specs.Moment.{is_due}
 use Rattle.net_types.proofs.CaseLaws.{split, gated}
@@ -19,7 +19,6 @@ use Rattle.v4_message.specs.declared.writing.Kind4.{Kind4}
 use Rattle.v4_message.specs.declared.writing.Kind4.TheVariants.{Request}
 use Rattle.v4_frames.specs.declared.sent.Sent4.{Sent4}
 use Rattle.v4_client.specs.declared.moments.TheConstants.{SECOND}
-use Rattle.v4_client.specs.declared.moments.Backoff.{Backoff}
 use Rattle.v4_client.specs.declared.states.Exchange4.{Exchange4}
 use Rattle.v4_client.specs.declared.states.Origin4.{Origin4}
 use Rattle.v4_client.specs.declared.states.State4.{State4}
@@ -28,11 +27,11 @@ use Rattle.v4_client.specs.declared.states.Step4.{Step4}
 use Rattle.v4_client.specs.declared.states.Turn4.{Turn4}
 use Rattle.v4_client.specs.Detection.{checked, defended, with_acd}
 use Rattle.v4_client.specs.Due.{acd_due, due_of}
-use Rattle.v4_client.specs.Moments.{earlier, expiry, renewal_at, rebinding_at, standing_until, doubled}
+use Rattle.v4_client.specs.Moments.{earlier, expiry, renewal_at, rebinding_at, standing_until}
 use Rattle.v4_client.specs.Saying.{rebinding_request, renewing_request, sent_of}
 use Rattle.v4_client.specs.Sound.{FitsState}
-use Rattle.v4_client.specs.Steps.{rests, to_init, discovers, expires, requesting, rebooting, new_exchange, new_xid, renewing, rebinding}
-use Rattle.v4_client.specs.Ticks.{bound_tick, checking_tick, detects, falls, rebinding_tick, renewing_tick, is_longest, tick_row}
+use Rattle.v4_client.specs.Steps.{rests, new_xid}
+use Rattle.v4_client.specs.Ticks.{bound_tick, checking_tick, detects, rebinding_tick, renewing_tick, is_longest, tick_row}
 use Rattle.evidence_words.specs.Entries.{Entry}
 use Rattle.evidence_words.specs.Inputs.{Site}
 use Rattle.lease_evidence.proofs.Watching.{message_in}
@@ -40,7 +39,7 @@ use Rattle.lease_progress.specs.LeaseStays.{IsBefore, asked_at, needed_by}
 use Rattle.lease_progress.specs.Prompt.{NotAfter}
 use Rattle.lease_progress.specs.Serving.{Answered, EachRequest, BroadcastAlone, asks, is_answered, is_request}
 use Rattle.lease_keeping.proofs.Asking.{AskedIn}
-use Rattle.lease_keeping.proofs.Carrying.{Probed, EndsBy, Pends, DetectsIp, Ahead, Awaits, WhileRenewing, WhileRebinding, Keeps, Amid}
+use Rattle.lease_keeping.proofs.Carrying.{Probed, Pends, DetectsIp, Ahead, WhileRenewing, Keeps, Amid}
 use Rattle.lease_keeping.proofs.Moments.{sooner, before_it, RenewsNow, renews_now, RebindsNow, rebinds_now, renews_first, finite, AwaitsNow, awaits_now, next, fewer, probe_more, over}
 
 -- ---- conflict detection

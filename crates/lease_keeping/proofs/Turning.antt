@@ -1,5 +1,5 @@
 -- A turn keeps what a client carries: its tick, and then what is heard in it.
-use Rattle.std.proofs.Common.{◌≡◌, ℕ, ◌+◌, ◌<◌, ◌≤◌, ◌||◌, inl, inr, Bool, true, false, List, [], ◌∷◌, ◌++◌, map, Option, Some, None, IfSome, nat_eq, refl, sym, ap, subst, ◌∙◌, arith}
+use Rattle.std.proofs.Common.{◌≡◌, ℕ, ◌<◌, ◌≤◌, ◌||◌, inl, inr, Bool, true, false, List, [], ◌∷◌, ◌++◌, map, Option, Some, None, nat_eq, refl, sym, ap, subst, ◌∙◌, arith}
 use Rattle.std.proofs.lemmas.Bool.Decides.{nat_tests}
 use Rattle.std.specs.List.{list_any}
 use Rattle.std.specs.Prelude.{option_map, option_to_list}
@@ -45,7 +45,7 @@ use Rattle.lease_progress.specs.FairTurns.{Fair}
 use Rattle.lease_progress.specs.LeaseStays.{Renewable}
 use Rattle.lease_progress.specs.Serving.{Answered, asks, grants}
 use Rattle.lease_keeping.proofs.Asking.{AskedIn, still_asked}
-use Rattle.lease_keeping.proofs.Carrying.{Amid, AskedSoFar, Keeps}
+use Rattle.lease_keeping.proofs.Carrying.{Amid, Keeps}
 use Rattle.lease_keeping.proofs.Hearing.{Granted, HeardWell, Settles, Unharmed, heard_so, packet_rests, settled}
 use Rattle.lease_keeping.proofs.TurnParts.{hearing}
 
