@@ -1,0 +1,9 @@
+mod Asking
+mod Carrying
+mod Hearing
+mod Keeping
+mod Lives
+mod Moments
+mod Ticking
+mod TurnParts
+mod Turning
