@@ -1,0 +1,4 @@
+pub mod Acquiring
+pub mod ClientTurns
+pub mod GoingWell
+pub mod Questions
