@@ -44,7 +44,7 @@ choice_ends due asked first most h = omega arith
 
 -- ---- messages that answer nothing
 
-no_answer : (settings : SettingsContent) (said : SpokenContent) (message : Content6) (k : ServerKind6)
+pub no_answer : (settings : SettingsContent) (said : SpokenContent) (message : Content6) (k : ServerKind6)
     → is_answer settings said message ≡ false → answers k settings said message ≡ false
 no_answer settings said message Advertise h = and_left _ (serves settings.asks message) (and_left (is_answer settings said message) _ h)
 no_answer settings said message Reply h = and_left _ (gives settings.asks message) (and_left (is_answer settings said message) _ h)
@@ -58,7 +58,7 @@ module _ (settings : SettingsContent) (first wait : ℕ) (short : wait ≤ 1000)
   client state = client_of settings last sol_max state kept plea unspent
 
   abbrev Comes : Option Question → Turned6 → Type 0
-  Comes pending turned = PendingIn l Offered at turned.client (asked_by at turned.out.say pending) ⊎ HoldsSome turned.client
+  Comes pending turned = PendingIn l Offered at turned.client (asked_by at turned.out.say pending) ⊎ HoldsSome turned.client (asked_by at turned.out.say pending)
 
   module _ (message : Content6) (gives_so : NothingIsDenied settings.asks (Hears message)) (offers_so : message.kind ≡ Advertise → Offered) where
     -- with the longest time that was told
@@ -135,18 +135,26 @@ module _ (settings : SettingsContent) (first wait : ℕ) (short : wait ≤ 1000)
       abbrev taken : Bool
       taken = message.rapid && settings.site.rapid && serves settings.asks message
 
-      reply_comes : message.kind ≡ Reply → is_from None message.server ≡ true → (t : Bool) → taken ≡ t
+      reply_comes : message.kind ≡ Reply → is_answer settings question.said message ≡ true → (t : Bool) → taken ≡ t
           → Comes (left Reply)
           (stepped (heard_row (turn (Soliciting exchange None))
           (cond t (grants_or_empties (cond t (fresh (Soliciting exchange None)) None)) answer.Nothing) (Soliciting exchange None))
           (cond t (fresh (Soliciting exchange None)) None) (heard (Soliciting exchange None)))
-      reply_comes is from true t =
+      reply_comes is counted true t =
+          let served : serves settings.asks message ≡ true = (and_parts (message.rapid && settings.site.rapid) (serves settings.asks message) t).1 in
           let g : GrantsSome (fresh (Soliciting exchange None)) =
-          grants (Soliciting exchange None) None from is (and_parts (message.rapid && settings.site.rapid) (serves settings.asks message) t).1 in
+          grants (Soliciting exchange None) None (and_parts _ (is_from None message.server) counted).1 is served in
           subst (λ (o : Option Lease6Content). Comes (left Reply)
           (stepped (heard_row (turn (Soliciting exchange None)) (grants_or_empties o) (Soliciting exchange None)) o (heard (Soliciting exchange None))))
-          (sym g.is) (inr (record { lease = g.lease; held = refl; some_item = g.some_item }))
-      reply_comes is from false t =
+          (sym g.is) (inr (record {
+            lease = g.lease;
+            bound = refl;
+            held = refl;
+            some_item = g.some_item;
+            settled = ap (λ (b : Bool). cond b None (Some question))
+                (and_from _ (gives settings.asks message) (and_from (is_answer settings question.said message) taken counted t) (gives_so is served));
+          }))
+      reply_comes is counted false t =
           inl (still (left Reply) (ap (λ (b : Bool). cond b None (Some question))
           (and_left _ (gives settings.asks message) (and_right (is_answer settings question.said message) taken t))))
 
@@ -154,7 +162,7 @@ module _ (settings : SettingsContent) (first wait : ℕ) (short : wait ≤ 1000)
           → Comes (left k) (answered at salt message k (heard (Soliciting exchange None)))
       answer_comes Advertise is counted = advertise_comes is counted
       answer_comes Reply is counted =
-          reply_comes is (and_parts _ (is_from None message.server) counted).1 taken refl
+          reply_comes is counted taken refl
 
       pub solicits_hears : Comes (unanswered settings message pending) (hears_turned at salt message (client (Soliciting exchange None)))
       unfolding hears_turned
@@ -200,7 +208,7 @@ module _ (settings : SettingsContent) (first wait : ℕ) (short : wait ≤ 1000)
           grants state None from is (and_parts (message.rapid && settings.site.rapid) (serves settings.asks message) t).1 in
           subst (λ (o : Option Lease6Content). Comes (unanswered settings message pending)
           (stepped (heard_row (turn state) (grants_or_empties o) state) o (heard state)))
-          (sym g.is) (inr (record { lease = g.lease; held = refl; some_item = g.some_item }))
+          (sym g.is) (inr (record { lease = g.lease; bound = refl; held = refl; some_item = g.some_item; settled = none_left }))
       reply_more is from false t = inl still_chooses
 
       more_comes : (k : ServerKind6) → message.kind ≡ k → counts (client state) message ≡ true
@@ -241,17 +249,25 @@ module _ (settings : SettingsContent) (first wait : ℕ) (short : wait ≤ 1000)
         few = r.few;
       }
 
-      granted_comes : message.kind ≡ Reply → is_from (plea_server plea) message.server ≡ true → (t : Bool) → serves settings.asks message ≡ t
+      granted_comes : message.kind ≡ Reply → is_answer settings asked.said message ≡ true → (t : Bool) → serves settings.asks message ≡ t
           → Comes (left_of Reply)
           (stepped (heard_row (turn (Requesting exchange))
           (cond t (grants_or_empties (cond t (fresh (Requesting exchange)) None)) answer.Nothing) (Requesting exchange))
           (cond t (fresh (Requesting exchange)) None) (heard (Requesting exchange)))
-      granted_comes is from true t =
-          let g : GrantsSome (fresh (Requesting exchange)) = grants (Requesting exchange) (plea_server plea) from is t in
+      granted_comes is counted true t =
+          let g : GrantsSome (fresh (Requesting exchange)) =
+          grants (Requesting exchange) (plea_server plea) (and_parts _ (is_from (plea_server plea) message.server) counted).1 is t in
           subst (λ (o : Option Lease6Content). Comes (left_of Reply)
           (stepped (heard_row (turn (Requesting exchange)) (grants_or_empties o) (Requesting exchange)) o (heard (Requesting exchange))))
-          (sym g.is) (inr (record { lease = g.lease; held = refl; some_item = g.some_item }))
-      granted_comes is from false t =
+          (sym g.is) (inr (record {
+            lease = g.lease;
+            bound = refl;
+            held = refl;
+            some_item = g.some_item;
+            settled = ap (λ (b : Bool). cond b None (Some asked))
+                (and_from _ (gives settings.asks message) (and_from (is_answer settings asked.said message) (serves settings.asks message) counted t) (gives_so is t));
+          }))
+      granted_comes is counted false t =
           inl (still_requests (left_of Reply) (ap (λ (b : Bool). cond b None (Some asked))
           (and_left _ (gives settings.asks message) (and_right (is_answer settings asked.said message) (serves settings.asks message) t))))
 
@@ -261,7 +277,7 @@ module _ (settings : SettingsContent) (first wait : ℕ) (short : wait ≤ 1000)
           inl (still_requests (left_of Advertise) (ap (λ (b : Bool). cond b None (Some asked))
           (and_left _ (serves settings.asks message) (and_right (is_answer settings asked.said message) false refl))))
       reply_or_not Reply is counted =
-          granted_comes is (and_parts _ (is_from (plea_server plea) message.server) counted).1 (serves settings.asks message) refl
+          granted_comes is counted (serves settings.asks message) refl
 
       pub requests_hears : Comes (unanswered settings message pending) (hears_turned at salt message (client (Requesting exchange)))
       unfolding hears_turned

@@ -3,3 +3,8 @@ pub mod Granting
 pub mod Ticking
 pub mod Hearing
 pub mod Turning
+pub mod Instance
+pub mod Validity
+pub mod Keeping
+pub mod Extending
+pub mod Retaining

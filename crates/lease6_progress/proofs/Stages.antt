@@ -20,7 +20,7 @@ use Rattle.v6_client.specs.Saying.{SpokenContent, plea_server}
 use Rattle.v6_client.specs.Settings.{SettingsContent}
 use Rattle.v6_client.specs.Times.{first_delay}
 use Rattle.lease6_progress.specs.Acquiring.{has_item, longest_delay}
-use Rattle.lease6_progress.specs.GoingWell.{IsAnsweredIn, NotAfter}
+use Rattle.lease6_progress.specs.GoingWell.{NotAfter}
 use Rattle.lease6_progress.specs.Questions.{Question}
 
 -- ---- moments
@@ -175,10 +175,13 @@ Pending l Offered now (Declining exchange) server pending = ⊥
 abbrev pub PendingIn : Limits → (Offered : Type 0) → (now : ℕ) → ClientContent → Option Question → Type 0
 PendingIn l Offered now c pending = Pending l Offered now c.state (plea_server c.plea) pending
 
-pub record HoldsSome (c : ClientContent) : Type 0 where
+-- an item is held, and nothing is asked
+pub record HoldsSome (c : ClientContent) (pending : Option Question) : Type 0 where
   pub lease : Lease6Content
+  pub bound : c.state ≡ Bound
   pub held : held_of c ≡ Some lease
   pub some_item : has_item lease ≡ true
+  pub settled : pending ≡ None
 
 -- a client with some settings
 abbrev pub client_of : SettingsContent → (last : Option ℕ) → (sol_max : ℕ) → State6 → Option Lease6Content → Option PleaContent → (unspent : Bool)

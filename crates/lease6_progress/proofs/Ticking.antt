@@ -22,7 +22,7 @@ use Rattle.v6_client.specs.Saying.{SpokenContent, plea_ias, plea_server, spoken_
 use Rattle.v6_client.specs.Ticks.{requesting_tick}
 use Rattle.v6_client.specs.Settings.{SettingsContent}
 use Rattle.v6_client.specs.Times.{elapsed}
-use Rattle.lease6_progress.specs.GoingWell.{IsAnsweredIn, NotAfter}
+use Rattle.lease6_progress.specs.GoingWell.{EachQuestion, NotAfter, Serves}
 use Rattle.lease6_progress.specs.Questions.{Question, asked_by, new_question}
 use Rattle.lease6_progress.proofs.Stages.{Chooses, Limits, Pending, PendingIn, Requests, Solicits, Waits, again_time, client_of, come_so, further, in_time, question_of, request_time, solicit_least, solicit_most}
 
@@ -104,11 +104,11 @@ module _ (settings : SettingsContent) (first wait : ℕ) (short : wait ≤ 1000)
       })
       (λ early. record { none = w.none; in_time = w.in_time; not_yet = le })
 
-  tick_solicits : (exchange : Exchange6) → Solicits l now exchange pending → IsAnsweredIn wait pending at
+  tick_solicits : (exchange : Exchange6) → Solicits l now exchange pending → Serves EachQuestion wait pending at
       → After (tick_turned at salt (client (Soliciting exchange None)))
   unfolding tick_turned
   tick_solicits exchange s served =
-      let le : at ≤ s.asked + wait = subst (λ (o : Option Question). IsAnsweredIn wait o at) s.is served in
+      let le : at ≤ s.asked + wait = (subst (λ (o : Option Question). Serves EachQuestion wait o at) s.is served) refl in
       cond_both (is_due (due_of (client (Soliciting exchange None))) at) _ _ After
       (λ come. absurd (not_due exchange.due at s.asked wait come le s.least short))
       (λ early. record {
@@ -168,11 +168,11 @@ module _ (settings : SettingsContent) (first wait : ℕ) (short : wait ≤ 1000)
             (again_time (turn (Requesting exchange)) exchange r.time));
       })
 
-  tick_requests : (exchange : Exchange6) → Requests l Offered now exchange (plea_server plea) pending → IsAnsweredIn wait pending at
+  tick_requests : (exchange : Exchange6) → Requests l Offered now exchange (plea_server plea) pending → Serves EachQuestion wait pending at
       → After (tick_turned at salt (client (Requesting exchange)))
   unfolding tick_turned
   tick_requests exchange r served =
-      let le : at ≤ r.asked + wait = subst (λ (o : Option Question). IsAnsweredIn wait o at) r.is served in
+      let le : at ≤ r.asked + wait = (subst (λ (o : Option Question). Serves EachQuestion wait o at) r.is served) refl in
       cond_both (is_due (due_of (client (Requesting exchange))) at) _ _ After
       (λ come. elim r.few [
         | inl once ↦ requests_again exchange r le come once.0 once.1
@@ -191,7 +191,7 @@ module _ (settings : SettingsContent) (first wait : ℕ) (short : wait ≤ 1000)
       })
 
   pub tick_pends : (state : State6) → Pending l Offered now state (plea_server plea) pending → NotAfter (due_of (client state)) now at
-      → IsAnsweredIn wait pending at → After (tick_turned at salt (client state))
+      → Serves EachQuestion wait pending at → After (tick_turned at salt (client state))
   tick_pends Off p prompt served = absurd p
   tick_pends (Waiting due) p prompt served = tick_waits due p prompt
   tick_pends (Soliciting exchange None) p prompt served = tick_solicits exchange p served

@@ -17,7 +17,7 @@ use Rattle.v6_client.specs.Times.{first_delay}
 use Rattle.v6_client.proofs.StayingRuns.{settings_stay}
 use Rattle.lease6_progress.specs.Acquiring.{Acquires, AcquiresAtOnce, BeginsAnew, HeldBy, IsReply, RepliesAlone, longest_delay}
 use Rattle.lease6_progress.specs.ClientTurns.{ClientTurn, Input6, Quiet, Hears, IsUsed, Rebinds, Drops, Releases, Start, acts_in, begun, client_run, now_in, takes, takes_in}
-use Rattle.lease6_progress.specs.GoingWell.{CarrierStays, Fair, IsAnsweredIn, IsFair, IsPrompt, NotAfter, NothingIsDenied, Prompt}
+use Rattle.lease6_progress.specs.GoingWell.{CarrierStays, Fair, EachQuestion, IsFair, IsPrompt, NotAfter, NothingIsDenied, Prompt, Serves}
 use Rattle.lease6_progress.specs.Questions.{Question, asked_by, left_by, question_in}
 use Rattle.lease6_progress.proofs.Hearing.{MayOffer, input_comes}
 use Rattle.lease6_progress.proofs.Stages.{HoldsSome, Limits, Pending, PendingIn, delay_most, further, none_pending, none_pending_at_once}
@@ -90,10 +90,10 @@ module _ (s : Start) (first wait : ℕ) (short : wait ≤ 1000) (Offered : Type 
   -- ---- one turn
 
   tick_goes : (c : ClientContent) → c.settings ≡ s.settings → (now : ℕ) (pending : Option Question) (at salt : ℕ) → PendingIn l Offered now c pending
-      → NotAfter (due_of c) now at → IsAnsweredIn wait pending at → Goes at pending (tick_turned at salt c)
+      → NotAfter (due_of c) now at → Serves EachQuestion wait pending at → Goes at pending (tick_turned at salt c)
   tick_goes c same now pending at salt =
       subst (λ (x : SettingsContent). Pending l Offered now c.state (plea_server c.plea) pending
-      → NotAfter (due_of (record c { settings = x })) now at → IsAnsweredIn wait pending at
+      → NotAfter (due_of (record c { settings = x })) now at → Serves EachQuestion wait pending at
       → Goes at pending (tick_turned at salt (record c { settings = x }))) (sym same)
       (tick_pends s.settings first wait short Offered at salt c.last c.sol_max c.kept c.plea c.fresh now pending c.state)
 
@@ -101,10 +101,11 @@ module _ (s : Start) (first wait : ℕ) (short : wait ≤ 1000) (Offered : Type 
       → NothingIsDenied s.settings.asks input
       → MayOffer s.settings first wait short Offered at salt c.last c.sol_max c.kept c.plea c.fresh input
       → PendingIn l Offered at c pending
-      → Goes at (left_by s.settings input pending) (takes at salt input c) ⊎ HoldsSome (takes at salt input c).client
+      → Goes at (left_by s.settings input pending) (takes at salt input c) ⊎ HoldsSome (takes at salt input c).client (asked_by at (takes at salt input c).out.say (left_by s.settings input pending))
   input_goes c same pending at salt input stays gives offers p =
       subst (λ (x : SettingsContent). Goes at (left_by s.settings input pending) (takes at salt input (record c { settings = x }))
-      ⊎ HoldsSome (takes at salt input (record c { settings = x })).client) (sym same)
+      ⊎ HoldsSome (takes at salt input (record c { settings = x })).client
+      (asked_by at (takes at salt input (record c { settings = x })).out.say (left_by s.settings input pending))) (sym same)
       (input_comes s.settings first wait short Offered at salt c.last c.sol_max c.kept c.plea c.fresh input c.state pending stays gives offers p)
 
   abbrev So : List ClientTurn → Type 0
@@ -127,7 +128,7 @@ module _ (s : Start) (first wait : ℕ) (short : wait ≤ 1000) (Offered : Type 
 
   more : (turn : ClientTurn) (past : List ClientTurn)
       → PendingIn l Offered (now_in s past) (client_run s past) (question_in s past)
-      → IsPrompt s turn past → IsFair s wait turn past → Offers Offered turn.input → So (turn ∷ past)
+      → IsPrompt s turn past → IsFair s EachQuestion wait turn past → Offers Offered turn.input → So (turn ∷ past)
   more turn past p prompt fair offers =
       let c : ClientContent = client_run s past in
       let c1 : ClientContent = (acts_in turn c).client in
@@ -143,12 +144,14 @@ module _ (s : Start) (first wait : ℕ) (short : wait ≤ 1000) (Offered : Type 
           cut = refl;
           in_time = by_then turn.at c1.state (plea_server c1.plea) pending ticked;
           lease = h.lease;
+          bound = h.bound;
           held = h.held;
           some_item = h.some_item;
+          settled = h.settled;
         })
       ]
 
-  one_more : (turn : ClientTurn) (past : List ClientTurn) → So past → IsPrompt s turn past → IsFair s wait turn past → Offers Offered turn.input
+  one_more : (turn : ClientTurn) (past : List ClientTurn) → So past → IsPrompt s turn past → IsFair s EachQuestion wait turn past → Offers Offered turn.input
       → So (turn ∷ past)
   one_more turn past (inl p) prompt fair offers = more turn past p prompt fair offers
   one_more turn past (inr h) prompt fair offers = inr (record {
@@ -157,18 +160,20 @@ module _ (s : Start) (first wait : ℕ) (short : wait ≤ 1000) (Offered : Type 
     cut = ap (λ (turns : List ClientTurn). turn ∷ turns) h.cut;
     in_time = h.in_time;
     lease = h.lease;
+    bound = h.bound;
     held = h.held;
     some_item = h.some_item;
+    settled = h.settled;
   })
 
   -- ---- all turns
 
-  all_go : (turns : List ClientTurn) → So [] → Prompt s turns → Fair s wait turns → AllOffer Offered turns → So turns
+  all_go : (turns : List ClientTurn) → So [] → Prompt s turns → Fair s EachQuestion wait turns → AllOffer Offered turns → So turns
   all_go [] so prompt fair offers = so
   all_go (turn ∷ past) so prompt fair offers =
       one_more turn past (all_go past so prompt.1 fair.1 offers.1) prompt.0 fair.0 offers.0
 
-  pub held_then : (turns : List ClientTurn) → So [] → Prompt s turns → Fair s wait turns → AllOffer Offered turns → end < now_in s turns → HeldBy s turns end
+  pub held_then : (turns : List ClientTurn) → So [] → Prompt s turns → Fair s EachQuestion wait turns → AllOffer Offered turns → end < now_in s turns → HeldBy s turns end
   held_then turns so prompt fair offers past = elim (all_go turns so prompt fair offers) [
     | inl p ↦ absurd (late (now_in s turns) (client_run s turns).state (plea_server (client_run s turns).plea) (question_in s turns) past p)
     | inr h ↦ h

@@ -1,4 +1,6 @@
 pub mod Acquiring
 pub mod ClientTurns
 pub mod GoingWell
+pub mod OneLife
 pub mod Questions
+pub mod Staying

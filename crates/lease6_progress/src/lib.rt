@@ -5,4 +5,4 @@
 
 mod laws;
 
-pub use laws::items_are_held_in_time;
+pub use laws::{held_items_stay, items_are_held_in_time, premises_of_items_are_met};
