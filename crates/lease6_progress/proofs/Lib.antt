@@ -8,3 +8,5 @@ pub mod Validity
 pub mod Keeping
 pub mod Extending
 pub mod Retaining
+pub mod Interface
+pub mod Interfaces

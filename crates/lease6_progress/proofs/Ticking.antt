@@ -163,9 +163,11 @@ module _ (settings : SettingsContent) (first wait : ℕ) (short : wait ≤ 1000)
         in_time = r.in_time;
         not_yet = le;
         time = again_time (turn (Requesting exchange)) exchange r.time;
-        few = inr (ap (λ (n : ℕ). min (n + 1) 4294967295) once,
-            second_due at r.asked exchange.due _ (come_so exchange.due at come) least
-            (again_time (turn (Requesting exchange)) exchange r.time));
+        few = inr (
+          ap (λ (n : ℕ). min (n + 1) 4294967295) once,
+          second_due at r.asked exchange.due _ (come_so exchange.due at come) least
+              (again_time (turn (Requesting exchange)) exchange r.time),
+        );
       })
 
   tick_requests : (exchange : Exchange6) → Requests l Offered now exchange (plea_server plea) pending → Serves EachQuestion wait pending at

@@ -1,6 +1,7 @@
 //! These functions do nothing: their contracts are the laws.
 
 ghost use Rattle.lease6_progress.specs.Acquiring.{Acquires, AcquiresAtOnce};
+ghost use Rattle.lease6_progress.specs.InterfaceHolds.{ClientsRun, InterfaceAcquires, InterfaceStaysHeld};
 ghost use Rattle.lease6_progress.specs.OneLife.{OneLifeGoesWell, RapidLifeGoesWell, RenewedLifeGoesWell, ReboundLifeGoesWell};
 ghost use Rattle.lease6_progress.specs.Staying.{StaysHeld};
 
@@ -26,4 +27,13 @@ pub fn premises_of_items_are_met()
 /// of all IAs, and one item of any IA is enough (RFC 8415, sections 14.2, 18.2.4 and 18.2.5).
 pub fn held_items_stay()
     ensures { StaysHeld }
+{}
+
+/// Law of an interface on which DHCPv6 runs, from an opening with carrier on, whatever DHCPv4 and link-local do beside: its DHCPv6
+/// client goes through its turns by itself. So the interface holds an item in time, by SOLICIT, Advertise, REQUEST and Reply, and
+/// what it holds stays held.
+pub fn interfaces_hold_items()
+    ensures alone { ClientsRun }
+    ensures acquires { InterfaceAcquires }
+    ensures stays { InterfaceStaysHeld }
 {}

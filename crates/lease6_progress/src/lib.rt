@@ -5,4 +5,6 @@
 
 mod laws;
 
-pub use laws::{held_items_stay, items_are_held_in_time, premises_of_items_are_met};
+pub use laws::{
+    held_items_stay, interfaces_hold_items, items_are_held_in_time, premises_of_items_are_met,
+};
