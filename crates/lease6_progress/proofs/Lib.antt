@@ -1,0 +1,12 @@
+pub mod Stages
+pub mod Granting
+pub mod Ticking
+pub mod Hearing
+pub mod Turning
+pub mod Instance
+pub mod Validity
+pub mod Keeping
+pub mod Extending
+pub mod Retaining
+pub mod Interface
+pub mod Interfaces
