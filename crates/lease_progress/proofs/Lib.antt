@@ -6,3 +6,6 @@ pub mod PendingTicks
 pub mod PendingInputs
 pub mod Acquired
 pub mod Opened
+pub mod Paying
+pub mod NineTurns
+pub mod Instance

@@ -3,4 +3,4 @@
 
 mod laws;
 
-pub use laws::leases_are_acquired;
+pub use laws::{leases_are_acquired, premises_are_met};
