@@ -1,5 +1,5 @@
 -- What a client that holds nothing yet makes of what comes in.
-use Rattle.std.proofs.Common.{◌≡◌, ℕ, ◌+◌, ◌≤◌, Bool, true, false, cond, ◌&&◌, ◌||◌, List, Option, Some, None, inl, inr, refl, sym, ap, subst, arith}
+use Rattle.std.proofs.Common.{◌≡◌, ℕ, ◌+◌, ◌≤◌, Bool, true, false, cond, ◌&&◌, ◌||◌, List, Option, Some, None, inl, inr, refl, sym, ap, subst, ◌∙◌, arith}
 use Rattle.std.proofs.lemmas.Bool.{and_from, and_left, and_parts, and_right, cond_both}
 use Rattle.std.specs.Option.{option_and_then, option_map}
 use Rattle.std.specs.Prelude.{◌⊎◌}
@@ -28,7 +28,7 @@ use Rattle.lease6_progress.specs.ClientTurns.{Input6, Quiet, Hears, IsUsed, Rebi
 use Rattle.lease6_progress.specs.GoingWell.{CarrierStays, NothingIsDenied}
 use Rattle.lease6_progress.specs.Questions.{Question, answers, asked_by, gives, is_answer, is_grant, is_offer, left_by, unanswered}
 use Rattle.lease6_progress.proofs.Granting.{GrantsSome, grants_some}
-use Rattle.lease6_progress.proofs.Stages.{Chooses, HoldsSome, Limits, Pending, PendingIn, Requests, Solicits, Waits, client_of, question_of}
+use Rattle.lease6_progress.proofs.Stages.{Chooses, HoldsSome, IsGrantedBy, Limits, Pending, PendingIn, Requests, Solicits, Waits, client_of, question_of}
 use Rattle.lease6_progress.proofs.Ticking.{requests_now}
 
 -- ---- moments
@@ -57,8 +57,9 @@ module _ (settings : SettingsContent) (first wait : ℕ) (short : wait ≤ 1000)
   abbrev client : State6 → ClientContent
   client state = client_of settings last sol_max state kept plea unspent
 
-  abbrev Comes : Option Question → Turned6 → Type 0
-  Comes pending turned = PendingIn l Offered at turned.client (asked_by at turned.out.say pending) ⊎ HoldsSome turned.client (asked_by at turned.out.say pending)
+  abbrev Comes : (Granted : Lease6Content → Type 0) → Option Question → Turned6 → Type 0
+  Comes Granted pending turned =
+      PendingIn l Offered at turned.client (asked_by at turned.out.say pending) ⊎ HoldsSome Granted turned.client (asked_by at turned.out.say pending)
 
   module _ (message : Content6) (gives_so : NothingIsDenied settings.asks (Hears message)) (offers_so : message.kind ≡ Advertise → Offered) where
     -- with the longest time that was told
@@ -70,6 +71,10 @@ module _ (settings : SettingsContent) (first wait : ℕ) (short : wait ≤ 1000)
 
     abbrev fresh : State6 → Option Lease6Content
     fresh state = option_and_then (granted at (heard state) message) (server_of message)
+
+    -- the lease that it grants
+    abbrev granted_in : State6 → Lease6Content → Type 0
+    granted_in state lease = IsGrantedBy at (client state) (Hears message) lease
 
     grants : (state : State6) (chosen : Option (List ℕ)) → is_from chosen message.server ≡ true → message.kind ≡ Reply
         → serves settings.asks message ≡ true → GrantsSome (fresh state)
@@ -107,7 +112,8 @@ module _ (settings : SettingsContent) (first wait : ℕ) (short : wait ≤ 1000)
         most = s.most;
       }
 
-      offer_comes : Offered → left Advertise ≡ None → (taken : Bool) → Comes (left Advertise) (chosen_by taken true exchange None)
+      offer_comes : Offered → left Advertise ≡ None → (taken : Bool) → Comes (granted_in (Soliciting exchange None)) (left Advertise)
+          (chosen_by taken true exchange None)
       offer_comes offered none true =
           inl (requests_now settings l Offered kept offered_plea (turn (Soliciting exchange None)) (left Advertise) offered none
           (while_offers at s.asked wait first s.not_yet s.in_time short))
@@ -119,10 +125,11 @@ module _ (settings : SettingsContent) (first wait : ℕ) (short : wait ≤ 1000)
       })
 
       advertise_comes : message.kind ≡ Advertise → is_answer settings question.said message ≡ true
-          → Comes (left Advertise) (answered at salt message Advertise (heard (Soliciting exchange None)))
+          → Comes (granted_in (Soliciting exchange None)) (left Advertise) (answered at salt message Advertise (heard (Soliciting exchange None)))
       advertise_comes is counted =
           cond_both (serves settings.asks message) (answer.Offer message.preference) answer.Nothing
-          (λ (a : Answer6). Comes (left Advertise) (stepped (heard_row (turn (Soliciting exchange None)) a (Soliciting exchange None)) None
+          (λ (a : Answer6). Comes (granted_in (Soliciting exchange None)) (left Advertise) (stepped (heard_row (turn (Soliciting exchange None)) a
+          (Soliciting exchange None)) None
           (advertised a message (heard (Soliciting exchange None)))))
           (λ yes.
           offer_comes (offers_so is)
@@ -136,7 +143,7 @@ module _ (settings : SettingsContent) (first wait : ℕ) (short : wait ≤ 1000)
       taken = message.rapid && settings.site.rapid && serves settings.asks message
 
       reply_comes : message.kind ≡ Reply → is_answer settings question.said message ≡ true → (t : Bool) → taken ≡ t
-          → Comes (left Reply)
+          → Comes (granted_in (Soliciting exchange None)) (left Reply)
           (stepped (heard_row (turn (Soliciting exchange None))
           (cond t (grants_or_empties (cond t (fresh (Soliciting exchange None)) None)) answer.Nothing) (Soliciting exchange None))
           (cond t (fresh (Soliciting exchange None)) None) (heard (Soliciting exchange None)))
@@ -144,13 +151,14 @@ module _ (settings : SettingsContent) (first wait : ℕ) (short : wait ≤ 1000)
           let served : serves settings.asks message ≡ true = (and_parts (message.rapid && settings.site.rapid) (serves settings.asks message) t).1 in
           let g : GrantsSome (fresh (Soliciting exchange None)) =
           grants (Soliciting exchange None) None (and_parts _ (is_from None message.server) counted).1 is served in
-          subst (λ (o : Option Lease6Content). Comes (left Reply)
+          subst (λ (o : Option Lease6Content). Comes (granted_in (Soliciting exchange None)) (left Reply)
           (stepped (heard_row (turn (Soliciting exchange None)) (grants_or_empties o) (Soliciting exchange None)) o (heard (Soliciting exchange None))))
           (sym g.is) (inr (record {
             lease = g.lease;
             bound = refl;
             held = refl;
             some_item = g.some_item;
+            granted = (is, ap (λ (b : Bool). cond b (fresh (Soliciting exchange None)) None) t ∙ g.is);
             settled = ap (λ (b : Bool). cond b None (Some question))
                 (and_from _ (gives settings.asks message) (and_from (is_answer settings question.said message) taken counted t) (gives_so is served));
           }))
@@ -159,17 +167,19 @@ module _ (settings : SettingsContent) (first wait : ℕ) (short : wait ≤ 1000)
           (and_left _ (gives settings.asks message) (and_right (is_answer settings question.said message) taken t))))
 
       answer_comes : (k : ServerKind6) → message.kind ≡ k → is_answer settings question.said message ≡ true
-          → Comes (left k) (answered at salt message k (heard (Soliciting exchange None)))
+          → Comes (granted_in (Soliciting exchange None)) (left k) (answered at salt message k (heard (Soliciting exchange None)))
       answer_comes Advertise is counted = advertise_comes is counted
       answer_comes Reply is counted =
           reply_comes is counted taken refl
 
-      pub solicits_hears : Comes (unanswered settings message pending) (hears_turned at salt message (client (Soliciting exchange None)))
+      pub solicits_hears : Comes (granted_in (Soliciting exchange None)) (unanswered settings message pending) (hears_turned at salt message (client
+          (Soliciting exchange None)))
       unfolding hears_turned
       solicits_hears =
-          subst (λ (o : Option Question). Comes (unanswered settings message o) (hears_turned at salt message (client (Soliciting exchange None))))
+          subst (λ (o : Option Question). Comes (granted_in (Soliciting exchange None)) (unanswered settings message o) (hears_turned at salt message (client
+          (Soliciting exchange None))))
           (sym s.is)
-          (cond_both (counts (client (Soliciting exchange None)) message) _ _ (Comes (left message.kind))
+          (cond_both (counts (client (Soliciting exchange None)) message) _ _ (Comes (granted_in (Soliciting exchange None)) (left message.kind))
           (λ counted. answer_comes message.kind refl counted)
           (λ ignored. inl (still (left message.kind) (ap (λ (b : Bool). cond b None (Some question))
           (no_answer settings question.said message message.kind ignored)))))
@@ -186,7 +196,7 @@ module _ (settings : SettingsContent) (first wait : ℕ) (short : wait ≤ 1000)
       still_chooses : Chooses l Offered at exchange (unanswered settings message pending)
       still_chooses = record { offered = c.offered; none = none_left; in_time = c.in_time; not_yet = c.not_yet }
 
-      offer_more : (taken better : Bool) → Comes (unanswered settings message pending) (chosen_by taken better exchange (Some preference))
+      offer_more : (taken better : Bool) → Comes (granted_in state) (unanswered settings message pending) (chosen_by taken better exchange (Some preference))
       offer_more true better =
           inl (requests_now settings l Offered kept offered_plea (turn state) (unanswered settings message pending) c.offered none_left
           (choice_over at exchange.due c.not_yet c.in_time))
@@ -200,31 +210,42 @@ module _ (settings : SettingsContent) (first wait : ℕ) (short : wait ≤ 1000)
       taken_more = message.rapid && settings.site.rapid && serves settings.asks message
 
       reply_more : message.kind ≡ Reply → is_from None message.server ≡ true → (t : Bool) → taken_more ≡ t
-          → Comes (unanswered settings message pending)
+          → Comes (granted_in state) (unanswered settings message pending)
           (stepped (heard_row (turn state) (cond t (grants_or_empties (cond t (fresh state) None)) answer.Nothing) state)
           (cond t (fresh state) None) (heard state))
       reply_more is from true t =
           let g : GrantsSome (fresh state) =
           grants state None from is (and_parts (message.rapid && settings.site.rapid) (serves settings.asks message) t).1 in
-          subst (λ (o : Option Lease6Content). Comes (unanswered settings message pending)
+          subst (λ (o : Option Lease6Content). Comes (granted_in state) (unanswered settings message pending)
           (stepped (heard_row (turn state) (grants_or_empties o) state) o (heard state)))
-          (sym g.is) (inr (record { lease = g.lease; bound = refl; held = refl; some_item = g.some_item; settled = none_left }))
+          (sym g.is) (inr (record {
+            lease = g.lease;
+            bound = refl;
+            held = refl;
+            some_item = g.some_item;
+            settled = none_left;
+            granted = (
+              is,
+              ap (λ
+                  (b : Bool). cond b (fresh state) None) t ∙ g.is,
+            );
+          }))
       reply_more is from false t = inl still_chooses
 
       more_comes : (k : ServerKind6) → message.kind ≡ k → counts (client state) message ≡ true
-          → Comes (unanswered settings message pending) (answered at salt message k (heard state))
+          → Comes (granted_in state) (unanswered settings message pending) (answered at salt message k (heard state))
       more_comes Advertise is counted =
           cond_both (serves settings.asks message) (answer.Offer message.preference) answer.Nothing
-          (λ (a : Answer6). Comes (unanswered settings message pending) (stepped (heard_row (turn state) a state) None
+          (λ (a : Answer6). Comes (granted_in state) (unanswered settings message pending) (stepped (heard_row (turn state) a state) None
           (advertised a message (heard state))))
           (λ yes. offer_more (is_taken_at_once exchange message.preference) (is_better (Some preference) message.preference))
           (λ no. inl still_chooses)
       more_comes Reply is counted = reply_more is (and_parts _ (is_from None message.server) counted).1 taken_more refl
 
-      pub chooses_hears : Comes (unanswered settings message pending) (hears_turned at salt message (client state))
+      pub chooses_hears : Comes (granted_in state) (unanswered settings message pending) (hears_turned at salt message (client state))
       unfolding hears_turned
       chooses_hears =
-          cond_both (counts (client state) message) _ _ (Comes (unanswered settings message pending))
+          cond_both (counts (client state) message) _ _ (Comes (granted_in state) (unanswered settings message pending))
           (λ counted. more_comes message.kind refl counted) (λ ignored. inl still_chooses)
 
     -- ---- while a REQUEST is pending
@@ -250,41 +271,45 @@ module _ (settings : SettingsContent) (first wait : ℕ) (short : wait ≤ 1000)
       }
 
       granted_comes : message.kind ≡ Reply → is_answer settings asked.said message ≡ true → (t : Bool) → serves settings.asks message ≡ t
-          → Comes (left_of Reply)
+          → Comes (granted_in (Requesting exchange)) (left_of Reply)
           (stepped (heard_row (turn (Requesting exchange))
           (cond t (grants_or_empties (cond t (fresh (Requesting exchange)) None)) answer.Nothing) (Requesting exchange))
           (cond t (fresh (Requesting exchange)) None) (heard (Requesting exchange)))
       granted_comes is counted true t =
           let g : GrantsSome (fresh (Requesting exchange)) =
           grants (Requesting exchange) (plea_server plea) (and_parts _ (is_from (plea_server plea) message.server) counted).1 is t in
-          subst (λ (o : Option Lease6Content). Comes (left_of Reply)
+          subst (λ (o : Option Lease6Content). Comes (granted_in (Requesting exchange)) (left_of Reply)
           (stepped (heard_row (turn (Requesting exchange)) (grants_or_empties o) (Requesting exchange)) o (heard (Requesting exchange))))
           (sym g.is) (inr (record {
             lease = g.lease;
             bound = refl;
             held = refl;
             some_item = g.some_item;
+            granted = (is, ap (λ (b : Bool). cond b (fresh (Requesting exchange)) None) t ∙ g.is);
             settled = ap (λ (b : Bool). cond b None (Some asked))
-                (and_from _ (gives settings.asks message) (and_from (is_answer settings asked.said message) (serves settings.asks message) counted t) (gives_so is t));
+                (and_from _ (gives settings.asks message) (and_from (is_answer settings asked.said message) (serves settings.asks message) counted t)
+                (gives_so is t));
           }))
       granted_comes is counted false t =
           inl (still_requests (left_of Reply) (ap (λ (b : Bool). cond b None (Some asked))
           (and_left _ (gives settings.asks message) (and_right (is_answer settings asked.said message) (serves settings.asks message) t))))
 
       reply_or_not : (k : ServerKind6) → message.kind ≡ k → is_answer settings asked.said message ≡ true
-          → Comes (left_of k) (answered at salt message k (heard (Requesting exchange)))
+          → Comes (granted_in (Requesting exchange)) (left_of k) (answered at salt message k (heard (Requesting exchange)))
       reply_or_not Advertise is counted =
           inl (still_requests (left_of Advertise) (ap (λ (b : Bool). cond b None (Some asked))
           (and_left _ (serves settings.asks message) (and_right (is_answer settings asked.said message) false refl))))
       reply_or_not Reply is counted =
           granted_comes is counted (serves settings.asks message) refl
 
-      pub requests_hears : Comes (unanswered settings message pending) (hears_turned at salt message (client (Requesting exchange)))
+      pub requests_hears : Comes (granted_in (Requesting exchange)) (unanswered settings message pending) (hears_turned at salt message (client
+          (Requesting exchange)))
       unfolding hears_turned
       requests_hears =
-          subst (λ (o : Option Question). Comes (unanswered settings message o) (hears_turned at salt message (client (Requesting exchange))))
+          subst (λ (o : Option Question). Comes (granted_in (Requesting exchange)) (unanswered settings message o) (hears_turned at salt message (client
+          (Requesting exchange))))
           (sym r.is)
-          (cond_both (counts (client (Requesting exchange)) message) _ _ (Comes (left_of message.kind))
+          (cond_both (counts (client (Requesting exchange)) message) _ _ (Comes (granted_in (Requesting exchange)) (left_of message.kind))
           (λ counted. reply_or_not message.kind refl counted)
           (λ ignored. inl (still_requests (left_of message.kind) (ap (λ (b : Bool). cond b None (Some asked))
           (no_answer settings asked.said message message.kind ignored)))))
@@ -292,13 +317,13 @@ module _ (settings : SettingsContent) (first wait : ℕ) (short : wait ≤ 1000)
     -- ---- before a SOLICIT
 
     waits_hears : (due : ℕ) (pending : Option Question) → Waits l at due pending
-        → Comes (unanswered settings message pending) (hears_turned at salt message (client (Waiting due)))
+        → Comes (granted_in (Waiting due)) (unanswered settings message pending) (hears_turned at salt message (client (Waiting due)))
     unfolding hears_turned
     waits_hears due pending w =
         inl (record { none = ap (unanswered settings message) w.none; in_time = w.in_time; not_yet = w.not_yet })
 
     pub message_comes : (state : State6) (pending : Option Question) → Pending l Offered at state (plea_server plea) pending
-        → Comes (unanswered settings message pending) (hears_turned at salt message (client state))
+        → Comes (granted_in state) (unanswered settings message pending) (hears_turned at salt message (client state))
     message_comes Off pending p = absurd p
     message_comes (Waiting due) pending p = waits_hears due pending p
     message_comes (Soliciting exchange None) pending p = solicits_hears exchange pending p
@@ -312,33 +337,34 @@ module _ (settings : SettingsContent) (first wait : ℕ) (short : wait ≤ 1000)
 
   -- ---- other inputs
 
-  used_comes : (address : Ip6) (state : State6) (pending : Option Question) → Pending l Offered at state (plea_server plea) pending
-      → Comes pending (contested_turned address at salt (client state))
+  used_comes : (Granted : Lease6Content → Type 0) (address : Ip6) (state : State6) (pending : Option Question) → Pending l Offered at state
+      (plea_server plea) pending
+      → Comes Granted pending (contested_turned address at salt (client state))
   unfolding contested_turned
-  used_comes address Off pending p = absurd p
-  used_comes address (Waiting due) pending p = inl p
-  used_comes address (Soliciting exchange None) pending p = inl p
-  used_comes address (Soliciting exchange (Some preference)) pending p = inl p
-  used_comes address (Requesting exchange) pending p = inl p
-  used_comes address Bound pending p = absurd p
-  used_comes address (Renewing exchange) pending p = absurd p
-  used_comes address (Rebinding exchange) pending p = absurd p
-  used_comes address (Restarting exchange end since stands) pending p = absurd p
-  used_comes address (Declining exchange) pending p = absurd p
+  used_comes Granted address Off pending p = absurd p
+  used_comes Granted address (Waiting due) pending p = inl p
+  used_comes Granted address (Soliciting exchange None) pending p = inl p
+  used_comes Granted address (Soliciting exchange (Some preference)) pending p = inl p
+  used_comes Granted address (Requesting exchange) pending p = inl p
+  used_comes Granted address Bound pending p = absurd p
+  used_comes Granted address (Renewing exchange) pending p = absurd p
+  used_comes Granted address (Rebinding exchange) pending p = absurd p
+  used_comes Granted address (Restarting exchange end since stands) pending p = absurd p
+  used_comes Granted address (Declining exchange) pending p = absurd p
 
-  rebind_comes : (state : State6) (pending : Option Question) → Pending l Offered at state (plea_server plea) pending
-      → Comes pending (rebind_turned at salt (client state))
+  rebind_comes : (Granted : Lease6Content → Type 0) (state : State6) (pending : Option Question) → Pending l Offered at state (plea_server plea) pending
+      → Comes Granted pending (rebind_turned at salt (client state))
   unfolding rebind_turned
-  rebind_comes Off pending p = absurd p
-  rebind_comes (Waiting due) pending p = inl p
-  rebind_comes (Soliciting exchange None) pending p = inl p
-  rebind_comes (Soliciting exchange (Some preference)) pending p = inl p
-  rebind_comes (Requesting exchange) pending p = inl p
-  rebind_comes Bound pending p = absurd p
-  rebind_comes (Renewing exchange) pending p = absurd p
-  rebind_comes (Rebinding exchange) pending p = absurd p
-  rebind_comes (Restarting exchange end since stands) pending p = absurd p
-  rebind_comes (Declining exchange) pending p = absurd p
+  rebind_comes Granted Off pending p = absurd p
+  rebind_comes Granted (Waiting due) pending p = inl p
+  rebind_comes Granted (Soliciting exchange None) pending p = inl p
+  rebind_comes Granted (Soliciting exchange (Some preference)) pending p = inl p
+  rebind_comes Granted (Requesting exchange) pending p = inl p
+  rebind_comes Granted Bound pending p = absurd p
+  rebind_comes Granted (Renewing exchange) pending p = absurd p
+  rebind_comes Granted (Rebinding exchange) pending p = absurd p
+  rebind_comes Granted (Restarting exchange end since stands) pending p = absurd p
+  rebind_comes Granted (Declining exchange) pending p = absurd p
 
   -- an offer may come
   abbrev pub MayOffer : Input6 → Type 0
@@ -347,10 +373,10 @@ module _ (settings : SettingsContent) (first wait : ℕ) (short : wait ≤ 1000)
 
   pub input_comes : (input : Input6) (state : State6) (pending : Option Question) → CarrierStays input → NothingIsDenied settings.asks input
       → MayOffer input → Pending l Offered at state (plea_server plea) pending
-      → Comes (left_by settings input pending) (takes at salt input (client state))
+      → Comes (IsGrantedBy at (client state) input) (left_by settings input pending) (takes at salt input (client state))
   input_comes Quiet before pending stays gives_so offers p = inl p
   input_comes (Hears message) before pending stays gives_so offers p = message_comes message gives_so offers before pending p
-  input_comes (IsUsed address) before pending stays gives_so offers p = used_comes address before pending p
-  input_comes Rebinds before pending stays gives_so offers p = rebind_comes before pending p
+  input_comes (IsUsed address) before pending stays gives_so offers p = used_comes (λ lease. ⊥) address before pending p
+  input_comes Rebinds before pending stays gives_so offers p = rebind_comes (λ lease. ⊥) before pending p
   input_comes Drops before pending stays gives_so offers p = absurd stays
   input_comes (Releases tell) before pending stays gives_so offers p = absurd stays

@@ -10,8 +10,44 @@ pub one_life_goes_well : OneLifeGoesWell
 unfolding front_of instances_in carrier_turned hears_turned tick_turned
 one_life_goes_well = record {
   anew = refl;
-  prompt = (record { onward = lit≤ tt; in_time = lit≤ tt }, (record { onward = lit≤ tt; in_time = lit≤ tt }, (record { onward = lit≤ tt; in_time = lit≤ tt }, (record { onward = lit≤ tt; in_time = lit≤ tt }, (record { onward = lit≤ tt; in_time = lit≤ tt }, (record { onward = lit≤ tt; in_time = lit≤ tt }, (record { onward = lit≤ tt; in_time = lit≤ tt }, tt)))))));
-  fair = (record { stays = tt; serves = tt; gives = tt }, (record { stays = tt; serves = λ h. lit≤ tt; gives = λ k h. refl }, (record { stays = tt; serves = λ h. lit≤ tt; gives = tt }, (record { stays = tt; serves = tt; gives = tt }, (record { stays = tt; serves = tt; gives = λ k h. refl }, (record { stays = tt; serves = λ h. lit≤ tt; gives = λ k h. refl }, (record { stays = tt; serves = tt; gives = tt }, tt)))))));
+  prompt = (
+    record { onward = lit≤ tt; in_time = lit≤ tt },
+    (
+      record { onward = lit≤ tt; in_time = lit≤ tt },
+      (
+        record { onward = lit≤ tt; in_time = lit≤ tt },
+        (
+          record { onward = lit≤ tt; in_time = lit≤ tt },
+          (
+            record { onward = lit≤ tt; in_time = lit≤ tt },
+            (
+              record { onward = lit≤ tt; in_time = lit≤ tt },
+              (record { onward = lit≤ tt; in_time = lit≤ tt }, tt),
+            ),
+          ),
+        ),
+      ),
+    ),
+  );
+  fair = (
+    record { stays = tt; serves = tt; gives = tt },
+    (
+      record { stays = tt; serves = λ h. lit≤ tt; gives = λ k h. refl },
+      (
+        record { stays = tt; serves = λ h. lit≤ tt; gives = tt },
+        (
+          record { stays = tt; serves = tt; gives = tt },
+          (
+            record { stays = tt; serves = tt; gives = λ k h. refl },
+            (
+              record { stays = tt; serves = λ h. lit≤ tt; gives = λ k h. refl },
+              (record { stays = tt; serves = tt; gives = tt }, tt),
+            ),
+          ),
+        ),
+      ),
+    ),
+  );
   past_end = lit≤ tt;
 }
 
@@ -19,8 +55,20 @@ pub rapid_life_goes_well : RapidLifeGoesWell
 unfolding front_of instances_in carrier_turned hears_turned tick_turned
 rapid_life_goes_well = record {
   anew = refl;
-  prompt = (record { onward = lit≤ tt; in_time = lit≤ tt }, (record { onward = lit≤ tt; in_time = lit≤ tt }, (record { onward = lit≤ tt; in_time = lit≤ tt }, tt)));
-  fair = (record { stays = tt; serves = tt; gives = tt }, (record { stays = tt; serves = λ h. lit≤ tt; gives = λ k h. refl }, (record { stays = tt; serves = tt; gives = tt }, tt)));
+  prompt = (
+    record { onward = lit≤ tt; in_time = lit≤ tt },
+    (
+      record { onward = lit≤ tt; in_time = lit≤ tt },
+      (record { onward = lit≤ tt; in_time = lit≤ tt }, tt),
+    ),
+  );
+  fair = (
+    record { stays = tt; serves = tt; gives = tt },
+    (
+      record { stays = tt; serves = λ h. lit≤ tt; gives = λ k h. refl },
+      (record { stays = tt; serves = tt; gives = tt }, tt),
+    ),
+  );
   replies = (tt, (refl, (tt, tt)));
   past_end = lit≤ tt;
 }
@@ -35,9 +83,67 @@ renewed_life_goes_well = record {
     lasts = record { t1_ahead = lit≤ tt; t2_ahead = lit≤ tt; renewed = lit< tt; valid = refl };
     settled = refl;
   };
-  prompt = (record { onward = lit≤ tt; in_time = lit≤ tt }, (record { onward = lit≤ tt; in_time = lit≤ tt }, (record { onward = lit≤ tt; in_time = lit≤ tt }, (record { onward = lit≤ tt; in_time = lit≤ tt }, (record { onward = lit≤ tt; in_time = lit≤ tt }, (record { onward = lit≤ tt; in_time = lit≤ tt }, (record { onward = lit≤ tt; in_time = lit≤ tt }, (record { onward = lit≤ tt; in_time = lit≤ tt }, (record { onward = lit≤ tt; in_time = lit≤ tt }, tt)))))))));
-  fair = (record { stays = tt; serves = tt; gives = tt }, (record { stays = tt; serves = λ h. lit≤ tt; gives = λ k h. refl }, (record { stays = tt; serves = tt; gives = tt }, (record { stays = tt; serves = λ h. lit≤ tt; gives = λ k h. refl }, (record { stays = tt; serves = λ h. lit≤ tt; gives = tt }, (record { stays = tt; serves = tt; gives = tt }, (record { stays = tt; serves = tt; gives = λ k h. refl }, (record { stays = tt; serves = λ h. lit≤ tt; gives = λ k h. refl }, (record { stays = tt; serves = tt; gives = tt }, tt)))))))));
-  lasting = (record { undisturbed = tt; lasts = tt }, (record { undisturbed = tt; lasts = λ k. record { t1_ahead = lit≤ tt; t2_ahead = lit≤ tt; renewed = lit< tt; valid = refl } }, (record { undisturbed = tt; lasts = tt }, tt)));
+  prompt = (
+    record { onward = lit≤ tt; in_time = lit≤ tt },
+    (
+      record { onward = lit≤ tt; in_time = lit≤ tt },
+      (
+        record { onward = lit≤ tt; in_time = lit≤ tt },
+        (
+          record { onward = lit≤ tt; in_time = lit≤ tt },
+          (
+            record { onward = lit≤ tt; in_time = lit≤ tt },
+            (
+              record { onward = lit≤ tt; in_time = lit≤ tt },
+              (
+                record { onward = lit≤ tt; in_time = lit≤ tt },
+                (
+                  record { onward = lit≤ tt; in_time = lit≤ tt },
+                  (record { onward = lit≤ tt; in_time = lit≤ tt }, tt),
+                ),
+              ),
+            ),
+          ),
+        ),
+      ),
+    ),
+  );
+  fair = (
+    record { stays = tt; serves = tt; gives = tt },
+    (
+      record { stays = tt; serves = λ h. lit≤ tt; gives = λ k h. refl },
+      (
+        record { stays = tt; serves = tt; gives = tt },
+        (
+          record { stays = tt; serves = λ h. lit≤ tt; gives = λ k h. refl },
+          (
+            record { stays = tt; serves = λ h. lit≤ tt; gives = tt },
+            (
+              record { stays = tt; serves = tt; gives = tt },
+              (
+                record { stays = tt; serves = tt; gives = λ k h. refl },
+                (
+                  record { stays = tt; serves = λ h. lit≤ tt; gives = λ k h. refl },
+                  (record { stays = tt; serves = tt; gives = tt }, tt),
+                ),
+              ),
+            ),
+          ),
+        ),
+      ),
+    ),
+  );
+  lasting = (
+    record { undisturbed = tt; lasts = tt },
+    (
+      record {
+        undisturbed = tt;
+        lasts = λ k.
+            record { t1_ahead = lit≤ tt; t2_ahead = lit≤ tt; renewed = lit< tt; valid = refl };
+      },
+      (record { undisturbed = tt; lasts = tt }, tt),
+    ),
+  );
 }
 
 pub rebound_life_goes_well : ReboundLifeGoesWell
@@ -50,7 +156,79 @@ rebound_life_goes_well = record {
     lasts = record { t1_ahead = lit≤ tt; t2_ahead = lit≤ tt; renewed = tt; valid = refl };
     settled = refl;
   };
-  prompt = (record { onward = lit≤ tt; in_time = lit≤ tt }, (record { onward = lit≤ tt; in_time = lit≤ tt }, (record { onward = lit≤ tt; in_time = lit≤ tt }, (record { onward = lit≤ tt; in_time = lit≤ tt }, (record { onward = lit≤ tt; in_time = lit≤ tt }, (record { onward = lit≤ tt; in_time = lit≤ tt }, (record { onward = lit≤ tt; in_time = lit≤ tt }, (record { onward = lit≤ tt; in_time = lit≤ tt }, (record { onward = lit≤ tt; in_time = lit≤ tt }, (record { onward = lit≤ tt; in_time = lit≤ tt }, tt))))))))));
-  fair = (record { stays = tt; serves = tt; gives = tt }, (record { stays = tt; serves = λ h. lit≤ tt; gives = λ k h. refl }, (record { stays = tt; serves = λ h. absurd (false≢true h); gives = tt }, (record { stays = tt; serves = tt; gives = tt }, (record { stays = tt; serves = λ h. absurd (false≢true h); gives = λ k h. refl }, (record { stays = tt; serves = λ h. absurd (false≢true h); gives = tt }, (record { stays = tt; serves = tt; gives = tt }, (record { stays = tt; serves = tt; gives = λ k h. refl }, (record { stays = tt; serves = λ h. absurd (false≢true h); gives = λ k h. refl }, (record { stays = tt; serves = tt; gives = tt }, tt))))))))));
-  lasting = (record { undisturbed = tt; lasts = tt }, (record { undisturbed = tt; lasts = λ k. record { t1_ahead = lit≤ tt; t2_ahead = lit≤ tt; renewed = tt; valid = refl } }, (record { undisturbed = tt; lasts = tt }, (record { undisturbed = tt; lasts = tt }, tt))));
+  prompt = (
+    record { onward = lit≤ tt; in_time = lit≤ tt },
+    (
+      record { onward = lit≤ tt; in_time = lit≤ tt },
+      (
+        record { onward = lit≤ tt; in_time = lit≤ tt },
+        (
+          record { onward = lit≤ tt; in_time = lit≤ tt },
+          (
+            record { onward = lit≤ tt; in_time = lit≤ tt },
+            (
+              record { onward = lit≤ tt; in_time = lit≤ tt },
+              (
+                record { onward = lit≤ tt; in_time = lit≤ tt },
+                (
+                  record { onward = lit≤ tt; in_time = lit≤ tt },
+                  (
+                    record { onward = lit≤ tt; in_time = lit≤ tt },
+                    (record { onward = lit≤ tt; in_time = lit≤ tt }, tt),
+                  ),
+                ),
+              ),
+            ),
+          ),
+        ),
+      ),
+    ),
+  );
+  fair = (
+    record { stays = tt; serves = tt; gives = tt },
+    (
+      record { stays = tt; serves = λ h. lit≤ tt; gives = λ k h. refl },
+      (
+        record { stays = tt; serves = λ h. absurd (false≢true h); gives = tt },
+        (
+          record { stays = tt; serves = tt; gives = tt },
+          (
+            record { stays = tt; serves = λ h. absurd (false≢true h); gives = λ k h. refl },
+            (
+              record { stays = tt; serves = λ h. absurd (false≢true h); gives = tt },
+              (
+                record { stays = tt; serves = tt; gives = tt },
+                (
+                  record { stays = tt; serves = tt; gives = λ k h. refl },
+                  (
+                    record {
+                      stays = tt;
+                      serves = λ h. absurd
+                          (false≢true h);
+                      gives = λ k h. refl;
+                    },
+                    (record { stays = tt; serves = tt; gives = tt }, tt),
+                  ),
+                ),
+              ),
+            ),
+          ),
+        ),
+      ),
+    ),
+  );
+  lasting = (
+    record { undisturbed = tt; lasts = tt },
+    (
+      record {
+        undisturbed = tt;
+        lasts = λ k.
+            record { t1_ahead = lit≤ tt; t2_ahead = lit≤ tt; renewed = tt; valid = refl };
+      },
+      (
+        record { undisturbed = tt; lasts = tt },
+        (record { undisturbed = tt; lasts = tt }, tt),
+      ),
+    ),
+  );
 }

@@ -193,7 +193,8 @@ turned_stands managed runs own turn c iface s stays =
     let tick : Stands managed (tick_turned turn.at turn.salt c).client (ticked turn.at turn.salt (unsent_in turn.unsent turn.at turn.salt iface)).iface =
     subst (λ (i : Iface). Stands managed (tick_turned turn.at turn.salt c).client (ticked turn.at turn.salt i).iface) (sym sent.is)
     (ticked_stands managed runs own turn.at turn.salt sent.c4 sent.local c) in
-    subst (λ (i : Iface). Stands managed (takes_in (turn_for managed turn) c).client (input_step own turn.at turn.salt turn.event turn.bytes i).iface) (sym tick.is)
+    subst (λ (i : Iface). Stands managed (takes_in (turn_for managed turn) c).client (input_step own turn.at turn.salt turn.event turn.bytes i).iface)
+    (sym tick.is)
     (taken managed runs own turn.at turn.salt tick.c4 tick.local (tick_turned turn.at turn.salt c).client turn.event turn.bytes stays)
 
 -- the interface at its opening
@@ -202,4 +203,5 @@ pub opened_stands : (b : Beginning) (up at salt : ℕ) → RunsDhcp6 up b
 opened_stands b up at salt r =
     subst (λ has. Stands b.managed (client_turns.begun (start_for at salt b)).client
     (then_step (opening_told has (resting b)) (carrier_at_opening has at salt)).iface) (sym r.carrier)
-    (begins_stand b.managed r.runs [] at salt (client_made (settings6_of b.duid b.managed) b.kept6) (record (resting b) { up = true }) (record { c4 = _; local = _; is = refl }))
+    (begins_stand b.managed r.runs [] at salt (client_made (settings6_of b.duid b.managed) b.kept6) (record (resting b) { up = true })
+    (record { c4 = _; local = _; is = refl }))

@@ -14,9 +14,10 @@ use Rattle.settings.specs.declared.interfaces.Managed.{Managed}
 use Rattle.lease6_progress.specs.Acquiring.{HeldBy, longest_choice, longest_delay}
 use Rattle.lease6_progress.specs.ClientTurns.{ClientTurn, Start, client_run, now_in}
 use Rattle.lease6_progress.specs.GoingWell.{Answered, EachQuestion, Fair, NotAfter, Prompt}
-use Rattle.lease6_progress.specs.InterfaceHolds.{ClientsRun, HeldByTurns, HoldsByTurns, InterfaceAcquires, InterfaceStaysHeld}
+use Rattle.lease6_progress.specs.InterfaceHolds.{ClientsRun, HeldByTurns, HoldsByTurns, InterfaceAcquires, InterfaceHolds, InterfaceStaysHeld}
 use Rattle.lease6_progress.specs.InterfaceTurns.{PromptTurns, RunsDhcp6, begun, moment_of_turns, start_for, turn_for, turns_for}
 use Rattle.lease6_progress.specs.Staying.{HoldsItem, has_valid}
+use Rattle.lease6_progress.proofs.Holding.{holds_from_then_on}
 use Rattle.lease6_progress.proofs.Interface.{Stands, opened_stands, turned_stands}
 use Rattle.lease6_progress.proofs.Retaining.{stays_held}
 use Rattle.lease6_progress.proofs.Turning.{acquires}
@@ -147,3 +148,10 @@ interface_stays_held own b up at salt answered wait later earlier r prompt holds
     (stays_held s answered wait (turns_for b.managed later) (turns_for b.managed earlier) holds
     (subst (λ (turns : List ClientTurn). Prompt s turns) same (prompt_so own b up at salt r answered wait (later ++ earlier) fair prompt))
     (subst (λ (turns : List ClientTurn). Fair s answered wait turns) same fair) lasting))
+
+pub interface_holds : InterfaceHolds
+interface_holds own b up at salt wait turns short r anew prompt fair lasting past =
+    holds_so own b up at salt r EachQuestion wait turns fair
+    (holds_from_then_on (start_for at salt b) wait (turns_for b.managed turns) short anew
+    (prompt_so own b up at salt r EachQuestion wait turns fair prompt) fair lasting
+    (subst (λ (moment : ℕ). at + longest_delay (settings6_of b.duid b.managed) + longest_choice + wait < moment) (sym (moments own b up at salt r turns)) past))

@@ -244,7 +244,8 @@ module _ (settings : SettingsContent) (wait at salt : ℕ) (last : Option ℕ) (
         cond_both (is_due (due_of (holding Bound)) at) _ _ (After EachQuestion)
         (λ due. lapse_cases Bound (λ (c : ClientContent). After EachQuestion (stepped (tick_row (turn Bound) (dates Bound) (parting Bound) Bound) None c))
         (λ more plead live.
-        let row : After EachQuestion (stepped (bound_tick (turn Bound) (dates Bound) (parting Bound)) None (client Bound (Some (lease_with more lease)) plead)) =
+        let row : After EachQuestion (stepped (bound_tick (turn Bound) (dates Bound) (parting Bound)) None (client Bound (Some
+        (lease_with more lease)) plead)) =
         cond_both (is_last (parting Bound)) _ _
         (λ (step : Step6). After EachQuestion (stepped step None (client Bound (Some (lease_with more lease)) plead)))
         (λ gone. absurd (not_both (parting Bound).stays some (and_parts (parting Bound).goes (not (parting Bound).stays) gone).1))
@@ -283,7 +284,8 @@ module _ (settings : SettingsContent) (wait at salt : ℕ) (last : Option ℕ) (
         cond_both (is_due (due_of (holding state)) at) _ _ (After EachQuestion)
         (λ due. lapse_cases state (λ (c : ClientContent). After EachQuestion (stepped (tick_row (turn state) (dates state) (parting state) state) None c))
         (λ more plead live.
-        let row : After EachQuestion (stepped (renewing_tick (turn state) (dates state) (parting state) exchange) None (client state (Some (lease_with more lease)) plead)) =
+        let row : After EachQuestion (stepped (renewing_tick (turn state) (dates state) (parting state) exchange) None (client state (Some
+        (lease_with more lease)) plead)) =
         cond_both (is_last (parting state)) _ _
         (λ (step : Step6). After EachQuestion (stepped step None (client state (Some (lease_with more lease)) plead)))
         (λ gone. absurd (not_both (parting state).stays some (and_parts (parting state).goes (not (parting state).stays) gone).1))
@@ -369,9 +371,11 @@ module _ (settings : SettingsContent) (wait at salt : ℕ) (last : Option ℕ) (
         (λ more plead live.
         let row : After RebindsAlone (stepped (bound_tick (turn Bound) (dates Bound)
         (parting Bound)) None (client Bound (Some (lease_with more lease)) plead)) =
-        cond_both ((parting Bound).goes && not ((parting Bound).stays)) _ _ (λ (step : Step6). After RebindsAlone (stepped step None (client Bound (Some (lease_with more lease)) plead)))
+        cond_both ((parting Bound).goes && not ((parting Bound).stays)) _ _ (λ (step : Step6). After RebindsAlone (stepped step None (client Bound (Some
+        (lease_with more lease)) plead)))
         (λ gone. absurd (not_both ((parting Bound).stays) some (and_parts ((parting Bound).goes) (not ((parting Bound).stays)) gone).1))
-        (λ left. cond_both (is_due lease.t2 at) _ _ (λ (step : Step6). After RebindsAlone (stepped step None (client Bound (Some (lease_with more lease)) plead)))
+        (λ left. cond_both (is_due lease.t2 at) _ _ (λ (step : Step6). After RebindsAlone (stepped step None (client Bound (Some
+        (lease_with more lease)) plead)))
         (λ t2. rebind_now Bound t2_ahead more plead
         (ap (λ (o : Option Question). asked_by at (Some (said_now kind.Rebind (new_xid (turn Bound)) at more plead)) o) r.none) live t2)
         (λ no. cond_both (is_due lease.t1 at) _ _ (λ (step : Step6). After RebindsAlone (stepped step None (client Bound (Some (lease_with more lease)) plead)))
@@ -398,7 +402,8 @@ module _ (settings : SettingsContent) (wait at salt : ℕ) (last : Option ℕ) (
           valid = valid_after settings.asks wait lease.t2 lease.ias more at still live valid;
           stage = record { t1_ahead = t1_ahead; t2_ahead = t2_ahead; none = r.none };
         }))) in
-        cond_both ((parting Bound).goes) _ _ (λ (step : Step6). After RebindsAlone (stepped step None (client Bound (Some (lease_with more lease)) plead))) (λ g. row) (λ g. row)))
+        cond_both ((parting Bound).goes) _ _ (λ (step : Step6). After RebindsAlone (stepped step None (client Bound (Some (lease_with more lease)) plead)))
+        (λ g. row) (λ g. row)))
         (λ early. record {
           lease = lease;
           kept = refl;
@@ -412,7 +417,8 @@ module _ (settings : SettingsContent) (wait at salt : ℕ) (last : Option ℕ) (
     unfolding tick_turned
     rebind_renewing exchange r prompt =
         let t2_ahead : IsAhead at lease.t2 =
-        ahead_so lease.t2 now at (sooner_first lease.t2 _ now at (sooner_second (Some exchange.due) _ now at prompt)) r.t2_ahead in
+        ahead_so lease.t2 now at (sooner_first lease.t2 (dates (Renewing exchange)).lapse now at
+        (sooner_second (Some exchange.due) (earlier lease.t2 (dates (Renewing exchange)).lapse) now at prompt)) r.t2_ahead in
         let still : IsStill at wait lease.t2 = still_ahead at wait lease.t2 t2_ahead in
         let some : has_valid settings.asks at lease.ias ≡ true = valid_now settings.asks wait lease.t2 lease.ias at still valid in
         let state : State6 = Renewing exchange in
@@ -424,13 +430,17 @@ module _ (settings : SettingsContent) (wait at salt : ℕ) (last : Option ℕ) (
         (λ more plead live.
         let row : After RebindsAlone (stepped (renewing_tick (turn state) (dates state)
         (parting state) exchange) None (client state (Some (lease_with more lease)) plead)) =
-        cond_both ((parting state).goes && not ((parting state).stays)) _ _ (λ (step : Step6). After RebindsAlone (stepped step None (client state (Some (lease_with more lease)) plead)))
+        cond_both ((parting state).goes && not ((parting state).stays)) _ _ (λ (step : Step6). After RebindsAlone (stepped step None (client state (Some
+        (lease_with more lease)) plead)))
         (λ gone. absurd (not_both ((parting state).stays) some (and_parts ((parting state).goes) (not ((parting state).stays)) gone).1))
-        (λ left. cond_both (is_due lease.t2 at) _ _ (λ (step : Step6). After RebindsAlone (stepped step None (client state (Some (lease_with more lease)) plead)))
+        (λ left. cond_both (is_due lease.t2 at) _ _ (λ (step : Step6). After RebindsAlone (stepped step None (client state (Some
+        (lease_with more lease)) plead)))
         (λ t2. rebind_now state t2_ahead more plead
         (ap (λ (o : Option Question). asked_by at (Some (said_now kind.Rebind (new_xid (turn state)) at more plead)) o) r.asks.is
-        ∙ ap (λ (b : Bool). Some (cond b question (new_question at (said_now kind.Rebind (new_xid (turn state)) at more plead)))) (fresh_xid (turn state) exchange.xid r.last_is)) live t2)
-        (λ no. cond_both (is_again_due (turn state) exchange) _ _ (λ (step : Step6). After RebindsAlone (stepped step None (client state (Some (lease_with more lease)) plead)))
+        ∙ ap (λ (b : Bool). Some (cond b question (new_question at (said_now kind.Rebind (new_xid (turn state)) at more plead)))) (fresh_xid
+        (turn state) exchange.xid r.last_is)) live t2)
+        (λ no. cond_both (is_again_due (turn state) exchange) _ _ (λ (step : Step6). After RebindsAlone (stepped step None (client state (Some
+        (lease_with more lease)) plead)))
         (λ more_due. record {
           lease = lease_with more lease;
           kept = refl;
@@ -456,7 +466,8 @@ module _ (settings : SettingsContent) (wait at salt : ℕ) (last : Option ℕ) (
           valid = valid_after settings.asks wait lease.t2 lease.ias more at still live valid;
           stage = record { asks = r.asks; last_is = r.last_is; t2_ahead = t2_ahead };
         }))) in
-        cond_both ((parting state).goes) _ _ (λ (step : Step6). After RebindsAlone (stepped step None (client state (Some (lease_with more lease)) plead))) (λ g. row) (λ g. row)))
+        cond_both ((parting state).goes) _ _ (λ (step : Step6). After RebindsAlone (stepped step None (client state (Some (lease_with more lease)) plead)))
+        (λ g. row) (λ g. row)))
         (λ early. record {
           lease = lease;
           kept = refl;
@@ -481,9 +492,11 @@ module _ (settings : SettingsContent) (wait at salt : ℕ) (last : Option ℕ) (
         (λ more plead live.
         let row : After RebindsAlone (stepped (rebinding_tick (turn state)
         (parting state) exchange) None (client state (Some (lease_with more lease)) plead)) =
-        cond_both ((parting state).goes && not ((parting state).stays)) _ _ (λ (step : Step6). After RebindsAlone (stepped step None (client state (Some (lease_with more lease)) plead)))
+        cond_both ((parting state).goes && not ((parting state).stays)) _ _ (λ (step : Step6). After RebindsAlone (stepped step None (client state (Some
+        (lease_with more lease)) plead)))
         (λ gone. absurd (not_both ((parting state).stays) some (and_parts ((parting state).goes) (not ((parting state).stays)) gone).1))
-        (λ left. cond_both (is_again_due (turn state) exchange) _ _ (λ (step : Step6). After RebindsAlone (stepped step None (client state (Some (lease_with more lease)) plead)))
+        (λ left. cond_both (is_again_due (turn state) exchange) _ _ (λ (step : Step6). After RebindsAlone (stepped step None (client state (Some
+        (lease_with more lease)) plead)))
         (λ more_due. record {
           lease = lease_with more lease;
           kept = refl;
@@ -511,7 +524,8 @@ module _ (settings : SettingsContent) (wait at salt : ℕ) (last : Option ℕ) (
           valid = valid_after settings.asks wait lease.t2 lease.ias more at still live valid;
           stage = record { asks = r.asks; due = r.due; when_is = r.when_is; in_time = r.in_time; not_yet = le };
         })) in
-        cond_both ((parting state).goes) _ _ (λ (step : Step6). After RebindsAlone (stepped step None (client state (Some (lease_with more lease)) plead))) (λ g. row) (λ g. row)))
+        cond_both ((parting state).goes) _ _ (λ (step : Step6). After RebindsAlone (stepped step None (client state (Some (lease_with more lease)) plead)))
+        (λ g. row) (λ g. row)))
         (λ early. record {
           lease = lease;
           kept = refl;

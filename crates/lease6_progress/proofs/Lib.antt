@@ -8,5 +8,6 @@ pub mod Validity
 pub mod Keeping
 pub mod Extending
 pub mod Retaining
+pub mod Holding
 pub mod Interface
 pub mod Interfaces

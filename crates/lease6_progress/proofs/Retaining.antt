@@ -79,7 +79,8 @@ module _ (settings : SettingsContent) (servers : Answered) (wait at salt : ℕ) 
   inputs : (state : State6) (input : Input6) → Stage servers wait at last lease state pending → CarrierStays input
       → NothingIsDenied settings.asks input → IsUndisturbed (holding state) input → GrantsLasting servers wait at (holding state) input
       → After (left_by settings input pending) (takes at salt input (holding state))
-  inputs state Quiet stage stays gives calm lasts = firm settings servers wait at salt last sol_max plea unspent lease renewed valid (holding state) pending refl stage
+  inputs state Quiet stage stays gives calm lasts = firm settings servers wait at salt last sol_max plea unspent lease renewed valid
+      (holding state) pending refl stage
   inputs Bound (Hears message) stage stays gives calm lasts =
       bound_hears settings servers wait at salt last sol_max plea unspent lease renewed valid message gives pending stage
   inputs (Renewing exchange) (Hears message) stage stays gives calm lasts =
@@ -148,7 +149,8 @@ module _ (settings : SettingsContent) (servers : Answered) (wait at salt : ℕ) 
       → Firm settings servers wait at (tick_turned at salt c).client (asked_by at (tick_turned at salt c).out.say pending)
   tick_firm =
       subst (λ (x : SettingsContent). NotAfter (due_of (at_settings x c.kept)) now at → Serves servers wait pending at
-      → Firm settings servers wait at (tick_turned at salt (at_settings x c.kept)).client (asked_by at (tick_turned at salt (at_settings x c.kept)).out.say pending))
+      → Firm settings servers wait at (tick_turned at salt (at_settings x c.kept)).client (asked_by at (tick_turned at salt
+      (at_settings x c.kept)).out.say pending))
       (sym same)
       (subst (λ (kept : Option Lease6Content). NotAfter (due_of (at_settings settings kept)) now at → Serves servers wait pending at
       → Firm settings servers wait at (tick_turned at salt (at_settings settings kept)).client

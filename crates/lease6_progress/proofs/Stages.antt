@@ -6,6 +6,7 @@ use Rattle.std.specs.Prelude.{◌⊎◌, ◌==◌, if◌then◌else◌}
 use Rattle.machine.specs.Draw.{draw_of}
 use Rattle.v6_message.specs.declared.kind.Kind6.{Kind6}
 use Rattle.v6_message.specs.declared.kind.Kind6.TheVariants as kind
+use Rattle.v6_message.specs.declared.kind.ServerKind6.TheVariants.{Reply}
 use Rattle.v6_message.specs.Requests.{AskedContent}
 use Rattle.v6_retrans.specs.Retransmission.{bounded, doubled, next_time, positive_rand_of, rand_of, spread}
 use Rattle.v6_retrans.specs.declared.parameters.TheConstants.{REQUEST}
@@ -14,12 +15,14 @@ use Rattle.v6_client.specs.declared.exchange.Exchange6.{Exchange6}
 use Rattle.v6_client.specs.declared.states.State6.{State6}
 use Rattle.v6_client.specs.declared.states.State6.TheVariants.{Off, Waiting, Soliciting, Requesting, Bound, Renewing, Rebinding, Restarting, Declining}
 use Rattle.v6_client.specs.declared.turn.Turn6.{Turn6}
+use Rattle.v6_client.specs.Calls.{fresh_in}
 use Rattle.v6_client.specs.Clients.{ClientContent, PleaContent, held_of}
 use Rattle.v6_client.specs.Exchanges.{again, begun, capped, rand_in, solicit_parameters}
 use Rattle.v6_client.specs.Saying.{SpokenContent, plea_server}
 use Rattle.v6_client.specs.Settings.{SettingsContent}
 use Rattle.v6_client.specs.Times.{first_delay}
 use Rattle.lease6_progress.specs.Acquiring.{has_item, longest_delay}
+use Rattle.lease6_progress.specs.ClientTurns.{Input6, Hears}
 use Rattle.lease6_progress.specs.GoingWell.{NotAfter}
 use Rattle.lease6_progress.specs.Questions.{Question}
 
@@ -175,13 +178,19 @@ Pending l Offered now (Declining exchange) server pending = ⊥
 abbrev pub PendingIn : Limits → (Offered : Type 0) → (now : ℕ) → ClientContent → Option Question → Type 0
 PendingIn l Offered now c pending = Pending l Offered now c.state (plea_server c.plea) pending
 
--- an item is held, and nothing is asked
-pub record HoldsSome (c : ClientContent) (pending : Option Question) : Type 0 where
+-- a Reply grants this lease
+abbrev pub IsGrantedBy : (at : ℕ) → ClientContent → Input6 → Lease6Content → Type 0
+IsGrantedBy at c (Hears message) lease = (message.kind ≡ Reply) × (fresh_in at c message ≡ Some lease)
+IsGrantedBy at c _ lease = ⊥
+
+-- an item is held that was granted so, and nothing is asked
+pub record HoldsSome (Granted : Lease6Content → Type 0) (c : ClientContent) (pending : Option Question) : Type 0 where
   pub lease : Lease6Content
   pub bound : c.state ≡ Bound
   pub held : held_of c ≡ Some lease
   pub some_item : has_item lease ≡ true
   pub settled : pending ≡ None
+  pub granted : Granted lease
 
 -- a client with some settings
 abbrev pub client_of : SettingsContent → (last : Option ℕ) → (sol_max : ℕ) → State6 → Option Lease6Content → Option PleaContent → (unspent : Bool)

@@ -3,6 +3,7 @@ use Rattle.std.proofs.Common.{◌≡◌, ℕ, ◌+◌, ◌<◌, ◌≤◌, Bool,
 use Rattle.std.proofs.lemmas.Bool.{cases_lt}
 use Rattle.std.specs.Prelude.{◌⊎◌}
 use Rattle.v6_message.specs.declared.kind.ServerKind6.TheVariants.{Advertise, Reply}
+use Rattle.v6_retrans.specs.declared.parameters.TheConstants.{SOLICIT}
 use Rattle.v6_client.specs.declared.states.Carrier6.TheVariants.{Up, Down}
 use Rattle.v6_client.specs.declared.states.State6.{State6}
 use Rattle.v6_client.specs.declared.states.Step6.{Step6}
@@ -15,12 +16,12 @@ use Rattle.v6_client.specs.Settings.{SettingsContent}
 use Rattle.v6_client.specs.Steps.{restarts, to_waiting}
 use Rattle.v6_client.specs.Times.{first_delay}
 use Rattle.v6_client.proofs.StayingRuns.{settings_stay}
-use Rattle.lease6_progress.specs.Acquiring.{Acquires, AcquiresAtOnce, BeginsAnew, HeldBy, IsReply, RepliesAlone, longest_delay}
+use Rattle.lease6_progress.specs.Acquiring.{Acquires, AcquiresAtOnce, BeginsAnew, HeldBy, IsReply, RepliesAlone, longest_choice, longest_delay}
 use Rattle.lease6_progress.specs.ClientTurns.{ClientTurn, Input6, Quiet, Hears, IsUsed, Rebinds, Drops, Releases, Start, acts_in, begun, client_run, now_in, takes, takes_in}
 use Rattle.lease6_progress.specs.GoingWell.{CarrierStays, Fair, EachQuestion, IsFair, IsPrompt, NotAfter, NothingIsDenied, Prompt, Serves}
 use Rattle.lease6_progress.specs.Questions.{Question, asked_by, left_by, question_in}
 use Rattle.lease6_progress.proofs.Hearing.{MayOffer, input_comes}
-use Rattle.lease6_progress.proofs.Stages.{HoldsSome, Limits, Pending, PendingIn, delay_most, further, none_pending, none_pending_at_once}
+use Rattle.lease6_progress.proofs.Stages.{HoldsSome, IsGrantedBy, Limits, Pending, PendingIn, delay_most, further, none_pending, none_pending_at_once}
 use Rattle.lease6_progress.proofs.Ticking.{tick_pends}
 
 -- ---- the settings stay
@@ -78,6 +79,14 @@ replies_alone (turn ∷ past) h = (none_may turn.input h.0, replies_alone past h
 
 -- ---- turns
 
+-- An item is held since a turn in which a Reply granted it.
+pub record HeldSince (s : Start) (turns : List ClientTurn) (end : ℕ) : Type 0 where
+  pub by : HeldBy s turns end
+  pub turn : ClientTurn
+  pub past : List ClientTurn
+  pub is : by.earlier ≡ turn ∷ past
+  pub granted : IsGrantedBy turn.at (acts_in turn (client_run s past)).client turn.input by.lease
+
 module _ (s : Start) (first wait : ℕ) (short : wait ≤ 1000) (Offered : Type 0) (end : ℕ)
     (late : (now : ℕ) (state : State6) (server : Option (List ℕ)) (pending : Option Question) → end < now
     → Pending (record { rapid = s.settings.site.rapid; first = first; wait = wait }) Offered now state server pending → ⊥) where
@@ -101,15 +110,16 @@ module _ (s : Start) (first wait : ℕ) (short : wait ≤ 1000) (Offered : Type 
       → NothingIsDenied s.settings.asks input
       → MayOffer s.settings first wait short Offered at salt c.last c.sol_max c.kept c.plea c.fresh input
       → PendingIn l Offered at c pending
-      → Goes at (left_by s.settings input pending) (takes at salt input c) ⊎ HoldsSome (takes at salt input c).client (asked_by at (takes at salt input c).out.say (left_by s.settings input pending))
+      → Goes at (left_by s.settings input pending) (takes at salt input c) ⊎ HoldsSome (IsGrantedBy at c input) (takes at salt input c).client (asked_by at
+      (takes at salt input c).out.say (left_by s.settings input pending))
   input_goes c same pending at salt input stays gives offers p =
       subst (λ (x : SettingsContent). Goes at (left_by s.settings input pending) (takes at salt input (record c { settings = x }))
-      ⊎ HoldsSome (takes at salt input (record c { settings = x })).client
+      ⊎ HoldsSome (IsGrantedBy at (record c { settings = x }) input) (takes at salt input (record c { settings = x })).client
       (asked_by at (takes at salt input (record c { settings = x })).out.say (left_by s.settings input pending))) (sym same)
       (input_comes s.settings first wait short Offered at salt c.last c.sol_max c.kept c.plea c.fresh input c.state pending stays gives offers p)
 
   abbrev So : List ClientTurn → Type 0
-  So turns = PendingIn l Offered (now_in s turns) (client_run s turns) (question_in s turns) ⊎ HeldBy s turns end
+  So turns = PendingIn l Offered (now_in s turns) (client_run s turns) (question_in s turns) ⊎ HeldSince s turns end
 
   by_then : (at : ℕ) (state : State6) (server : Option (List ℕ)) (pending : Option Question) → Pending l Offered at state server pending → at ≤ end
   by_then at state server pending p = elim (cases_lt end at) [
@@ -139,15 +149,21 @@ module _ (s : Start) (first wait : ℕ) (short : wait ≤ 1000) (Offered : Type 
       (offers_in turn.input turn.at turn.salt c1 offers) ticked) [
         | inl pending ↦ inl pending
         | inr h ↦ inr (record {
-          later = [];
-          earlier = turn ∷ past;
-          cut = refl;
-          in_time = by_then turn.at c1.state (plea_server c1.plea) pending ticked;
-          lease = h.lease;
-          bound = h.bound;
-          held = h.held;
-          some_item = h.some_item;
-          settled = h.settled;
+          by = record {
+            later = [];
+            earlier = turn ∷ past;
+            cut = refl;
+            in_time = by_then turn.at c1.state (plea_server c1.plea) pending ticked;
+            lease = h.lease;
+            bound = h.bound;
+            held = h.held;
+            some_item = h.some_item;
+            settled = h.settled;
+          };
+          turn = turn;
+          past = past;
+          is = refl;
+          granted = h.granted;
         })
       ]
 
@@ -155,15 +171,21 @@ module _ (s : Start) (first wait : ℕ) (short : wait ≤ 1000) (Offered : Type 
       → So (turn ∷ past)
   one_more turn past (inl p) prompt fair offers = more turn past p prompt fair offers
   one_more turn past (inr h) prompt fair offers = inr (record {
-    later = turn ∷ h.later;
-    earlier = h.earlier;
-    cut = ap (λ (turns : List ClientTurn). turn ∷ turns) h.cut;
-    in_time = h.in_time;
-    lease = h.lease;
-    bound = h.bound;
-    held = h.held;
-    some_item = h.some_item;
-    settled = h.settled;
+    by = record {
+      later = turn ∷ h.by.later;
+      earlier = h.by.earlier;
+      cut = ap (λ (turns : List ClientTurn). turn ∷ turns) h.by.cut;
+      in_time = h.by.in_time;
+      lease = h.by.lease;
+      bound = h.by.bound;
+      held = h.by.held;
+      some_item = h.by.some_item;
+      settled = h.by.settled;
+    };
+    turn = h.turn;
+    past = h.past;
+    is = h.is;
+    granted = h.granted;
   })
 
   -- ---- all turns
@@ -173,7 +195,8 @@ module _ (s : Start) (first wait : ℕ) (short : wait ≤ 1000) (Offered : Type 
   all_go (turn ∷ past) so prompt fair offers =
       one_more turn past (all_go past so prompt.1 fair.1 offers.1) prompt.0 fair.0 offers.0
 
-  pub held_then : (turns : List ClientTurn) → So [] → Prompt s turns → Fair s EachQuestion wait turns → AllOffer Offered turns → end < now_in s turns → HeldBy s turns end
+  pub held_then : (turns : List ClientTurn) → So [] → Prompt s turns → Fair s EachQuestion wait turns → AllOffer Offered turns → end < now_in s turns
+      → HeldSince s turns end
   held_then turns so prompt fair offers past = elim (all_go turns so prompt fair offers) [
     | inl p ↦ absurd (late (now_in s turns) (client_run s turns).state (plea_server (client_run s turns).plea) (question_in s turns) past p)
     | inr h ↦ h
@@ -207,18 +230,29 @@ module _ (s : Start) (wait : ℕ) (Offered : Type 0) where
   unfolding carrier_turned
   begins_so anew =
       subst (λ (b : Bool). PendingIn limits Offered s.at (begin_by b).client (asked_by s.at (begin_by b).out.say None)) (sym anew)
-      (record { none = refl; in_time = sum_most s.at (first_delay turn) (longest_delay s.settings) (delay_most turn); not_yet = further s.at (first_delay turn) })
+      (record {
+        none = refl;
+        in_time = sum_most s.at (first_delay turn) (longest_delay s.settings) (delay_most turn);
+        not_yet = further s.at
+            (first_delay turn);
+      })
 
 -- ---- the laws
 
-pub acquires : Acquires
-acquires s wait turns short anew prompt fair past =
+-- by the turn in which it was granted
+pub held_since : (s : Start) (wait : ℕ) (turns : List ClientTurn) → wait ≤ SOLICIT.irt → BeginsAnew s → Prompt s turns
+    → Fair s EachQuestion wait turns → s.at + longest_delay s.settings + longest_choice + wait < now_in s turns
+    → HeldSince s turns (s.at + longest_delay s.settings + longest_choice + wait)
+held_since s wait turns short anew prompt fair past =
     held_then s (s.at + longest_delay s.settings) wait short (Unit {0}) (s.at + longest_delay s.settings + 1100 + wait)
     (λ now state server pending over p. none_pending (limits s wait (Unit {0})) (Unit {0}) now state server pending over p) turns
     (inl (begins_so s wait (Unit {0}) anew)) prompt fair (all_may turns) past
 
+pub acquires : Acquires
+acquires s wait turns short anew prompt fair past = (held_since s wait turns short anew prompt fair past).by
+
 pub acquires_at_once : AcquiresAtOnce
 acquires_at_once s wait turns short anew prompt fair replies past =
-    held_then s (s.at + longest_delay s.settings) wait short ⊥ (s.at + longest_delay s.settings + wait)
+    (held_then s (s.at + longest_delay s.settings) wait short ⊥ (s.at + longest_delay s.settings + wait)
     (λ now state server pending over p. none_pending_at_once (limits s wait ⊥) now state server pending over p) turns
-    (inl (begins_so s wait ⊥ anew)) prompt fair (replies_alone turns replies) past
+    (inl (begins_so s wait ⊥ anew)) prompt fair (replies_alone turns replies) past).by

@@ -2,7 +2,7 @@
 use Rattle.std.specs.Prelude.{◌≡◌, ℕ, ◌+◌, ◌*◌, ◌/◌, ◌<◌, ◌≤◌, Bool, true, false, List, [], ◌∷◌, ◌++◌, Some, None, if◌then◌else◌}
 use Rattle.std.specs.List.{list_any}
 use Rattle.v6_message.specs.declared.kind.ServerKind6.TheVariants.{Reply}
-use Rattle.v6_retrans.specs.declared.parameters.TheConstants.{SOL_TIMEOUT}
+use Rattle.v6_retrans.specs.declared.parameters.TheConstants.{SOLICIT}
 use Rattle.lease6_text.specs.Leases.{Lease6Content}
 use Rattle.v6_client.specs.declared.states.State6.TheVariants.{Bound}
 use Rattle.v6_client.specs.Calls.{parting_begun}
@@ -39,11 +39,12 @@ longest_delay settings = if settings.site.nodelay then 1 else 1000
 
 -- the longest time for which offers are collected: the first SOLICIT's, and a tenth of it (sections 15 and 18.2.1)
 abbrev pub longest_choice : ℕ
-longest_choice = SOL_TIMEOUT * 11 / 10
+longest_choice = SOLICIT.irt * 11 / 10
 
--- By SOLICIT, Advertise, REQUEST and Reply. A server that answers later than this isn't waited for without a further SOLICIT.
+-- By SOLICIT, Advertise, REQUEST and Reply, where servers take no longer than the first SOLICIT's shortest time.
 abbrev pub Acquires : Type 0
-Acquires = (s : Start) (wait : ℕ) (turns : List ClientTurn) → wait ≤ SOL_TIMEOUT → BeginsAnew s → Prompt s turns → Fair s EachQuestion wait turns
+Acquires = (s : Start) (wait : ℕ) (turns : List ClientTurn) → wait ≤ SOLICIT.irt → BeginsAnew s → Prompt s turns
+    → Fair s EachQuestion wait turns
     → s.at + longest_delay s.settings + longest_choice + wait < now_in s turns
     → HeldBy s turns (s.at + longest_delay s.settings + longest_choice + wait)
 
@@ -58,6 +59,6 @@ RepliesAlone (turn ∷ past) = IsReply turn.input × RepliesAlone past
 
 -- By SOLICIT and Reply, where servers commit to a SOLICIT at once.
 abbrev pub AcquiresAtOnce : Type 0
-AcquiresAtOnce = (s : Start) (wait : ℕ) (turns : List ClientTurn) → wait ≤ SOL_TIMEOUT → BeginsAnew s → Prompt s turns
+AcquiresAtOnce = (s : Start) (wait : ℕ) (turns : List ClientTurn) → wait ≤ SOLICIT.irt → BeginsAnew s → Prompt s turns
     → Fair s EachQuestion wait turns → RepliesAlone turns → s.at + longest_delay s.settings + wait < now_in s turns
     → HeldBy s turns (s.at + longest_delay s.settings + wait)

@@ -31,8 +31,8 @@ CarrierStays _ = Unit {0}
 
 -- ---- served
 
--- which questions servers answer: each; or REBINDs alone, where the server that granted what is held is silent (RFC 8415,
--- section 18.2.5)
+-- which questions servers answer: each; or REBINDs alone, where the server that granted what is held is silent (RFC
+-- 8415, section 18.2.5)
 pub data Answered : Type 0 where
   EachQuestion : Answered
   RebindsAlone : Answered
@@ -57,7 +57,8 @@ NothingIsDenied asks (Hears message) = message.kind ≡ Reply → serves asks me
 NothingIsDenied asks _ = Unit {0}
 
 -- `wait` is how long servers take to answer
-pub record IsFair (s : Start) (answered : Answered) (wait : ℕ) (turn : ClientTurn) (past : List ClientTurn) : Type 0 where
+pub record IsFair (s : Start) (answered : Answered) (wait : ℕ) (turn : ClientTurn)
+    (past : List ClientTurn) : Type 0 where
   pub stays : CarrierStays turn.input
   pub serves : Serves answered wait (question_in s past) turn.at
   pub gives : NothingIsDenied s.settings.asks turn.input

@@ -1,7 +1,7 @@
 -- That an interface holds an item of DHCPv6 in time, and from then on. Moments are in milliseconds.
 use Rattle.std.specs.Prelude.{◌≡◌, ℕ, ◌+◌, ◌<◌, ◌≤◌, true, List, ◌++◌, Some}
 use Rattle.net_types.specs.declared.address.Mac.{Mac}
-use Rattle.v6_retrans.specs.declared.parameters.TheConstants.{SOL_TIMEOUT}
+use Rattle.v6_retrans.specs.declared.parameters.TheConstants.{SOLICIT}
 use Rattle.lease6_text.specs.Leases.{Lease6Content}
 use Rattle.v6_client.specs.Clients.{held_of}
 use Rattle.client_model.specs.declared.interfaces.Iface.{Iface}
@@ -13,11 +13,12 @@ use Rattle.lease6_progress.specs.Acquiring.{BeginsAnew, has_item, longest_choice
 use Rattle.lease6_progress.specs.ClientTurns.{client_run}
 use Rattle.lease6_progress.specs.GoingWell.{Answered, EachQuestion, Fair}
 use Rattle.lease6_progress.specs.InterfaceTurns.{PromptTurns, RunsDhcp6, begun, moment_of_turns, start_for, turns_for}
-use Rattle.lease6_progress.specs.Staying.{HoldsLasting, Lasting, has_valid}
+use Rattle.lease6_progress.specs.Staying.{AlwaysLasting, HoldsLasting, Lasting, has_valid}
 
 -- Whatever else the interface does, its DHCPv6 client goes through its own turns, while these go as they should.
 abbrev pub ClientsRun : Type 0
-ClientsRun = (own : List Mac) (b : Beginning) (up at salt : ℕ) (answered : Answered) (wait : ℕ) (turns : List Turn) → RunsDhcp6 up b
+ClientsRun = (own : List Mac) (b : Beginning) (up at salt : ℕ) (answered : Answered) (wait : ℕ) (turns : List Turn)
+    → RunsDhcp6 up b
     → Fair (start_for at salt b) answered wait (turns_for b.managed turns)
     → (iface_run own (begun up at salt b) turns).dhcp6 ≡ client_run (start_for at salt b) (turns_for b.managed turns)
 
@@ -33,11 +34,13 @@ pub record HeldByTurns (own : List Mac) (iface : Iface) (start : ℕ) (turns : L
 
 -- by SOLICIT, Advertise, REQUEST and Reply
 abbrev pub InterfaceAcquires : Type 0
-InterfaceAcquires = (own : List Mac) (b : Beginning) (up at salt wait : ℕ) (turns : List Turn) → wait ≤ SOL_TIMEOUT → RunsDhcp6 up b
+InterfaceAcquires = (own : List Mac) (b : Beginning) (up at salt wait : ℕ) (turns : List Turn) → wait ≤ SOLICIT.irt
+    → RunsDhcp6 up b
     → BeginsAnew (start_for at salt b) → PromptTurns own (begun up at salt b) at turns
     → Fair (start_for at salt b) EachQuestion wait (turns_for b.managed turns)
     → at + longest_delay (settings6_of b.duid b.managed) + longest_choice + wait < moment_of_turns at turns
-    → HeldByTurns own (begun up at salt b) at turns (at + longest_delay (settings6_of b.duid b.managed) + longest_choice + wait)
+    → HeldByTurns own (begun up at salt b) at turns
+    (at + longest_delay (settings6_of b.duid b.managed) + longest_choice + wait)
 
 -- an item is held that is valid
 pub record HoldsByTurns (own : List Mac) (b : Beginning) (iface : Iface) (start : ℕ) (turns : List Turn) : Type 0 where
@@ -47,9 +50,20 @@ pub record HoldsByTurns (own : List Mac) (b : Beginning) (iface : Iface) (start 
 
 -- After each later turn a valid item is held.
 abbrev pub InterfaceStaysHeld : Type 0
-InterfaceStaysHeld = (own : List Mac) (b : Beginning) (up at salt : ℕ) (answered : Answered) (wait : ℕ) (later earlier : List Turn)
+InterfaceStaysHeld = (own : List Mac) (b : Beginning) (up at salt : ℕ) (answered : Answered) (wait : ℕ)
+    (later earlier : List Turn)
     → RunsDhcp6 up b → PromptTurns own (begun up at salt b) at (later ++ earlier)
     → HoldsLasting (start_for at salt b) answered wait (turns_for b.managed earlier)
     → Fair (start_for at salt b) answered wait (turns_for b.managed (later ++ earlier))
     → Lasting (start_for at salt b) answered wait (turns_for b.managed later) (turns_for b.managed earlier)
     → HoldsByTurns own b (begun up at salt b) at (later ++ earlier)
+
+-- So it holds one from a moment on, by which it acquired it.
+abbrev pub InterfaceHolds : Type 0
+InterfaceHolds = (own : List Mac) (b : Beginning) (up at salt wait : ℕ) (turns : List Turn) → wait ≤ SOLICIT.irt
+    → RunsDhcp6 up b
+    → BeginsAnew (start_for at salt b) → PromptTurns own (begun up at salt b) at turns
+    → Fair (start_for at salt b) EachQuestion wait (turns_for b.managed turns)
+    → AlwaysLasting (start_for at salt b) EachQuestion wait (turns_for b.managed turns)
+    → at + longest_delay (settings6_of b.duid b.managed) + longest_choice + wait < moment_of_turns at turns
+    → HoldsByTurns own b (begun up at salt b) at turns

@@ -31,7 +31,8 @@ is_own managed index = managed.spec.index.number == index
 
 -- what the input of a turn is to the client
 abbrev pub input_for : Managed → Event → List ℕ → Input6
-input_for managed (event.Frame index len) bytes = if_own (is_own managed index) (heard_as (heard6_in managed.spec.mac bytes))
+input_for managed (event.Frame index len) bytes =
+    if_own (is_own managed index) (heard_as (heard6_in managed.spec.mac bytes))
 input_for managed (event.Carrier index true) bytes = Quiet
 input_for managed (event.Carrier index false) bytes = if_own (is_own managed index) Drops
 input_for managed (event.Duplicate index address) bytes = if_own (is_own managed index) (IsUsed address)
@@ -74,4 +75,5 @@ pub record IsPromptTurn (iface : Iface) (last : ℕ) (turn : Turn) : Type 0 wher
 
 abbrev pub PromptTurns : List Mac → Iface → (start : ℕ) → List Turn → Type 0
 PromptTurns own iface start [] = Unit {0}
-PromptTurns own iface start (turn ∷ past) = IsPromptTurn (iface_run own iface past) (moment_of_turns start past) turn × PromptTurns own iface start past
+PromptTurns own iface start (turn ∷ past) =
+    IsPromptTurn (iface_run own iface past) (moment_of_turns start past) turn × PromptTurns own iface start past

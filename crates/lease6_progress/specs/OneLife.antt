@@ -37,13 +37,16 @@ settings = record {
 abbrev pub start : Start
 start = record { settings = settings; kept = None; at = 5000; salt = 0 }
 
--- 2001:db8::7 in the IA_NA and 2001:db8:0:100::/56 in the IA_PD, preferred for 20 seconds and valid for 30; T1 is 10 seconds, and T2 16
+-- 2001:db8::7 in the IA_NA and 2001:db8:0:100::/56 in the IA_PD, preferred for 20 seconds and valid for 30; T1 is 10
+-- seconds, and T2 16
 abbrev pub ias_given : List ℕ
 ias_given =
     (0 ∷ 3 ∷ 0 ∷ 40 ∷ 0 ∷ 0 ∷ 0 ∷ 1 ∷ 0 ∷ 0 ∷ 0 ∷ 10 ∷ 0 ∷ 0 ∷ 0 ∷ 16 ∷ [])
-    ++ (0 ∷ 5 ∷ 0 ∷ 24 ∷ 0x20 ∷ 1 ∷ 0x0d ∷ 0xb8 ∷ 0 ∷ 0 ∷ 0 ∷ 0 ∷ 0 ∷ 0 ∷ 0 ∷ 0 ∷ 0 ∷ 0 ∷ 0 ∷ 7 ∷ 0 ∷ 0 ∷ 0 ∷ 20 ∷ 0 ∷ 0 ∷ 0 ∷ 30 ∷ [])
+    ++ (0 ∷ 5 ∷ 0 ∷ 24 ∷ 0x20 ∷ 1 ∷ 0x0d ∷ 0xb8 ∷ 0 ∷ 0 ∷ 0 ∷ 0 ∷ 0 ∷ 0 ∷ 0 ∷ 0 ∷ 0 ∷ 0 ∷ 0 ∷ 7 ∷ 0 ∷ 0 ∷ 0 ∷ 20 ∷ 0 ∷ 0
+    ∷ 0 ∷ 30 ∷ [])
     ++ (0 ∷ 25 ∷ 0 ∷ 41 ∷ 0 ∷ 0 ∷ 0 ∷ 2 ∷ 0 ∷ 0 ∷ 0 ∷ 10 ∷ 0 ∷ 0 ∷ 0 ∷ 16 ∷ [])
-    ++ (0 ∷ 26 ∷ 0 ∷ 25 ∷ 0 ∷ 0 ∷ 0 ∷ 20 ∷ 0 ∷ 0 ∷ 0 ∷ 30 ∷ 56 ∷ 0x20 ∷ 1 ∷ 0x0d ∷ 0xb8 ∷ 0 ∷ 0 ∷ 1 ∷ 0 ∷ 0 ∷ 0 ∷ 0 ∷ 0 ∷ 0 ∷ 0 ∷ 0 ∷ 0 ∷ [])
+    ++ (0 ∷ 26 ∷ 0 ∷ 25 ∷ 0 ∷ 0 ∷ 0 ∷ 20 ∷ 0 ∷ 0 ∷ 0 ∷ 30 ∷ 56 ∷ 0x20 ∷ 1 ∷ 0x0d ∷ 0xb8 ∷ 0 ∷ 0 ∷ 1 ∷ 0 ∷ 0 ∷ 0 ∷ 0 ∷ 0
+    ∷ 0 ∷ 0 ∷ 0 ∷ 0 ∷ [])
 
 abbrev pub message_of : ServerKind6 → (xid preference : ℕ) → Content6
 message_of k xid preference = record {

@@ -43,8 +43,8 @@ asked_by at (Some said) pending = if is_asking said.kind then Some (asked_anew a
 
 -- ---- answers
 
--- a message of the exchange, to this client, of a server that a DUID tells, and of the one that was asked where one was (sections
--- 16.3 and 16.10)
+-- a message of the exchange, to this client, of a server that a DUID tells, and of the one that was asked where one was
+-- (sections 16.3 and 16.10)
 abbrev pub is_answer : SettingsContent → SpokenContent → Content6 → Bool
 is_answer settings said message =
     (said.xid == message.xid) && has_bytes message.client settings.duid && is_from said.server message.server
@@ -85,7 +85,8 @@ gives asks message = list_any (λ ask. gives_items (said_for ask message)) asks
 
 abbrev pub is_grant : SettingsContent → SpokenContent → Content6 → Bool
 is_grant settings said message =
-    is_answer settings said message && (may_reply said.kind (message.rapid && said.rapid) && serves settings.asks message)
+    is_answer settings said message
+    && (may_reply said.kind (message.rapid && said.rapid) && serves settings.asks message)
     && gives settings.asks message
 
 abbrev pub answers : ServerKind6 → SettingsContent → SpokenContent → Content6 → Bool
@@ -95,7 +96,8 @@ answers Reply settings said message = is_grant settings said message
 -- the question, unless the message answers it
 abbrev pub unanswered : SettingsContent → Content6 → Option Question → Option Question
 unanswered settings message None = None
-unanswered settings message (Some pending) = if answers message.kind settings pending.said message then None else Some pending
+unanswered settings message (Some pending) =
+    if answers message.kind settings pending.said message then None else Some pending
 
 abbrev pub left_by : SettingsContent → Input6 → Option Question → Option Question
 left_by settings (Hears message) pending = unanswered settings message pending
@@ -103,8 +105,8 @@ left_by settings _ pending = pending
 
 -- ---- turns
 
--- The question that is pending after some turns: the last one, unless it was answered. In a turn the client may ask, may be
--- answered, and may ask anew.
+-- The question that is pending after some turns: the last one, unless it was answered. In a turn the client may ask,
+-- may be answered, and may ask anew.
 abbrev pub question_in : Start → List ClientTurn → Option Question
 question_in s [] = asked_by s.at (begun s).out.say None
 question_in s (turn ∷ past) =

@@ -1,8 +1,9 @@
--- That what a DHCPv6 client holds stays held, by RENEW and by REBIND (RFC 8415, sections 18.2.4 and 18.2.5). Moments are in
--- milliseconds.
+-- That what a DHCPv6 client holds stays held, by RENEW and by REBIND (RFC 8415, sections 18.2.4 and 18.2.5). Moments
+-- are in milliseconds.
 use Rattle.std.specs.Prelude.{◌≡◌, ℕ, ◌+◌, ◌<◌, ◌≤◌, Bool, true, false, List, [], ◌∷◌, ◌++◌, Option, Some, None, IfSome}
 use Rattle.std.specs.List.{list_any}
 use Rattle.v6_message.specs.declared.kind.ServerKind6.TheVariants.{Reply}
+use Rattle.v6_retrans.specs.declared.parameters.TheConstants.{SOLICIT}
 use Rattle.lease6_text.specs.Leases.{IaLeaseContent, Lease6Content}
 use Rattle.v6_client.specs.declared.settings.IaAsk.{IaAsk}
 use Rattle.v6_client.specs.declared.states.Cause6.TheVariants.{Duplicate}
@@ -11,6 +12,7 @@ use Rattle.v6_client.specs.Calls.{fresh_in}
 use Rattle.v6_client.specs.Clients.{ClientContent, held_of}
 use Rattle.v6_client.specs.Items.{asked_at, is_live}
 use Rattle.v6_client.specs.Moves.{parting_at}
+use Rattle.lease6_progress.specs.Acquiring.{BeginsAnew, longest_choice, longest_delay}
 use Rattle.lease6_progress.specs.ClientTurns.{ClientTurn, Input6, Hears, IsUsed, Rebinds, Start, acts_in, client_run, now_in}
 use Rattle.lease6_progress.specs.GoingWell.{Answered, EachQuestion, RebindsAlone, Fair, Prompt}
 use Rattle.lease6_progress.specs.Questions.{question_in}
@@ -21,7 +23,8 @@ use Rattle.lease6_progress.specs.Questions.{question_in}
 abbrev pub has_valid : List IaAsk → (at : ℕ) → List IaLeaseContent → Bool
 has_valid asks at ias = list_any (λ ask. list_any (λ item. is_live at item) (asked_at ask ias)) asks
 
--- when a question that servers answer is first asked for a held lease: at T1, the least of its IAs, or at T2 (section 14.2)
+-- when a question that servers answer is first asked for a held lease: at T1, the least of its IAs, or at T2 (section
+-- 14.2)
 abbrev pub asked_when : Answered → Lease6Content → Option ℕ
 asked_when EachQuestion lease = lease.t1
 asked_when RebindsAlone lease = lease.t2
@@ -68,16 +71,23 @@ GrantsLasting answered wait at c (Hears message) =
     message.kind ≡ Reply → IfSome (fresh_in at c message) (Lasts c.settings.asks answered wait at)
 GrantsLasting answered wait at c _ = Unit {0}
 
-pub record IsLasting (s : Start) (answered : Answered) (wait : ℕ) (turn : ClientTurn) (past : List ClientTurn) : Type 0 where
+pub record IsLasting (s : Start) (answered : Answered) (wait : ℕ) (turn : ClientTurn)
+    (past : List ClientTurn) : Type 0 where
   pub undisturbed : IsUndisturbed (acts_in turn (client_run s past)).client turn.input
   pub lasts : GrantsLasting answered wait turn.at (acts_in turn (client_run s past)).client turn.input
 
 -- each of the turns `later`, after those before it
 abbrev pub Lasting : Start → Answered → (wait : ℕ) → (later earlier : List ClientTurn) → Type 0
 Lasting s answered wait [] earlier = Unit {0}
-Lasting s answered wait (turn ∷ later) earlier = IsLasting s answered wait turn (later ++ earlier) × Lasting s answered wait later earlier
+Lasting s answered wait (turn ∷ later) earlier =
+    IsLasting s answered wait turn (later ++ earlier) × Lasting s answered wait later earlier
 
--- ---- the law
+-- each of all turns
+abbrev pub AlwaysLasting : Start → Answered → (wait : ℕ) → List ClientTurn → Type 0
+AlwaysLasting s answered wait [] = Unit {0}
+AlwaysLasting s answered wait (turn ∷ past) = IsLasting s answered wait turn past × AlwaysLasting s answered wait past
+
+-- ---- the laws
 
 -- a lease that lasts is held, and nothing is asked
 pub record HoldsLasting (s : Start) (answered : Answered) (wait : ℕ) (turns : List ClientTurn) : Type 0 where
@@ -95,6 +105,14 @@ pub record HoldsItem (s : Start) (turns : List ClientTurn) : Type 0 where
 
 -- After each later turn a valid item is held.
 abbrev pub StaysHeld : Type 0
-StaysHeld = (s : Start) (answered : Answered) (wait : ℕ) (later earlier : List ClientTurn) → HoldsLasting s answered wait earlier
+StaysHeld = (s : Start) (answered : Answered) (wait : ℕ) (later earlier : List ClientTurn)
+    → HoldsLasting s answered wait earlier
     → Prompt s (later ++ earlier) → Fair s answered wait (later ++ earlier) → Lasting s answered wait later earlier
     → HoldsItem s (later ++ earlier)
+
+-- So a client that begins anew holds a valid item from a moment on, by which it acquired one (sections 18.2.1 and
+-- 18.2.2).
+abbrev pub HoldsFromThenOn : Type 0
+HoldsFromThenOn = (s : Start) (wait : ℕ) (turns : List ClientTurn) → wait ≤ SOLICIT.irt → BeginsAnew s → Prompt s turns
+    → Fair s EachQuestion wait turns → AlwaysLasting s EachQuestion wait turns
+    → s.at + longest_delay s.settings + longest_choice + wait < now_in s turns → HoldsItem s turns
