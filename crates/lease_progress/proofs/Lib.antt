@@ -1,0 +1,11 @@
+pub mod Lived
+pub mod ClientTurns
+pub mod Shown
+pub mod Pending
+pub mod PendingTicks
+pub mod PendingInputs
+pub mod Acquired
+pub mod Opened
+pub mod Paying
+pub mod NineTurns
+pub mod Instance

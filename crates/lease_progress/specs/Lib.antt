@@ -3,3 +3,4 @@ pub mod Serving
 pub mod FairTurns
 pub mod LeaseHeld
 pub mod LeaseStays
+pub mod OneLife
