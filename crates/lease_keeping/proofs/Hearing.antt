@@ -166,8 +166,7 @@ module _ (site : Site) (answered_so : Answered) (wait : ℕ) (free : Type 0) (pa
         → KeepsSo (Checking xid terms from (detection.acd_begun turn.site.iface.index terms.net.ip turn.at turn.salt) stands)
     checking_so xid terms from stands it probes g =
         let long : IfSome (asked_at answered_so terms) (λ due. e.moment + 7000 ≤ due) =
-        subst (λ (b : Bool). IfSome (asked_at answered_so terms) (λ due. e.moment + (if b then 0 else 7000) ≤ due)) (sym noarp ∙ probes) g.probed in
-        (
+        subst (λ (b : Bool). IfSome (asked_at answered_so terms) (λ due. e.moment + (if b then 0 else 7000) ≤ due)) (sym noarp ∙ probes) g.probed in (
           it,
           refl,
           g.enough,

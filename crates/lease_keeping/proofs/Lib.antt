@@ -1,7 +1,9 @@
 mod Asking
 mod Carrying
+mod Chains
 mod Hearing
 mod Keeping
+mod KeptLives
 mod Lives
 mod Moments
 mod Ticking

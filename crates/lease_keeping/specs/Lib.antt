@@ -1,1 +1,2 @@
+pub mod KeptLives
 pub mod LeaseKept

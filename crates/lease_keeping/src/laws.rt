@@ -1,3 +1,4 @@
+ghost use Rattle.lease_keeping.specs.KeptLives.{ReboundLife, RenewedLife};
 ghost use Rattle.lease_keeping.specs.LeaseKept.{HoldsMeanwhile};
 ghost use Rattle.lease_progress.specs.LeaseStays.{StaysHeld};
 
@@ -8,4 +9,11 @@ ghost use Rattle.lease_progress.specs.LeaseStays.{StaysHeld};
 pub fn leases_stay_held()
     ensures stays { StaysHeld }
     ensures meanwhile { HoldsMeanwhile }
+{}
+
+/// Law: the premises can be met. Two lives are written out for which they hold: in one the lease is renewed twice, in the
+/// other servers are asked in vain at T1, and it is rebound twice.
+pub fn keeping_premises_are_met()
+    ensures renewed { RenewedLife }
+    ensures rebound { ReboundLife }
 {}

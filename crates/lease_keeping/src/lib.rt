@@ -5,4 +5,4 @@
 
 mod laws;
 
-pub use laws::leases_stay_held;
+pub use laws::{keeping_premises_are_met, leases_stay_held};
