@@ -209,14 +209,14 @@ module _ (own : List Mac) (b : Beginning) (o : Opening) (answered : Answered) (w
   all_go (met ∷ mets) lived prompt fair first = elim (all_go mets lived.4 prompt.2 fair.1 first) [
     | inl pending ↦ by (goes_on met mets lived fair prompt pending)
     | inr h ↦ inr (record {
-        later = met ∷ h.later;
-        earlier = h.earlier;
-        cut = ap (λ (ms : List Met). met ∷ ms) h.cut;
-        in_time = h.in_time;
-        granted = h.granted;
-        lease = h.lease;
-        held = h.held;
-      })
+      later = met ∷ h.later;
+      earlier = h.earlier;
+      cut = ap (λ (ms : List Met). met ∷ ms) h.cut;
+      in_time = h.in_time;
+      granted = h.granted;
+      lease = h.lease;
+      held = h.held;
+    })
   ]
     where
       by : Stands (met ∷ mets) ⊎ Holds end (entry_of met).moment (client (met ∷ mets)) → Stands (met ∷ mets) ⊎ HeldBy own b o (met ∷ mets) end

@@ -96,34 +96,40 @@ abbrev request_said : Say4
 request_said = request (settings4.site_of interface) first_exchange 0
 
 discovers_so : messages_at site t1 ≡ Some (sent_of discover_said) ∷ []
-discovers_so = says_so t1 (Dhcp4 discover_said ∷ []) refl (record {
-  from_mac = refl;
-  to_mac = refl;
-  from = lit< tt;
-  to = lit< tt;
-  xid = lit< tt;
-  secs = lit< tt;
-  flags = lit< tt;
-  ciaddr = lit< tt;
-  mac = refl;
-  asked = tt;
-  server = tt;
-}, tt)
+discovers_so = says_so t1 (Dhcp4 discover_said ∷ []) refl (
+  record {
+    from_mac = refl;
+    to_mac = refl;
+    from = lit< tt;
+    to = lit< tt;
+    xid = lit< tt;
+    secs = lit< tt;
+    flags = lit< tt;
+    ciaddr = lit< tt;
+    mac = refl;
+    asked = tt;
+    server = tt;
+  },
+  tt,
+)
 
 requests_so : messages_at site t2 ≡ Some (sent_of request_said) ∷ []
-requests_so = says_so t2 (Dhcp4 request_said ∷ []) refl (record {
-  from_mac = refl;
-  to_mac = refl;
-  from = lit< tt;
-  to = lit< tt;
-  xid = lit< tt;
-  secs = lit< tt;
-  flags = lit< tt;
-  ciaddr = lit< tt;
-  mac = refl;
-  asked = lit< tt;
-  server = lit< tt;
-}, tt)
+requests_so = says_so t2 (Dhcp4 request_said ∷ []) refl (
+  record {
+    from_mac = refl;
+    to_mac = refl;
+    from = lit< tt;
+    to = lit< tt;
+    xid = lit< tt;
+    secs = lit< tt;
+    flags = lit< tt;
+    ciaddr = lit< tt;
+    mac = refl;
+    asked = lit< tt;
+    server = lit< tt;
+  },
+  tt,
+)
 
 -- a probe, or an announcement, is no message of DHCPv4
 arp_so : (at : ℕ) (offers : List Offer) (say : ArpSay) → map (λ o. o.bytes) (offers_at site (at_rest at offers)) ≡ map (frame_of interface.spec (ask_of duid interface)) (Arp say ∷ [])
@@ -348,18 +354,37 @@ ack_fair = record {
 }
 
 all_fair : Always (Fair site EachRequest 1000) (at_rest 65000 [] ∷ since8)
-all_fair =
-    (rest_fair 65000 [] since8 refl (all_serve site EachRequest 1000 _ (good9 65000 [])),
-    (rest_fair 8503 announces since7 refl (all_serve site EachRequest 1000 _ (good8 8503 [])),
-    (rest_fair 6503 announces since6 refl (all_serve site EachRequest 1000 _ (good7 6503 [])),
-    (rest_fair 4503 probes since5 refl (all_serve site EachRequest 1000 _ (good6 4503 [])),
-    (rest_fair 3502 probes since4 refl (all_serve site EachRequest 1000 _ (good5 3502 [])),
-    (rest_fair 2501 probes since3 refl (all_serve site EachRequest 1000 _ (good4 2501 [])),
-    (ack_fair,
-    (offer_fair,
-    (rest_fair 1001 discovers (t0 ∷ []) refl serves1,
-    (rest_fair 1000 [] [] refl serves0,
-    tt))))))))))
+all_fair = (
+  rest_fair 65000 [] since8 refl (all_serve site EachRequest 1000 _ (good9 65000 [])),
+  (
+    rest_fair 8503 announces since7 refl (all_serve site EachRequest 1000 _ (good8 8503 [])),
+    (
+      rest_fair 6503 announces since6 refl (all_serve site EachRequest 1000 _ (good7 6503 [])),
+      (
+        rest_fair 4503 probes since5 refl (all_serve site EachRequest 1000 _ (good6 4503 [])),
+        (
+          rest_fair 3502 probes since4 refl (all_serve site EachRequest 1000 _ (good5 3502 [])),
+          (
+            rest_fair 2501 probes since3 refl (all_serve site EachRequest 1000 _ (good4 2501 [])),
+            (
+              ack_fair,
+              (
+                offer_fair,
+                (
+                  rest_fair 1001 discovers (t0 ∷ []) refl serves1,
+                  (
+                    rest_fair 1000 [] [] refl serves0,
+                    tt,
+                  ),
+                ),
+              ),
+            ),
+          ),
+        ),
+      ),
+    ),
+  ),
+)
 
 pub one_life_goes_well : OneLifeGoesWell
 one_life_goes_well = record {
