@@ -189,8 +189,9 @@ module _ (site : Site) (mac : FitsMac site.managed.spec.mac) (duid : length site
       gated (Result6 site) (is_due (due_of c) at) _ _
       (gated (λ (before : ClientContent). Result6 site (stepped step None before))
       (holds state && parting.goes && not (is_at_end at state)) _ _
-      (step_fields step None state _ _ (step_now (is_some plea ≡ true) (is_some (option_map (plea_lapsed at (ias_of kept)) plea) ≡ true) (some_lapsed (ias_of kept) plea) step fits) tt (left_fits (Lapse at) parting kept f.kept)
-      (plea_lapses at (ias_of kept) plea f.plea) (lapsed_asked at (ias_of kept) (asks_at site) plea f.asked))
+      (step_fields step None state _ _
+      (step_now (is_some plea ≡ true) (is_some (option_map (plea_lapsed at (ias_of kept)) plea) ≡ true) (some_lapsed (ias_of kept) plea) step fits) tt
+      (left_fits (Lapse at) parting kept f.kept) (plea_lapses at (ias_of kept) plea f.plea) (lapsed_asked at (ias_of kept) (asks_at site) plea f.asked))
       (step_fields step None state kept plea fits tt f.kept f.plea f.asked))
       (rested_fields state kept plea f)
 
@@ -384,7 +385,8 @@ module _ (site : Site) (mac : FitsMac site.managed.spec.mac) (duid : length site
     reply_fields state kept plea within f =
         step_fields _ (fresh_in at (here state kept plea) message) state kept plea
         (heard_fits (is_some plea ≡ true) turn (answer_in at (here state kept plea) message) state
-        (λ offered. absurd (no_offer (is_declining state) (is_taken (here state kept plea) message) kept (fresh_in at (here state kept plea) message) state offered))
+        (λ offered. absurd (no_offer (is_declining state) (is_taken (here state kept plea) message) kept
+        (fresh_in at (here state kept plea) message) state offered))
         f.state)
         (fresh_fits state kept plea within f.kept) f.kept f.plea f.asked
 

@@ -80,7 +80,8 @@ none_some [] = refl
 none_some (ask ∷ asks) = refl
 
 -- fewer IAs, and more that are asked for
-module _ (ask : IaAsk) (asks : List IaAsk) (fewer : (ia : AskedContent) (ias : List AskedContent) → are_some asks (ia ∷ ias) ≡ true → are_some asks ias ≡ true) where
+module _ (ask : IaAsk) (asks : List IaAsk)
+    (fewer : (ia : AskedContent) (ias : List AskedContent) → are_some asks (ia ∷ ias) ≡ true → are_some asks ias ≡ true) where
   more_by : (ias : List AskedContent) → are_some asks ias ≡ true → are_some (ask ∷ asks) ias ≡ true
   more_by [] h = refl
   more_by (ia ∷ ias) h =

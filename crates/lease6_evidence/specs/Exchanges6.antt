@@ -12,7 +12,8 @@ use Rattle.lease6_evidence.specs.OwnMessages6.{is_own_said}
 -- whether a message is of this interface and this host, and as they are configured
 abbrev pub is_own : Site → Sent6 → Bool
 is_own site sent =
-    bytes_eq sent.mac.bytes site.managed.spec.mac.bytes && bytes_eq sent.said.client site.duid && is_own_said site.managed sent.said
+    bytes_eq sent.mac.bytes site.managed.spec.mac.bytes && bytes_eq sent.said.client site.duid
+    && is_own_said site.managed sent.said
 
 abbrev pub if_own : Site → Sent6 → Option Sent6
 if_own site sent = if is_own site sent then Some sent else None

@@ -29,8 +29,8 @@ NamesAll kind.Rebind asks ias = ias_named ias ≡ ias_wanted asks
 NamesAll kind.Release asks ias = Unit {0}
 NamesAll kind.Decline asks ias = Unit {0}
 
--- The frame is that of the message, byte for byte. It has the hardware address of the interface and the DUID of the host,
--- asks for a Reply at once where that is configured, and names the IAs that are configured.
+-- The frame is that of the message, byte for byte. It has the hardware address of the interface and the DUID of the
+-- host, asks for a Reply at once where that is configured, and names the IAs that are configured.
 pub record IsOwnFrame6 (site : Site) (frame : List ℕ) (sent : Sent6) : Type 0 where
   pub spelled : frame ≡ frame6_of sent
   pub mac : sent.mac ≡ site.managed.spec.mac

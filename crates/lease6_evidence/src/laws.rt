@@ -184,9 +184,10 @@ pub fn four_messages_give_a_lease()
     ensures prefix { HasItemBasis ItemBasis (site_of (client_mac ∷ []) beginning opening) prefixes prefix (shown opening three_turns) }
 {}
 
-/// Law: what is read as the client's own message is a frame that it may say, byte for byte: with the hardware address of its
-/// interface, the DUID of its host, the option for a Reply at once where that is configured, and the configured IAs in their
-/// order, those of a SOLICIT with the prefix that is wished for (RFC 8415, sections 18.2 and 21.14).
+/// Law: what is read as the client's own message is a frame that it may say, byte for byte: with the hardware address of
+/// its interface, the DUID of its host, the option for a Reply at once where that is configured, and, but where items
+/// are given back or declined, the configured IAs in their order, those of a SOLICIT with the prefix that is wished for
+/// (RFC 8415, sections 18.2 and 21.14).
 pub fn own_dhcp6_messages_alone_are_read()
     ensures { OwnFrames6Alone }
 {}
