@@ -105,5 +105,6 @@ module _ (spec : IfSpec) (ask : AskContent) (asks : AskFits ask) (six_long : Fit
 pub each_message_is_read : EachMessageIsRead
 each_message_is_read start turns fits all =
     let one : Managed = start.beginning.managed in
-    all_read one.spec (ask_of start.beginning.duid one) (asking.ask_fits start.beginning.duid one fits.fits.duid fits.fits.managed) fits.fits.managed.mac.six one.spec.mac
+    all_read one.spec (ask_of start.beginning.duid one) (asking.ask_fits start.beginning.duid one fits.fits.duid fits.fits.managed)
+    fits.fits.managed.mac.six one.spec.mac
     (step_after start turns).said (life_fair start turns fits all)

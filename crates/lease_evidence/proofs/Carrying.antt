@@ -140,7 +140,8 @@ tick_carries site clean e past salt c mac early h =
     gated FitsStep due (tick_row turn c.state) (rests turn c.state) (fields.tick_fits turn (turn_mac site mac c h.settings) c.state h.fields)
     (record { state = h.fields; say = tt }) in
     let own : OwnStepOf c.settings.site (tick_step e.moment salt c) =
-    gated (OwnStepOf c.settings.site) due (tick_row turn c.state) (rests turn c.state) (tick_own turn c.state h.sound.state h.names) (rests_own turn c.state h.names) in
+    gated (OwnStepOf c.settings.site) due (tick_row turn c.state) (rests turn c.state) (tick_own turn c.state h.sound.state h.names)
+    (rests_own turn c.state h.names) in
     let After : Step4 → Type 0 = λ (step : Step4). WatchedAfter (Lasts e.moment) e.moment (seen_in site past) (kept_in site past) step in
     record {
       settings = h.settings;

@@ -319,7 +319,8 @@ module _ (at : ℕ) (one two : Step4) (between after : List Said) (others : AreO
       (all_join FitsSaid (said_in one) between (step_fits one first) (others_fit between others))
       (all_join FitsSaid (said_in two) after (step_fits two second) (others_fit after more_others))
 
-  pub all_own : (speaker : Speaker) → IfSome one.say (λ say. is_ours speaker (sent_of say) ≡ true) → IfSome two.say (λ say. is_ours speaker (sent_of say) ≡ true)
+  pub all_own : (speaker : Speaker) → IfSome one.say (λ say. is_ours speaker (sent_of say) ≡ true)
+      → IfSome two.say (λ say. is_ours speaker (sent_of say) ≡ true)
       → AllByRecursion (OwnSaid speaker) (said_all one between two after)
   all_own speaker first second =
       all_join (OwnSaid speaker) (said_in one ++ between) (said_in two ++ after)

@@ -1,5 +1,5 @@
--- What is read in frames as the client's own: each message that it says, and no other one (RFC 2131, sections 2, 4.1 and
--- 4.4.1, table 5).
+-- What is read in frames as the client's own: each message that it says, and no other one (RFC 2131, sections 2, 4.1
+-- and 4.4.1, table 5).
 use Rattle.std.specs.Prelude.{◌≡◌, ℕ, Bool, true, false, ◌&&◌, ◌==◌, if◌then◌else◌, List, [], ◌∷◌, Option, Some, None, is_some}
 use Rattle.std.specs.List.{AllByRecursion}
 use Rattle.net_types.specs.declared.address.Mac.{Mac}
@@ -71,8 +71,8 @@ tells_seconds said Decline = false
 tells_seconds said Release = false
 
 -- The frame is that of the message with the options as configured, byte for byte. It has the hardware address of the
--- interface, the flags as configured and no seconds but in such messages, and comes from the client's own address, or from
--- none and then goes to everyone.
+-- interface, the flags as configured and no seconds but in such messages, and comes from the client's own address, or
+-- from none and then goes to everyone.
 pub record IsOwnFrame (site : Site) (frame : List ℕ) (sent : Sent4) : Type 0 where
   pub spelled : frame ≡ dhcp4.frame_of (ask_of site.duid site.managed) sent
   pub mac : sent.said.mac ≡ site.managed.spec.mac

@@ -143,16 +143,16 @@ pub fn seven_turns_grant_a_lease()
     ensures basis { LeaseBasis (site_of (client_mac ∷ []) beginning opening) (V4 lease.net) 6503 (shown opening seven_turns) }
 {}
 
-/// Law: over every life of an interface each message of DHCPv4 that it says is read in its frame as it is, as the client's
-/// own, and none is read in its other frames (RFC 2131, section 4.4.1 and table 5).
+/// Law: over every life of an interface each message of DHCPv4 that it says is read in its frame as it is, as the
+/// client's own, and none is read in its other frames (RFC 2131, section 4.4.1 and table 5).
 pub fn each_message_is_own()
     ensures { EachMessageIsOwn }
 {}
 
 /// Law: what is read as the client's own is a frame that it may say, byte for byte: with the hardware address of its
-/// interface, the options and flags that are configured, its own address or none, and no seconds but in a DISCOVER and the
-/// REQUEST for an offer. Of an example's DISCOVER, which is read, none is with another hardware address, with flags that aren't
-/// configured, or without the list of options that it asks for.
+/// interface, the options and flags that are configured, its own address or none, and no seconds but in a DISCOVER and
+/// the REQUEST for an offer. Of an example's DISCOVER, which is read, none is with another hardware address, with flags
+/// that aren't configured, or without the list of options that it asks for.
 pub fn own_messages_alone_are_read()
     ensures alone { OwnFramesAlone }
     ensures own { own_read configured first_discover ≡ Some first_discover }
