@@ -9,7 +9,9 @@ use Rattle.world.specs.declared.rows.HostRow.{HostRow}
 use Rattle.world.specs.RowOrder.{in_row_order}
 use Rattle.world.specs.LinkCalls.{LinkTold, Offered, offered, Offers, send_number}
 use Rattle.world.specs.HostCalls.{HostCall, HostTold, Listed, host_answered, host_number, Shows, ListsRows, ListsNone, Changes}
-use Rattle.world.specs.FileLists.{asides, file_at, put_file, rename_file, drop_file}
+use Rattle.world.specs.FileLists.{StoreFile, asides, file_at, put_file, rename_file, drop_file}
+use Rattle.world.specs.SoundStores.{files_by, was_done}
+use Rattle.file_choices.specs.StoreWalks.{LeavesAsTold, IsDoneAsTold, IsTrueOf, Answered}
 use Rattle.world.specs.FileNames.{aside_of}
 use Rattle.world.specs.StoreCalls.{StoreCall, StoreTold, Reading, Found, Missing, Unread, ListedAsides, ReadFile, WroteAside, SyncedAside, RenamedAside, RemovedFile, SettledFiles, reading_of, Appended, ListsAsides, ReadsFile, store_answered, store_number, ChangesFiles, RenameForetold}
 use Rattle.net_types.specs.declared.fault.Failed.{Failed}
@@ -233,6 +235,75 @@ unsettled_by (Some failing) (Some told) new changes foretold = record { adds = s
 pub unwritten : (failing : Option StoreFails) (change : _) (call : Bool → StoreCall) (old new : Option StoreTold) → ChangesFiles {T = Unit {0}} failing change call old new no_memory → new ≡ old
 unwritten failing change call None new changes = changes
 unwritten failing change call (Some told) new changes = changes
+
+-- ---- how a store answered a listing and a reading
+
+listing_done : (failing : Option StoreFails) (told : StoreTold) (names : List (List ℕ)) → StoreForetold failing (store_number (Some told)) done_call → IsDoneAsTold failing (ListedAsides (Some names)) told
+listing_done None told names foretold = tt
+listing_done (Some fails) told names foretold = foretold
+
+listing_failed : (failing : Option StoreFails) (told : StoreTold) → StoreForetold failing (store_number (Some told)) failed_call → IsDoneAsTold failing (ListedAsides None) told
+listing_failed None told foretold = tt
+listing_failed (Some fails) told foretold = foretold
+
+-- a call that leaves the files as they were
+left_alone : (failing : Option StoreFails) (call : StoreCall) (files : List StoreFile) → was_done call ≡ true → files_by call files ≡ files → LeavesAsTold failing call files files
+left_alone None call files done same = inl (sym same)
+left_alone (Some fails) call files done same = sym (ap (λ (b : Bool). cond b (files_by call files) files) done ∙ same)
+
+answered_alone : (failing : Option StoreFails) (call : StoreCall) (told : StoreTold) (new : Option StoreTold) → IsDoneAsTold failing call told → IsTrueOf call told → was_done call ≡ true
+    → files_by call told.files ≡ told.files → new ≡ Some (store_answered call told.files told) → Answered failing (call ∷ []) (Some told) new
+answered_alone failing call told new done truly was same new_is =
+    (store_answered call told.files told, new_is, (told.files, record { done = done; truly = truly; leaves = left_alone failing call told.files was same }, refl))
+
+pub asides_answered : (failing : Option StoreFails) (old new : Option StoreTold) (before names : List (List ℕ)) → before ≡ [] → ListsAsides old new before names done_call
+    → StoreForetold failing (store_number old) done_call → Answered failing (ListedAsides (Some names) ∷ []) old new
+asides_answered failing None new before names empty lists foretold = lists
+asides_answered failing (Some told) new before names empty lists foretold =
+    let is : names ≡ asides told.files = lists.0 ∙ ap (λ (b : List (List ℕ)). b ++ asides told.files) empty in
+    answered_alone failing (ListedAsides (Some names)) told new (listing_done failing told names foretold) is refl refl
+    (lists.1 ∙ ap (λ (ns : List (List ℕ)). Some (store_answered (ListedAsides (Some ns)) told.files told)) (sym is))
+
+pub no_asides_answered : (failing : Option StoreFails) (old new : Option StoreTold) (before names : List (List ℕ)) → ListsAsides old new before names failed_call
+    → StoreForetold failing (store_number old) failed_call → Answered failing (ListedAsides None ∷ []) old new
+no_asides_answered failing None new before names lists foretold = lists
+no_asides_answered failing (Some told) new before names lists foretold =
+    answered_alone failing (ListedAsides None) told new (listing_failed failing told foretold) tt refl refl lists
+
+found_done : (failing : Option StoreFails) (name bytes : List ℕ) (told : StoreTold) → StoreForetold failing (store_number (Some told)) (read_call true) → IsDoneAsTold failing (ReadFile name (Found bytes)) told
+found_done None name bytes told foretold = tt
+found_done (Some fails) name bytes told foretold = foretold
+
+missing_done : (failing : Option StoreFails) (name : List ℕ) (told : StoreTold) → StoreForetold failing (store_number (Some told)) (read_call false) → IsDoneAsTold failing (ReadFile name Missing) told
+missing_done None name told foretold = tt
+missing_done (Some fails) name told foretold = foretold
+
+unread_done : (failing : Option StoreFails) (name : List ℕ) (told : StoreTold) → StoreForetold failing (store_number (Some told)) unread_call → IsDoneAsTold failing (ReadFile name Unread) told
+unread_done None name told foretold = tt
+unread_done (Some fails) name told foretold = foretold
+
+read_answered : (failing : Option StoreFails) (name : List ℕ) (reading : Reading) (told : StoreTold) (new : Option StoreTold) → IsDoneAsTold failing (ReadFile name reading) told
+    → reading_of (file_at name told.files) ≡ reading → new ≡ Some (store_answered (ReadFile name (reading_of (file_at name told.files))) told.files told) → Answered failing (ReadFile name reading ∷ []) (Some told) new
+read_answered failing name reading told new done is new_is =
+    answered_alone failing (ReadFile name reading) told new done (inr (sym is)) refl refl (new_is ∙ ap (λ (r : Reading). Some (store_answered (ReadFile name r) told.files told)) is)
+
+pub found_answered : (name : List ℕ) (failing : Option StoreFails) (old new : Option StoreTold) (before after : List ℕ) → before ≡ [] → ReadsFile name old new before after (read_call true)
+    → StoreForetold failing (store_number old) (read_call true) → Answered failing (ReadFile name (Found after) ∷ []) old new
+found_answered name failing None new before after empty reads foretold = reads
+found_answered name failing (Some told) new before after empty reads foretold =
+    read_answered failing name (Found after) told new (found_done failing name after told foretold) (ap reading_of (found_in name before after (file_at name told.files) empty reads.0)) reads.1
+
+pub missing_answered : (name : List ℕ) (failing : Option StoreFails) (old new : Option StoreTold) (before after : List ℕ) → ReadsFile name old new before after (read_call false)
+    → StoreForetold failing (store_number old) (read_call false) → Answered failing (ReadFile name Missing ∷ []) old new
+missing_answered name failing None new before after reads foretold = reads
+missing_answered name failing (Some told) new before after reads foretold =
+    read_answered failing name Missing told new (missing_done failing name told foretold) (ap reading_of (missing_in before after (file_at name told.files) reads.0)) reads.1
+
+pub unread_answered : (name : List ℕ) (failing : Option StoreFails) (old new : Option StoreTold) (before after : List ℕ) → ReadsFile name old new before after unread_call
+    → StoreForetold failing (store_number old) unread_call → Answered failing (ReadFile name Unread ∷ []) old new
+unread_answered name failing None new before after reads foretold = reads
+unread_answered name failing (Some told) new before after reads foretold =
+    answered_alone failing (ReadFile name Unread) told new (unread_done failing name told foretold) (inl refl) refl refl reads
 
 -- ---- hooks
 

@@ -1,5 +1,5 @@
 -- What was begun of the frames, of the host's changes and of hooks, as the code asks them.
-use Rattle.std.proofs.Common.{ℕ, ◌≡◌, ◌+◌, ◌<◌, Bool, List, ◌∷◌, length, get_or, drop, Option, Some, None, refl, sym, ap, subst, ◌∙◌}
+use Rattle.std.proofs.Common.{ℕ, ◌≡◌, ◌+◌, ◌<◌, Bool, List, ◌∷◌, length, get_or, drop, Option, Some, None, refl, sym, subst, ◌∙◌}
 use Rattle.std.specs.Prelude.{map, option_map}
 use Rattle.net_types.proofs.ReadsLaws.{some_same}
 use Rattle.world.specs.declared.rows.HostRow.{HostRow}

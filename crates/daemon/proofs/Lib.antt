@@ -25,3 +25,4 @@ pub mod Fronts
 mod FileNames
 pub mod Wakings
 pub mod Whole
+pub mod Filings

@@ -146,8 +146,8 @@ left_at managed life wake buffer asked (Some told) mid (Some failing) (Some host
 left_at managed life wake buffer asked (Some told) mid (Some failing) (Some host) (Some store) (Some hooks) end waits = left_in-last managed life wake buffer asked told mid failing host store hooks told.coming end waits
 
 pub wait_ends : (managed : List Managed) (life : Life) (wake : Wake) (buffer : List ℕ) (asked : Option ℕ) (old mid : Seen) (out : Option (List ℕ))
-    → asked ≡ until life → is_end wake.event ≡ true → WaitsThere asked old mid buffer (woke wake) → Ends 1 managed life old out life mid out
-wait_ends managed life wake buffer asked old mid out asked_is end waits =
+    → is_over life ≡ false → asked ≡ until life → is_end wake.event ≡ true → WaitsThere asked old mid buffer (woke wake) → Ends 1 managed life old out life mid out
+wait_ends managed life wake buffer asked old mid out going asked_is end waits =
     let it : Gave asked wake old.link.told mid.link.told = gave asked wake buffer old.link.told mid.link.told waits.told in
     record {
       mets = [];
@@ -156,8 +156,8 @@ wait_ends managed life wake buffer asked old mid out asked_is end waits =
       after = refl;
       written = lines_none out;
       last = Link (Waited asked (Some it.given)) ∷ [];
-      last_is = (asked_is, ap (λ (k : Wake). is_end k.event) it.its_wake ∙ end);
-      tells = link_alone old mid (Waited asked (Some it.given)) waits.only waits.begins it.adds;
+      last_is = (going, asked_is, ap (λ (k : Wake). is_end k.event) it.its_wake ∙ end);
+      tells = link_alone old mid asked (Some it.given) waits.only waits.begins it.adds;
       whole = last_at managed life wake buffer asked old.link.told mid.link.told old.link.failing (told_of old.host) (told_of old.store) (told_of old.hooks) end waits.told;
       left = subst (λ (m : Option World). IfSome (world_of old) (λ world. option_map left_in m ≡ Some (left_in (told_last managed life world)))) (same_but_link old mid waits.only)
           (left_at managed life wake buffer asked old.link.told mid.link.told old.link.failing (told_of old.host) (told_of old.store) (told_of old.hooks) end waits.told);

@@ -1,19 +1,23 @@
 -- One question to one device among all.
-use Rattle.std.proofs.Common.{ℕ, ◌≡◌, Bool, List, Option, Some, None, refl, ap}
-use Rattle.std.specs.Prelude.{IfSome}
+use Rattle.std.proofs.Common.{ℕ, ◌≡◌, Bool, List, [], ◌∷◌, Option, Some, None, refl, ap}
+use Rattle.std.specs.Prelude.{IfSome, option_map}
 use Rattle.world.specs.declared.rows.HostRow.{HostRow}
 use Rattle.world.specs.StoreFails.{StoreFails}
-use Rattle.world.specs.LinkCalls.{LinkTold, offered}
-use Rattle.world.specs.HostCalls.{HostTold, Listed, host_answered}
-use Rattle.world.specs.StoreCalls.{StoreTold, Reading, ListedAsides, ReadFile, SettledFiles, store_answered}
+use Rattle.world.specs.LinkCalls.{LinkCall, LinkTold, Offered, offered}
+use Rattle.world.specs.HostCalls.{HostCall, HostTold, Listed, host_answered}
+use Rattle.world.specs.StoreCalls.{StoreCall, StoreTold, Reading, ListedAsides, ReadFile, WroteAside, SyncedAside, RenamedAside, RemovedFile, SettledFiles, store_answered}
 use Rattle.world.specs.declared.hooking.Poll as said
-use Rattle.world.specs.HookCalls.{HooksTold, Job, Started, Abandoned, polled, hooks_answered}
+use Rattle.world.specs.HookCalls.{HookCall, HooksTold, Job, Started, Polled, Abandoned, polled, hooks_answered}
 use Rattle.host_model.specs.declared.changes.HostChange.{HostChange}
-use Rattle.device_calls.specs.Calls.{Offer, ListRows, Change, ListAsides, Read, WriteAside, SyncAside, RenameAside, RemoveFile, Settle, Start, Poll, Abandon, Drop}
+use Rattle.host_model.specs.HostTurn.{change_call}
+use Rattle.file_choices.specs.StoreWalks.{Answered}
+use Rattle.device_calls.specs.Calls.{Link, Host, Store, Hook, Dropped, Offer, ListRows, Change, ListAsides, Read, WriteAside, SyncAside, RenameAside, RemoveFile, Settle, Start, Poll, Abandon, Drop}
 use Rattle.device_calls.specs.Worlds as worlds
 use Rattle.device_calls.specs.Worlds.{Seen, World, Told, told_from, told_of, world_from, host_with, store_written, store_synced, store_renamed, store_without}
+use Rattle.device_calls.specs.Faults.{failed_send, failed_host_call, failed_store_call, failed_hook_call, CountsFailed}
+use Rattle.device_calls.specs.Telling.{Adds, Tells}
 use Rattle.device_calls.specs.Does.{One}
-use Rattle.device_calls.proofs.Doing.{adds_none}
+use Rattle.device_calls.proofs.Doing.{adds_none, answered_none, counts_none}
 use Rattle.daemon.specs.Answered.{OfferedBy, ListedBy, ChangedBy, AsidesBy, ReadBy, WrittenBy, SyncedBy, RenamedBy, RemovedBy, SettledBy, StartedBy, PolledBy, AbandonedBy}
 
 module _ {B : Type 0} (answer : B) where
@@ -77,81 +81,147 @@ with_hooks seen told faults child = record seen {
   waiting = record seen.waiting { child = child };
 }
 
-pub one_offer : (iface : ℕ) (frame : List ℕ) (taken : Bool) (seen : Seen) (new : Option LinkTold) (faults : ℕ) → OfferedBy iface frame taken seen.link.failing seen.link.told new → One (Offer iface frame) taken seen (with_link seen new faults)
-one_offer iface frame taken seen new faults by = record {
-  tells = record { link = by.adds; host = adds_none _; store = adds_none _; hooks = adds_none _; begins = refl };
+-- what all tell after a call of one of them
+link_tells : (call : LinkCall) (seen : Seen) (new : Option LinkTold) (faults : ℕ) → Adds (option_map (λ told. told.calls) seen.link.told) (option_map (λ told. told.calls) new) (call ∷ [])
+    → CountsFailed failed_send (call ∷ []) seen.link.faults faults → Tells seen (with_link seen new faults) (Link call ∷ [])
+link_tells call seen new faults adds counted = record {
+  link = adds;
+  host = adds_none _;
+  store = adds_none _;
+  hooks = adds_none _;
+  begins = refl;
+  answers = answered_none seen.store.failing seen.store.told;
+  failing = refl;
+  counts = record { sends = counted; host = counts_none failed_host_call seen.host.faults; store = counts_none failed_store_call seen.store.faults; hooks = counts_none failed_hook_call seen.hooks.faults };
+}
+
+host_tells : (call : HostCall) (seen : Seen) (new : Option HostTold) (faults : ℕ) → Adds (option_map (λ told. told.calls) seen.host.told) (option_map (λ told. told.calls) new) (call ∷ [])
+    → CountsFailed failed_host_call (call ∷ []) seen.host.faults faults → Tells seen (with_host seen new faults) (Host call ∷ [])
+host_tells call seen new faults adds counted = record {
+  link = adds_none _;
+  host = adds;
+  store = adds_none _;
+  hooks = adds_none _;
+  begins = refl;
+  answers = answered_none seen.store.failing seen.store.told;
+  failing = refl;
+  counts = record { sends = counts_none failed_send seen.link.faults; host = counted; store = counts_none failed_store_call seen.store.faults; hooks = counts_none failed_hook_call seen.hooks.faults };
+}
+
+store_tells : (call : StoreCall) (seen : Seen) (new : Option StoreTold) (faults : ℕ) → Adds (option_map (λ told. told.calls) seen.store.told) (option_map (λ told. told.calls) new) (call ∷ [])
+    → Answered seen.store.failing (call ∷ []) seen.store.told new → CountsFailed failed_store_call (call ∷ []) seen.store.faults faults → Tells seen (with_store seen new faults) (Store call ∷ [])
+store_tells call seen new faults adds answers counted = record {
+  link = adds_none _;
+  host = adds_none _;
+  store = adds;
+  hooks = adds_none _;
+  begins = refl;
+  answers = answers;
+  failing = refl;
+  counts = record { sends = counts_none failed_send seen.link.faults; host = counts_none failed_host_call seen.host.faults; store = counted; hooks = counts_none failed_hook_call seen.hooks.faults };
+}
+
+hooks_tell : (number : ℕ) (call : HookCall) (seen : Seen) (new : Option HooksTold) (faults : ℕ) (child : Bool) → Adds (option_map (λ told. told.calls) seen.hooks.told) (option_map (λ told. told.calls) new) (call ∷ [])
+    → CountsFailed failed_hook_call (call ∷ []) seen.hooks.faults faults → Tells seen (with_hooks seen new faults child) (Hook number call ∷ [])
+hooks_tell number call seen new faults child adds counted = record {
+  link = adds_none _;
+  host = adds_none _;
+  store = adds_none _;
+  hooks = adds;
+  begins = refl;
+  answers = answered_none seen.store.failing seen.store.told;
+  failing = refl;
+  counts = record { sends = counts_none failed_send seen.link.faults; host = counts_none failed_host_call seen.host.faults; store = counts_none failed_store_call seen.store.faults; hooks = counted };
+}
+
+pub one_offer : (iface : ℕ) (frame : List ℕ) (taken : Bool) (seen : Seen) (new : Option LinkTold) (faults : ℕ) → OfferedBy iface frame taken seen.link.failing seen.link.told new
+    → CountsFailed failed_send (Offered iface frame taken ∷ []) seen.link.faults faults → One (Offer iface frame) taken seen (with_link seen new faults)
+one_offer iface frame taken seen new faults by counted = record {
+  tells = link_tells (Offered iface frame taken) seen new faults by.adds counted;
   foretold = link_told taken _ (offered iface frame taken) seen.link.failing seen.link.told new (told_of seen.host) (told_of seen.store) (told_of seen.hooks) by.foretold_is;
 }
 
-pub one_list : (rows : Option (List HostRow)) (seen : Seen) (new : Option HostTold) (faults : ℕ) → ListedBy rows seen.host.failing seen.host.told new → One ListRows rows seen (with_host seen new faults)
-one_list rows seen new faults by = record {
-  tells = record { link = adds_none _; host = by.adds; store = adds_none _; hooks = adds_none _; begins = refl };
+pub one_list : (rows : Option (List HostRow)) (seen : Seen) (new : Option HostTold) (faults : ℕ) → ListedBy rows seen.host.failing seen.host.told new
+    → CountsFailed failed_host_call (Listed rows ∷ []) seen.host.faults faults → One ListRows rows seen (with_host seen new faults)
+one_list rows seen new faults by counted = record {
+  tells = host_tells (Listed rows) seen new faults by.adds counted;
   foretold = host_told rows _ (λ told. host_answered (Listed rows) told.rows told) seen.host.failing seen.host.told new (told_of seen.link) (told_of seen.store) (told_of seen.hooks) by.foretold_is;
 }
 
-pub one_change : (change : HostChange) (done : Bool) (seen : Seen) (new : Option HostTold) (faults : ℕ) → ChangedBy change done seen.host.failing seen.host.told new → One (Change change) done seen (with_host seen new faults)
-one_change change done seen new faults by = record {
-  tells = record { link = adds_none _; host = by.adds; store = adds_none _; hooks = adds_none _; begins = refl };
+pub one_change : (change : HostChange) (done : Bool) (seen : Seen) (new : Option HostTold) (faults : ℕ) → ChangedBy change done seen.host.failing seen.host.told new
+    → CountsFailed failed_host_call (change_call change done ∷ []) seen.host.faults faults → One (Change change) done seen (with_host seen new faults)
+one_change change done seen new faults by counted = record {
+  tells = host_tells (change_call change done) seen new faults by.adds counted;
   foretold = host_told done _ (host_with change done) seen.host.failing seen.host.told new (told_of seen.link) (told_of seen.store) (told_of seen.hooks) by.foretold_is;
 }
 
-pub one_asides : (names : Option (List (List ℕ))) (seen : Seen) (new : Option StoreTold) (faults : ℕ) → AsidesBy names seen.store.failing seen.store.told new → One ListAsides names seen (with_store seen new faults)
-one_asides names seen new faults by = record {
-  tells = record { link = adds_none _; host = adds_none _; store = by.adds; hooks = adds_none _; begins = refl };
+pub one_asides : (names : Option (List (List ℕ))) (seen : Seen) (new : Option StoreTold) (faults : ℕ) → AsidesBy names seen.store.failing seen.store.told new
+    → Answered seen.store.failing (ListedAsides names ∷ []) seen.store.told new → CountsFailed failed_store_call (ListedAsides names ∷ []) seen.store.faults faults → One ListAsides names seen (with_store seen new faults)
+one_asides names seen new faults by answers counted = record {
+  tells = store_tells (ListedAsides names) seen new faults by.adds answers counted;
   foretold = store_told names _ (λ told. store_answered (ListedAsides names) told.files told) seen.store.failing seen.store.told new (told_of seen.link) (told_of seen.host) (told_of seen.hooks) by.foretold_is;
 }
 
-pub one_read : (name : List ℕ) (reading : Reading) (seen : Seen) (new : Option StoreTold) (faults : ℕ) → ReadBy name reading seen.store.failing seen.store.told new → One (Read name) reading seen (with_store seen new faults)
-one_read name reading seen new faults by = record {
-  tells = record { link = adds_none _; host = adds_none _; store = by.adds; hooks = adds_none _; begins = refl };
+pub one_read : (name : List ℕ) (reading : Reading) (seen : Seen) (new : Option StoreTold) (faults : ℕ) → ReadBy name reading seen.store.failing seen.store.told new
+    → Answered seen.store.failing (ReadFile name reading ∷ []) seen.store.told new → CountsFailed failed_store_call (ReadFile name reading ∷ []) seen.store.faults faults → One (Read name) reading seen (with_store seen new faults)
+one_read name reading seen new faults by answers counted = record {
+  tells = store_tells (ReadFile name reading) seen new faults by.adds answers counted;
   foretold = store_told reading _ (λ told. store_answered (ReadFile name reading) told.files told) seen.store.failing seen.store.told new (told_of seen.link) (told_of seen.host) (told_of seen.hooks) by.foretold_is;
 }
 
-pub one_write : (name bytes : List ℕ) (done : Bool) (seen : Seen) (new : Option StoreTold) (faults : ℕ) → WrittenBy name bytes done seen.store.failing seen.store.told new → One (WriteAside name bytes) done seen (with_store seen new faults)
-one_write name bytes done seen new faults by = record {
-  tells = record { link = adds_none _; host = adds_none _; store = by.adds; hooks = adds_none _; begins = refl };
+pub one_write : (name bytes : List ℕ) (done : Bool) (seen : Seen) (new : Option StoreTold) (faults : ℕ) → WrittenBy name bytes done seen.store.failing seen.store.told new
+    → Answered seen.store.failing (WroteAside name bytes done ∷ []) seen.store.told new → CountsFailed failed_store_call (WroteAside name bytes done ∷ []) seen.store.faults faults → One (WriteAside name bytes) done seen (with_store seen new faults)
+one_write name bytes done seen new faults by answers counted = record {
+  tells = store_tells (WroteAside name bytes done) seen new faults by.adds answers counted;
   foretold = store_told done _ (store_written name bytes done) seen.store.failing seen.store.told new (told_of seen.link) (told_of seen.host) (told_of seen.hooks) by.foretold_is;
 }
 
-pub one_sync : (name : List ℕ) (done : Bool) (seen : Seen) (new : Option StoreTold) (faults : ℕ) → SyncedBy name done seen.store.failing seen.store.told new → One (SyncAside name) done seen (with_store seen new faults)
-one_sync name done seen new faults by = record {
-  tells = record { link = adds_none _; host = adds_none _; store = by.adds; hooks = adds_none _; begins = refl };
+pub one_sync : (name : List ℕ) (done : Bool) (seen : Seen) (new : Option StoreTold) (faults : ℕ) → SyncedBy name done seen.store.failing seen.store.told new
+    → Answered seen.store.failing (SyncedAside name done ∷ []) seen.store.told new → CountsFailed failed_store_call (SyncedAside name done ∷ []) seen.store.faults faults → One (SyncAside name) done seen (with_store seen new faults)
+one_sync name done seen new faults by answers counted = record {
+  tells = store_tells (SyncedAside name done) seen new faults by.adds answers counted;
   foretold = store_told done _ (store_synced name done) seen.store.failing seen.store.told new (told_of seen.link) (told_of seen.host) (told_of seen.hooks) by.foretold_is;
 }
 
-pub one_rename : (name : List ℕ) (done : Bool) (seen : Seen) (new : Option StoreTold) (faults : ℕ) → RenamedBy name done seen.store.failing seen.store.told new → One (RenameAside name) done seen (with_store seen new faults)
-one_rename name done seen new faults by = record {
-  tells = record { link = adds_none _; host = adds_none _; store = by.adds; hooks = adds_none _; begins = refl };
+pub one_rename : (name : List ℕ) (done : Bool) (seen : Seen) (new : Option StoreTold) (faults : ℕ) → RenamedBy name done seen.store.failing seen.store.told new
+    → Answered seen.store.failing (RenamedAside name done ∷ []) seen.store.told new → CountsFailed failed_store_call (RenamedAside name done ∷ []) seen.store.faults faults → One (RenameAside name) done seen (with_store seen new faults)
+one_rename name done seen new faults by answers counted = record {
+  tells = store_tells (RenamedAside name done) seen new faults by.adds answers counted;
   foretold = store_told done _ (store_renamed name done) seen.store.failing seen.store.told new (told_of seen.link) (told_of seen.host) (told_of seen.hooks) by.foretold_is;
 }
 
-pub one_remove : (name : List ℕ) (done : Bool) (seen : Seen) (new : Option StoreTold) (faults : ℕ) → RemovedBy name done seen.store.failing seen.store.told new → One (RemoveFile name) done seen (with_store seen new faults)
-one_remove name done seen new faults by = record {
-  tells = record { link = adds_none _; host = adds_none _; store = by.adds; hooks = adds_none _; begins = refl };
+pub one_remove : (name : List ℕ) (done : Bool) (seen : Seen) (new : Option StoreTold) (faults : ℕ) → RemovedBy name done seen.store.failing seen.store.told new
+    → Answered seen.store.failing (RemovedFile name done ∷ []) seen.store.told new → CountsFailed failed_store_call (RemovedFile name done ∷ []) seen.store.faults faults → One (RemoveFile name) done seen (with_store seen new faults)
+one_remove name done seen new faults by answers counted = record {
+  tells = store_tells (RemovedFile name done) seen new faults by.adds answers counted;
   foretold = store_told done _ (store_without name done) seen.store.failing seen.store.told new (told_of seen.link) (told_of seen.host) (told_of seen.hooks) by.foretold_is;
 }
 
-pub one_settle : (done : Bool) (seen : Seen) (new : Option StoreTold) (faults : ℕ) → SettledBy done seen.store.failing seen.store.told new → One Settle done seen (with_store seen new faults)
-one_settle done seen new faults by = record {
-  tells = record { link = adds_none _; host = adds_none _; store = by.adds; hooks = adds_none _; begins = refl };
+pub one_settle : (done : Bool) (seen : Seen) (new : Option StoreTold) (faults : ℕ) → SettledBy done seen.store.failing seen.store.told new
+    → Answered seen.store.failing (SettledFiles done ∷ []) seen.store.told new → CountsFailed failed_store_call (SettledFiles done ∷ []) seen.store.faults faults → One Settle done seen (with_store seen new faults)
+one_settle done seen new faults by answers counted = record {
+  tells = store_tells (SettledFiles done) seen new faults by.adds answers counted;
   foretold = store_told done _ (λ told. store_answered (SettledFiles done) told.files told) seen.store.failing seen.store.told new (told_of seen.link) (told_of seen.host) (told_of seen.hooks) by.foretold_is;
 }
 
-pub one_start : (job : Job) (done : Bool) (seen : Seen) (new : Option HooksTold) (faults : ℕ) (child : Bool) → StartedBy job done seen.hooks.failing seen.hooks.told new → One (Start job) done seen (with_hooks seen new faults child)
-one_start job done seen new faults child by = record {
-  tells = record { link = adds_none _; host = adds_none _; store = adds_none _; hooks = by.adds; begins = refl };
+pub one_start : (job : Job) (done : Bool) (seen : Seen) (new : Option HooksTold) (faults : ℕ) (child : Bool) → StartedBy job done seen.hooks.failing seen.hooks.told new
+    → CountsFailed failed_hook_call (Started job done ∷ []) seen.hooks.faults faults → One (Start job) done seen (with_hooks seen new faults child)
+one_start job done seen new faults child by counted = record {
+  tells = hooks_tell job.number (Started job done) seen new faults child by.adds counted;
   foretold = hooks_told done _ (hooks_answered (Started job done)) seen.hooks.failing seen.hooks.told new (told_of seen.link) (told_of seen.host) (told_of seen.store) by.foretold_is;
 }
 
-pub one_poll : (number : ℕ) (answer : Option said.Poll) (seen : Seen) (new : Option HooksTold) (faults : ℕ) (child : Bool) → PolledBy answer seen.hooks.failing seen.hooks.told new → One (Poll number) answer seen (with_hooks seen new faults child)
-one_poll number answer seen new faults child by = record {
-  tells = record { link = adds_none _; host = adds_none _; store = adds_none _; hooks = by.adds; begins = refl };
+pub one_poll : (number : ℕ) (answer : Option said.Poll) (seen : Seen) (new : Option HooksTold) (faults : ℕ) (child : Bool) → PolledBy answer seen.hooks.failing seen.hooks.told new
+    → CountsFailed failed_hook_call (Polled answer ∷ []) seen.hooks.faults faults → One (Poll number) answer seen (with_hooks seen new faults child)
+one_poll number answer seen new faults child by counted = record {
+  tells = hooks_tell number (Polled answer) seen new faults child by.adds counted;
   foretold = hooks_told answer _ polled seen.hooks.failing seen.hooks.told new (told_of seen.link) (told_of seen.host) (told_of seen.store) by.foretold_is;
 }
 
-pub one_abandon : (number : ℕ) (seen : Seen) (new : Option HooksTold) (faults : ℕ) (child : Bool) → AbandonedBy seen.hooks.failing seen.hooks.told new → One (Abandon number) tt seen (with_hooks seen new faults child)
-one_abandon number seen new faults child by = record {
-  tells = record { link = adds_none _; host = adds_none _; store = adds_none _; hooks = by.adds; begins = refl };
+pub one_abandon : (number : ℕ) (seen : Seen) (new : Option HooksTold) (faults : ℕ) (child : Bool) → AbandonedBy seen.hooks.failing seen.hooks.told new
+    → CountsFailed failed_hook_call (Abandoned ∷ []) seen.hooks.faults faults → One (Abandon number) tt seen (with_hooks seen new faults child)
+one_abandon number seen new faults child by counted = record {
+  tells = hooks_tell number Abandoned seen new faults child by.adds counted;
   foretold = hooks_told tt _ (hooks_answered Abandoned) seen.hooks.failing seen.hooks.told new (told_of seen.link) (told_of seen.host) (told_of seen.store) by.foretold_is;
 }
 
@@ -174,8 +244,20 @@ none_told : {A : Type 0} (answer : A) (seen : Seen) (told : Option World) → wo
 none_told answer seen None is = tt
 none_told answer seen (Some world) is = (refl, is)
 
+drop_tells : (job : Job) (seen : Seen) → Tells seen seen (Dropped job ∷ [])
+drop_tells job seen = record {
+  link = adds_none _;
+  host = adds_none _;
+  store = adds_none _;
+  hooks = adds_none _;
+  begins = refl;
+  answers = answered_none seen.store.failing seen.store.told;
+  failing = refl;
+  counts = record { sends = counts_none failed_send seen.link.faults; host = counts_none failed_host_call seen.host.faults; store = counts_none failed_store_call seen.store.faults; hooks = counts_none failed_hook_call seen.hooks.faults };
+}
+
 pub one_drop : (job : Job) (seen : Seen) → One (Drop job) tt seen seen
 one_drop job seen = record {
-  tells = record { link = adds_none _; host = adds_none _; store = adds_none _; hooks = adds_none _; begins = refl };
+  tells = drop_tells job seen;
   foretold = none_told {A = Unit {0}} tt seen (worlds.world_of seen) refl;
 }

@@ -1,5 +1,5 @@
 -- What beginning and waiting leave of what the devices tell.
-use Rattle.std.proofs.Common.{ℕ, ◌≡◌, true, false, List, [], ◌∷◌, ◌++◌, ◌+◌, length, take, drop, Option, Some, None, Result, Ok, Err, refl, sym, ap, subst, ◌∙◌, append-nil}
+use Rattle.std.proofs.Common.{ℕ, ◌≡◌, Bool, true, false, List, [], ◌∷◌, ◌++◌, ◌+◌, length, take, drop, Option, Some, None, Result, Ok, Err, refl, sym, ap, subst, ◌∙◌, append-nil}
 use Rattle.std.specs.Prelude.{IfSome, option_map}
 use Rattle.net_types.specs.declared.fault.Failed.{Failed}
 use Rattle.world.specs.declared.faults.DeviceAnswer.{DeviceAnswer}
@@ -14,9 +14,11 @@ use Rattle.world.specs.HostCalls.{HostTold}
 use Rattle.world.specs.StoreCalls.{StoreTold}
 use Rattle.world.specs.HookCalls.{HooksTold}
 use Rattle.device_calls.specs.Calls.{Link}
-use Rattle.device_calls.specs.Worlds.{Seen, World, Told, told_from, told_of, world_from, world_of}
+use Rattle.device_calls.specs.Worlds.{Device, Seen, World, Told, told_from, told_of, world_from, world_of}
+use Rattle.file_choices.specs.StoreWalks.{Answered}
+use Rattle.device_calls.specs.Faults.{failed_send, failed_host_call, failed_store_call, failed_hook_call, CountsFailed}
 use Rattle.device_calls.specs.Telling.{Adds, Tells}
-use Rattle.device_calls.proofs.Doing.{adds_none}
+use Rattle.device_calls.proofs.Doing.{adds_none, answered_none, counts_none}
 use Rattle.turn_model.specs.Turns.{is_end}
 use Rattle.turn_model.specs.Foretold.{told_wake, told_bytes, woken}
 use Rattle.daemon.specs.Waits.{OnlyLink, BeginsThere, WaitsThere}
@@ -44,14 +46,48 @@ is_end-cut Stop size room = refl
 is_end-cut Quiet size room = refl
 is_end-cut End size room = refl
 
--- one call of the link
-pub link_alone : (old mid : Seen) (call : LinkCall) → OnlyLink old mid → mid.waiting.begins ≡ old.waiting.begins → Adds (option_map (λ t. t.calls) old.link.told) (option_map (λ t. t.calls) mid.link.told) (call ∷ []) → Tells old mid (Link call ∷ [])
-link_alone old mid call only begins adds = record {
+-- what is told and counted where one call of the link, or none, was made: of the others nothing
+abbrev LinkAdds : Seen → Seen → List LinkCall → Type 0
+LinkAdds old mid calls = Adds (option_map (λ t. t.calls) old.link.told) (option_map (λ t. t.calls) mid.link.told) calls
+
+others_answer : (old mid : Seen) → OnlyLink old mid → Answered old.store.failing [] old.store.told mid.store.told
+others_answer old mid only = subst (λ (s : Device StoreTold StoreFails). Answered old.store.failing [] old.store.told s.told) (sym only.store) (answered_none old.store.failing old.store.told)
+
+counts_stay : {C : Type 0} (failed : C → Bool) (old new : ℕ) → new ≡ old → CountsFailed failed [] old new
+counts_stay failed old new same = subst (CountsFailed failed [] old) (sym same) (counts_none failed old)
+
+pub link_alone : (old mid : Seen) (asked : Option ℕ) (given : Option Given) → OnlyLink old mid → mid.waiting.begins ≡ old.waiting.begins → LinkAdds old mid (Waited asked given ∷ []) → Tells old mid (Link (Waited asked given) ∷ [])
+link_alone old mid asked given only begins adds = record {
   link = adds;
   host = subst (λ h. Adds (option_map (λ t. t.calls) old.host.told) (option_map (λ t. t.calls) h.told) []) (sym only.host) (adds_none _);
   store = subst (λ s. Adds (option_map (λ t. t.calls) old.store.told) (option_map (λ t. t.calls) s.told) []) (sym only.store) (adds_none _);
   hooks = subst (λ h. Adds (option_map (λ t. t.calls) old.hooks.told) (option_map (λ t. t.calls) h.told) []) (sym only.hooks) (adds_none _);
   begins = begins;
+  answers = others_answer old mid only;
+  failing = ap (λ (s : Device StoreTold StoreFails). s.failing) only.store;
+  counts = record {
+    sends = subst (λ (n : ℕ). CountsFailed failed_send (Waited asked given ∷ []) old.link.faults n) (sym only.sends) (counts_none failed_send old.link.faults);
+    host = counts_stay failed_host_call old.host.faults mid.host.faults (ap (λ (h : Device HostTold (List ℕ)). h.faults) only.host);
+    store = counts_stay failed_store_call old.store.faults mid.store.faults (ap (λ (s : Device StoreTold StoreFails). s.faults) only.store);
+    hooks = counts_stay failed_hook_call old.hooks.faults mid.hooks.faults (ap (λ (h : Device HooksTold (List ℕ)). h.faults) only.hooks);
+  };
+}
+
+link_quiet : (old mid : Seen) → OnlyLink old mid → mid.waiting.begins ≡ old.waiting.begins → LinkAdds old mid [] → Tells old mid []
+link_quiet old mid only begins adds = record {
+  link = adds;
+  host = subst (λ h. Adds (option_map (λ t. t.calls) old.host.told) (option_map (λ t. t.calls) h.told) []) (sym only.host) (adds_none _);
+  store = subst (λ s. Adds (option_map (λ t. t.calls) old.store.told) (option_map (λ t. t.calls) s.told) []) (sym only.store) (adds_none _);
+  hooks = subst (λ h. Adds (option_map (λ t. t.calls) old.hooks.told) (option_map (λ t. t.calls) h.told) []) (sym only.hooks) (adds_none _);
+  begins = begins;
+  answers = others_answer old mid only;
+  failing = ap (λ (s : Device StoreTold StoreFails). s.failing) only.store;
+  counts = record {
+    sends = counts_stay failed_send old.link.faults mid.link.faults only.sends;
+    host = counts_stay failed_host_call old.host.faults mid.host.faults (ap (λ (h : Device HostTold (List ℕ)). h.faults) only.host);
+    store = counts_stay failed_store_call old.store.faults mid.store.faults (ap (λ (s : Device StoreTold StoreFails). s.faults) only.store);
+    hooks = counts_stay failed_hook_call old.hooks.faults mid.hooks.faults (ap (λ (h : Device HooksTold (List ℕ)). h.faults) only.hooks);
+  };
 }
 
 -- the worlds before and after differ in what the link tells alone
@@ -134,7 +170,7 @@ module _ (asked : Option ℕ) (wake : Wake) (bytes buffer : List ℕ) (more : is
       (woke_at old.link.told mid.link.told old.link.failing (told_of old.host) (told_of old.store) (told_of old.hooks) waits.told)
 
   pub wait_tells : (old mid : Seen) → WaitsThere asked old mid buffer (woke wake) → Tells old mid (Link (Waited asked (Some (record { wake = wake; bytes = bytes }))) ∷ [])
-  wait_tells old mid waits = link_alone old mid _ waits.only waits.begins (wait_adds old.link.told mid.link.told waits.told)
+  wait_tells old mid waits = link_alone old mid asked (Some (record { wake = wake; bytes = bytes })) waits.only waits.begins (wait_adds old.link.told mid.link.told waits.told)
 
 -- ---- a wait that failed
 
@@ -143,7 +179,7 @@ failed_adds asked buffer None mid waits = tt
 failed_adds asked buffer (Some told) mid waits = subst (λ (l : Option LinkTold). Adds (Some told.calls) (option_map (λ t. t.calls) l) (Waited asked None ∷ [])) (sym waits) refl
 
 pub failed_wait_tells : (asked : Option ℕ) (buffer : List ℕ) (old mid : Seen) → WaitsThere asked old mid buffer wait_failed → Tells old mid (Link (Waited asked None) ∷ [])
-failed_wait_tells asked buffer old mid waits = link_alone old mid (Waited asked None) waits.only waits.begins (failed_adds asked buffer old.link.told mid.link.told waits.told)
+failed_wait_tells asked buffer old mid waits = link_alone old mid asked None waits.only waits.begins (failed_adds asked buffer old.link.told mid.link.told waits.told)
 
 -- ---- a wait that wanted memory
 
@@ -155,14 +191,7 @@ memory_adds asked buffer None mid waits = tt
 memory_adds asked buffer (Some told) mid waits = subst (λ (l : Option LinkTold). Adds (Some told.calls) (option_map (λ t. t.calls) l) []) (sym waits) (sym (append-nil told.calls))
 
 pub memory_wait_tells : (asked : Option ℕ) (buffer : List ℕ) (old mid : Seen) → WaitsThere asked old mid buffer memory_wanted → Tells old mid []
-memory_wait_tells asked buffer old mid waits =
-    record {
-      link = memory_adds asked buffer old.link.told mid.link.told waits.told;
-      host = subst (λ h. Adds (option_map (λ t. t.calls) old.host.told) (option_map (λ t. t.calls) h.told) []) (sym waits.only.host) (adds_none _);
-      store = subst (λ s. Adds (option_map (λ t. t.calls) old.store.told) (option_map (λ t. t.calls) s.told) []) (sym waits.only.store) (adds_none _);
-      hooks = subst (λ h. Adds (option_map (λ t. t.calls) old.hooks.told) (option_map (λ t. t.calls) h.told) []) (sym waits.only.hooks) (adds_none _);
-      begins = waits.begins;
-    }
+memory_wait_tells asked buffer old mid waits = link_quiet old mid waits.only waits.begins (memory_adds asked buffer old.link.told mid.link.told waits.told)
 
 -- ---- the last wait
 

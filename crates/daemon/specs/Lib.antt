@@ -12,3 +12,4 @@ pub mod Serving
 pub mod Waking
 pub mod Cuts
 pub mod Served
+pub mod Filed

@@ -10,7 +10,7 @@ use Rattle.world.specs.Streams.{count_after}
 use Rattle.hook_child.specs.Supervision.{Supervision}
 use Rattle.device_calls.specs.Worlds.{Seen, Waiting}
 
--- all but what the link tells stays
+-- all stays but what the link tells, and how many of its beginnings and waits there were and failed
 pub record OnlyLink (old new : Seen) : Type 0 where
   pub failing : new.link.failing ≡ old.link.failing
   pub waits : new.waiting.failing ≡ old.waiting.failing
@@ -18,6 +18,7 @@ pub record OnlyLink (old new : Seen) : Type 0 where
   pub store : new.store ≡ old.store
   pub hooks : new.hooks ≡ old.hooks
   pub child : new.waiting.child ≡ old.waiting.child
+  pub sends : new.link.faults ≡ old.link.faults
 
 -- all stays that the link counts of begins and waits; a hook's child may have come or gone
 pub record OnlyChild (old new : Waiting) : Type 0 where

@@ -1,8 +1,14 @@
-ghost use Rattle.std.specs.Prelude.{◌≡◌, true, false, IfOk, IfErr, IfSome};
+ghost use Rattle.std.specs.Prelude.{◌≡◌, [], ◌∷◌, true, false, IfOk, IfErr, IfSome};
 ghost use Rattle.std.specs.List.{AllByRecursion};
 ghost use Rattle.std.specs.String.{string_bytes};
 ghost use Rattle.world.specs.FileNames.{IsFileName};
-ghost use Rattle.world.specs.HookCalls.{job_of};
+ghost use Rattle.world.specs.LinkCalls.{Offered};
+ghost use Rattle.world.specs.HostCalls.{Listed};
+ghost use Rattle.world.specs.StoreCalls.{ListedAsides, ReadFile, WroteAside, SyncedAside, RenamedAside, RemovedFile, SettledFiles};
+ghost use Rattle.world.specs.HookCalls.{job_of, Started, Polled, Abandoned};
+ghost use Rattle.host_model.specs.HostTurn.{change_call};
+ghost use Rattle.file_choices.specs.StoreWalks.{Answered};
+ghost use Rattle.device_calls.specs.Faults.{failed_send, failed_host_call, failed_store_call, failed_hook_call, CountsFailed};
 ghost use Rattle.lease_file.specs.FileReads.{got_reading};
 ghost use Rattle.daemon.specs.Answered.{rows_listed, names_of, FitsChange, OfferedBy, ListedBy, ChangedBy};
 ghost use Rattle.daemon.specs.Answered.{AsidesBy, ReadBy, WrittenBy, SyncedBy, RenamedBy, RemovedBy, SettledBy};
@@ -29,6 +35,7 @@ pub struct Devices<L, S, H, K> {
 #[tactic(auto, using(crate::proofs::Answers::offered_by, crate::proofs::Answers::untaken_by, crate::proofs::Answers::unoffered))]
 fn offer_to<L: Link>(link: &mut L, iface: IfIndex, frame: &[u8]) -> Result<bool, NoMemory>
     ensures offered { IfOk result (λ taken. OfferedBy iface.number frame.now taken (L.failing_sends link.old) (L.told link.old) (L.told link.new)) }
+    ensures counted { IfOk result (λ taken. CountsFailed failed_send (Offered iface.number frame.now taken ∷ []) (L.send_faults link.old) (L.send_faults link.new)) }
     ensures failing { (L.failing_waits link.new ≡ L.failing_waits link.old) × (L.failing_sends link.new ≡ L.failing_sends link.old) }
     ensures waits { L.faults link.new ≡ L.faults link.old }
     ensures begins { L.begins link.new ≡ L.begins link.old }
@@ -44,6 +51,7 @@ fn offer_to<L: Link>(link: &mut L, iface: IfIndex, frame: &[u8]) -> Result<bool,
 #[tactic(auto, using(crate::proofs::Answers::listed_by, crate::proofs::Answers::failed_list_by, crate::proofs::Answers::unlisted))]
 fn list_of<H: Host>(alloc: Global, host: &mut H) -> Result<Option<Vec<HostRow>>, NoMemory>
     ensures listed { IfOk result (λ rows. ListedBy (rows_listed rows) (H.failing host.old) (H.told host.old) (H.told host.new)) }
+    ensures counted { IfOk result (λ rows. CountsFailed failed_host_call (Listed (rows_listed rows) ∷ []) (H.faults host.old) (H.faults host.new)) }
     ensures failing { H.failing host.new ≡ H.failing host.old }
     ensures memory { IfErr result (λ _. (H.told host.new ≡ H.told host.old) × (H.faults host.new ≡ H.faults host.old)) }
 {
@@ -59,6 +67,7 @@ fn list_of<H: Host>(alloc: Global, host: &mut H) -> Result<Option<Vec<HostRow>>,
 fn change_of<H: Host>(host: &mut H, change: HostChange) -> Result<bool, NoMemory>
     requires { FitsChange change }
     ensures changed { IfOk result (λ done. ChangedBy change done (H.failing host.old) (H.told host.old) (H.told host.new)) }
+    ensures counted { IfOk result (λ done. CountsFailed failed_host_call (change_call change done ∷ []) (H.faults host.old) (H.faults host.new)) }
     ensures failing { H.failing host.new ≡ H.failing host.old }
     ensures memory { IfErr result (λ _. (H.told host.new ≡ H.told host.old) × (H.faults host.new ≡ H.faults host.old)) }
 {
@@ -73,9 +82,11 @@ fn change_of<H: Host>(host: &mut H, change: HostChange) -> Result<bool, NoMemory
     }
 }
 
-#[tactic(auto, using(crate::proofs::Answers::asides_by, crate::proofs::Answers::failed_asides_by, crate::proofs::Answers::asides_unlisted))]
+#[tactic(auto, using(crate::proofs::Answers::asides_by, crate::proofs::Answers::failed_asides_by, crate::proofs::Answers::asides_unlisted, crate::proofs::Answers::asides_answered, crate::proofs::Answers::no_asides_answered))]
 fn asides_of<S: Store>(alloc: Global, store: &mut S) -> Result<Option<Vec<String>>, NoMemory>
     ensures listed { IfOk result (λ names. AsidesBy (names_of names) (S.failing store.old) (S.told store.old) (S.told store.new)) }
+    ensures answered { IfOk result (λ names. Answered (S.failing store.old) (ListedAsides (names_of names) ∷ []) (S.told store.old) (S.told store.new)) }
+    ensures counted { IfOk result (λ names. CountsFailed failed_store_call (ListedAsides (names_of names) ∷ []) (S.faults store.old) (S.faults store.new)) }
     ensures fit { IfOk result (λ names. IfSome names (λ v. AllByRecursion (λ name. IsFileName (string_bytes name)) v.items)) }
     ensures failing { S.failing store.new ≡ S.failing store.old }
     ensures memory { IfErr result (λ _. (S.told store.new ≡ S.told store.old) × (S.faults store.new ≡ S.faults store.old)) }
@@ -88,10 +99,12 @@ fn asides_of<S: Store>(alloc: Global, store: &mut S) -> Result<Option<Vec<String
     }
 }
 
-#[tactic(auto, using(crate::proofs::Answers::found_by, crate::proofs::Answers::missing_by, crate::proofs::Answers::unread_by, crate::proofs::Answers::not_read))]
+#[tactic(auto, using(crate::proofs::Answers::found_by, crate::proofs::Answers::missing_by, crate::proofs::Answers::unread_by, crate::proofs::Answers::not_read, crate::proofs::Answers::found_answered, crate::proofs::Answers::missing_answered, crate::proofs::Answers::unread_answered))]
 fn read_from<S: Store>(alloc: Global, store: &mut S, name: &str) -> Result<Got, NoMemory>
     requires { IsFileName name.now }
     ensures read { IfOk result (λ got. ReadBy name.now (got_reading got) (S.failing store.old) (S.told store.old) (S.told store.new)) }
+    ensures answered { IfOk result (λ got. Answered (S.failing store.old) (ReadFile name.now (got_reading got) ∷ []) (S.told store.old) (S.told store.new)) }
+    ensures counted { IfOk result (λ got. CountsFailed failed_store_call (ReadFile name.now (got_reading got) ∷ []) (S.faults store.old) (S.faults store.new)) }
     ensures failing { S.failing store.new ≡ S.failing store.old }
     ensures memory { IfErr result (λ _. (S.told store.new ≡ S.told store.old) × (S.faults store.new ≡ S.faults store.old)) }
 {
@@ -108,6 +121,8 @@ fn read_from<S: Store>(alloc: Global, store: &mut S, name: &str) -> Result<Got, 
 fn write_to<S: Store>(store: &mut S, name: &str, bytes: &[u8]) -> Result<bool, NoMemory>
     requires { IsFileName name.now }
     ensures written { IfOk result (λ done. WrittenBy name.now bytes.now done (S.failing store.old) (S.told store.old) (S.told store.new)) }
+    ensures answered { IfOk result (λ done. Answered (S.failing store.old) (WroteAside name.now bytes.now done ∷ []) (S.told store.old) (S.told store.new)) }
+    ensures counted { IfOk result (λ done. CountsFailed failed_store_call (WroteAside name.now bytes.now done ∷ []) (S.faults store.old) (S.faults store.new)) }
     ensures failing { S.failing store.new ≡ S.failing store.old }
     ensures memory { IfErr result (λ _. (S.told store.new ≡ S.told store.old) × (S.faults store.new ≡ S.faults store.old)) }
 {
@@ -122,6 +137,8 @@ fn write_to<S: Store>(store: &mut S, name: &str, bytes: &[u8]) -> Result<bool, N
 fn sync_in<S: Store>(store: &mut S, name: &str) -> Result<bool, NoMemory>
     requires { IsFileName name.now }
     ensures synced { IfOk result (λ done. SyncedBy name.now done (S.failing store.old) (S.told store.old) (S.told store.new)) }
+    ensures answered { IfOk result (λ done. Answered (S.failing store.old) (SyncedAside name.now done ∷ []) (S.told store.old) (S.told store.new)) }
+    ensures counted { IfOk result (λ done. CountsFailed failed_store_call (SyncedAside name.now done ∷ []) (S.faults store.old) (S.faults store.new)) }
     ensures failing { S.failing store.new ≡ S.failing store.old }
     ensures memory { IfErr result (λ _. (S.told store.new ≡ S.told store.old) × (S.faults store.new ≡ S.faults store.old)) }
 {
@@ -136,6 +153,8 @@ fn sync_in<S: Store>(store: &mut S, name: &str) -> Result<bool, NoMemory>
 fn rename_in<S: Store>(store: &mut S, name: &str) -> Result<bool, NoMemory>
     requires { IsFileName name.now }
     ensures renamed { IfOk result (λ done. RenamedBy name.now done (S.failing store.old) (S.told store.old) (S.told store.new)) }
+    ensures answered { IfOk result (λ done. Answered (S.failing store.old) (RenamedAside name.now done ∷ []) (S.told store.old) (S.told store.new)) }
+    ensures counted { IfOk result (λ done. CountsFailed failed_store_call (RenamedAside name.now done ∷ []) (S.faults store.old) (S.faults store.new)) }
     ensures failing { S.failing store.new ≡ S.failing store.old }
     ensures memory { IfErr result (λ _. (S.told store.new ≡ S.told store.old) × (S.faults store.new ≡ S.faults store.old)) }
 {
@@ -150,6 +169,8 @@ fn rename_in<S: Store>(store: &mut S, name: &str) -> Result<bool, NoMemory>
 fn remove_from<S: Store>(store: &mut S, name: &str) -> Result<bool, NoMemory>
     requires { IsFileName name.now }
     ensures removed { IfOk result (λ done. RemovedBy name.now done (S.failing store.old) (S.told store.old) (S.told store.new)) }
+    ensures answered { IfOk result (λ done. Answered (S.failing store.old) (RemovedFile name.now done ∷ []) (S.told store.old) (S.told store.new)) }
+    ensures counted { IfOk result (λ done. CountsFailed failed_store_call (RemovedFile name.now done ∷ []) (S.faults store.old) (S.faults store.new)) }
     ensures failing { S.failing store.new ≡ S.failing store.old }
     ensures memory { IfErr result (λ _. (S.told store.new ≡ S.told store.old) × (S.faults store.new ≡ S.faults store.old)) }
 {
@@ -163,6 +184,8 @@ fn remove_from<S: Store>(store: &mut S, name: &str) -> Result<bool, NoMemory>
 #[tactic(auto, using(crate::proofs::Answers::settled_by, crate::proofs::Answers::unsettled_by, crate::proofs::Answers::unwritten))]
 fn settle_in<S: Store>(store: &mut S) -> Result<bool, NoMemory>
     ensures settled { IfOk result (λ done. SettledBy done (S.failing store.old) (S.told store.old) (S.told store.new)) }
+    ensures answered { IfOk result (λ done. Answered (S.failing store.old) (SettledFiles done ∷ []) (S.told store.old) (S.told store.new)) }
+    ensures counted { IfOk result (λ done. CountsFailed failed_store_call (SettledFiles done ∷ []) (S.faults store.old) (S.faults store.new)) }
     ensures failing { S.failing store.new ≡ S.failing store.old }
     ensures memory { IfErr result (λ _. (S.told store.new ≡ S.told store.old) × (S.faults store.new ≡ S.faults store.old)) }
 {
@@ -177,6 +200,7 @@ fn settle_in<S: Store>(store: &mut S) -> Result<bool, NoMemory>
 fn start_of<K: Hooks>(hooks: &mut K, job: &HookJob) -> Result<bool, NoMemory>
     requires { K.running hooks.old ≡ false }
     ensures started { IfOk result (λ done. StartedBy (job_of job.now) done (K.failing hooks.old) (K.told hooks.old) (K.told hooks.new)) }
+    ensures counted { IfOk result (λ done. CountsFailed failed_hook_call (Started (job_of job.now) done ∷ []) (K.faults hooks.old) (K.faults hooks.new)) }
     ensures runs { IfOk result (λ done. K.running hooks.new ≡ done) }
     ensures failing { K.failing hooks.new ≡ K.failing hooks.old }
     ensures memory { IfErr result (λ _. (K.told hooks.new ≡ K.told hooks.old) × ((K.faults hooks.new ≡ K.faults hooks.old) × (K.running hooks.new ≡ K.running hooks.old))) }
@@ -192,6 +216,7 @@ fn start_of<K: Hooks>(hooks: &mut K, job: &HookJob) -> Result<bool, NoMemory>
 fn poll_of<K: Hooks>(hooks: &mut K) -> Option<Poll>
     requires { K.running hooks.old ≡ true }
     ensures polled { PolledBy result (K.failing hooks.old) (K.told hooks.old) (K.told hooks.new) }
+    ensures counted { CountsFailed failed_hook_call (Polled result ∷ []) (K.faults hooks.old) (K.faults hooks.new) }
     ensures runs { K.running hooks.new ≡ runs_on result }
     ensures failing { K.failing hooks.new ≡ K.failing hooks.old }
 {
@@ -205,6 +230,7 @@ fn poll_of<K: Hooks>(hooks: &mut K) -> Option<Poll>
 fn abandon_of<K: Hooks>(hooks: &mut K)
     requires { K.running hooks.old ≡ true }
     ensures abandoned { AbandonedBy (K.failing hooks.old) (K.told hooks.old) (K.told hooks.new) }
+    ensures counted { CountsFailed failed_hook_call (Abandoned ∷ []) (K.faults hooks.old) (K.faults hooks.new) }
     ensures runs { K.running hooks.new ≡ false }
     ensures failing { K.failing hooks.new ≡ K.failing hooks.old }
 {

@@ -7,6 +7,7 @@ ghost use Rattle.daemon.specs.Waits.{BeginsThere, KnowsChild};
 ghost use Rattle.daemon.specs.Serving.{HasServeCause, HasLifeCause, HasEndCause, AreManyTurns, Ends};
 ghost use Rattle.daemon.specs.Served.{Served};
 ghost use Rattle.daemon.specs.Cuts.{BreaksOff, BeginFails, Leaves};
+ghost use Rattle.daemon.specs.Filed.{LeavesFiled};
 
 use crate::closing::close;
 use crate::lives::Life;
@@ -138,6 +139,7 @@ pub fn serve<O: Sink, W: Outside>(
     requires child { (W.seen live.old).waiting.child ≡ false }
     ensures served { result ≡ ServeEnd.End → Served turns managed.now specs.now (W.seen live.old) (W.seen live.new) (O.written out.old) (O.written out.new) }
     ensures cut { Leaves result turns managed.now specs.now (W.seen live.old) (W.seen live.new) (O.written out.old) (O.written out.new) }
+    ensures files { LeavesFiled managed.now specs.now (W.seen live.old) (W.seen live.new) }
     ensures cause { HasEndCause result (O.faults out.old) (O.faults out.new) (W.seen live.old).waiting.faults (W.seen live.new).waiting.faults }
     ensures foretold { (W.seen live.old).waiting.failing ≡ Some [] → result ≢ ServeEnd.LinkFault }
     ensures many { result ≡ ServeEnd.TurnsOver → AreManyTurns (W.seen live.old) turns }

@@ -19,7 +19,7 @@ pub returns-then-ends_life-clause-ok : goal.returns-then-ends_life-clause-ok
 returns-then-ends_life-clause-ok g c = (
   c.in_ok-wake.ensures.child ∙ c.requires.child,
   wait_ends c.args.managed.now (life_of c.args.life) c.in_ok-wake.wake c.wait.new.buf c.until.result (g.W.Outside.seen c.args.outside.now) (g.W.Outside.seen c.wait.new.outside) (g.O.Sink.written c.args.out.now)
-      c.until.ensures (sym c.ends_life.ensures ∙ c.if-ends_life.true) c.in_ok-wake.ensures.waits,
+      c.requires.going c.until.ensures (sym c.ends_life.ensures ∙ c.if-ends_life.true) c.in_ok-wake.ensures.waits,
 )
 
 pub returns-in_err-life-clause-cut : goal.returns-in_err-life-clause-cut
