@@ -1,7 +1,7 @@
 //! The loop over the link of this machine.
 
 use daemon::{Devices, ServeEnd, serve};
-use edges::{ChildHooks, LoopLink};
+use edges::{LoopLink, SystemChildren, SystemLoopback};
 use std::net::{Ipv4Addr, UdpSocket};
 use std::test::Fail;
 use world_mem::{MemHooks, MemHost, MemSink, MemStore};
@@ -31,9 +31,15 @@ fn two_datagrams_are_two_turns(rt: HostRuntime) -> Result<(), Fail> {
     let peer = new_peer(&rt).expect(&rt, "a socket");
     let port = free_port(&rt).expect(&rt, "a port");
     let peer_port = port_word(&rt, &peer).expect(&rt, "a port");
-    let hooks = ChildHooks::new(&rt, "").expect(&rt, "memory");
-    let watch = hooks.watch().expect(&rt, "memory");
-    let mut link = LoopLink::new(&rt, watch, &port, &peer_port);
+    let children = SystemChildren::new(&rt).expect(&rt, "memory");
+    let watch = children.watch().expect(&rt, "memory");
+    let mut link = LoopLink::new(
+        rt.alloc(),
+        SystemLoopback::new(&rt),
+        watch,
+        &port,
+        &peer_port,
+    );
     assert!(rt; link.bind().is_ok());
     let address = format!(in alloc; "127.0.0.1:{port}")?;
     for event in EVENTS {

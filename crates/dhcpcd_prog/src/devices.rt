@@ -5,16 +5,19 @@ ghost use Rattle.edges.specs.Ports.{port_named};
 ghost use Rattle.dhcpcd_prog.specs.Named.{word_at};
 
 use daemon::Devices;
-use edges::{ChildHooks, ChildWatch, CommandHost, FolderStore, LoopLink};
+use edges::{
+    ChildHooks, ChildWatch, CommandHost, FolderStore, LoopLink, SystemChildren, SystemDisk,
+    SystemLoopback,
+};
 use std::process::SystemProcess;
 use world::NoMemory;
 
 /// The outside on this machine.
 pub type Machine<'a> = Devices<
-    LoopLink<&'a HostRuntime, ChildWatch<SystemProcess>>,
-    FolderStore<&'a HostRuntime>,
+    LoopLink<SystemLoopback<&'a HostRuntime>, ChildWatch<SystemProcess>>,
+    FolderStore<SystemDisk<&'a HostRuntime>>,
     CommandHost<&'a HostRuntime>,
-    ChildHooks<&'a HostRuntime>,
+    ChildHooks<SystemChildren<&'a HostRuntime>>,
 >;
 
 /// A word by its place; where there is none it stands for nothing.
@@ -37,11 +40,18 @@ pub fn devices<'a>(rt: &'a HostRuntime, words: &[String]) -> Result<Machine<'a>,
     ensures child { IfOk result (λ machine. machine.hooks.running ≡ false) }
 {
     let script = word(words, 4);
-    let hooks = ChildHooks::new(rt, script)?;
-    let watch = hooks.watch()?;
+    let children = SystemChildren::new(rt)?;
+    let watch = children.watch()?;
+    let hooks = ChildHooks::new(rt.alloc(), children, script)?;
     Ok(Devices {
-        link: LoopLink::new(rt, watch, word(words, 1), word(words, 2)),
-        store: FolderStore::new(rt, word(words, 3))?,
+        link: LoopLink::new(
+            rt.alloc(),
+            SystemLoopback::new(rt),
+            watch,
+            word(words, 1),
+            word(words, 2),
+        ),
+        store: FolderStore::new(rt.alloc(), SystemDisk::new(rt), word(words, 3))?,
         host: CommandHost::new(rt, script)?,
         hooks,
     })

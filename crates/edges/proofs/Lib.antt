@@ -1,2 +1,5 @@
 pub mod Causing
 pub mod HeldRows
+pub mod Doing
+pub mod FolderSteps
+pub mod ListingRows

@@ -1,3 +1,8 @@
+pub mod Asking
+pub mod DiskCalls
+pub mod FolderCalls
+pub mod ChildCalls
+pub mod Listings
 pub mod Counts
 pub mod Paths
 pub mod Ports
@@ -5,3 +10,4 @@ pub mod Datagrams
 pub mod Salts
 pub mod Moments
 pub mod Waiting
+pub mod WireCalls

@@ -2,8 +2,8 @@
 use Rattle.std.specs.Prelude.{ℕ, Bool, true, false, ◌+◌, ◌-◌, ◌/◌, min, max, nat_le, Option, None, Some, if◌then◌else◌}
 use Rattle.std.specs.declared.io.ErrorKind.{ErrorKind}
 use Rattle.std.specs.declared.io.ErrorKind.TheVariants as kind
-use Rattle.edges.specs.declared.children.Seen.{Seen}
-use Rattle.edges.specs.declared.children.Seen.TheVariants.{NoChild, Runs, Ended}
+use Rattle.edges.specs.declared.processes.Seen.{Seen}
+use Rattle.edges.specs.declared.processes.Seen.TheVariants.{NoChild, Runs, Ended}
 use Rattle.edges.specs.declared.links.TheConstants.{IDLE, LONGEST, SHORT, GLANCE}
 
 -- The moment at which a wait that begins now ends, in milliseconds: the one asked for, or after a while where none is.

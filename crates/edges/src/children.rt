@@ -1,146 +1,60 @@
-ghost use Rattle.std.specs.Prelude.{◌≡◌, false, IfOk};
+ghost use Rattle.std.specs.Prelude.{◌≡◌, ◌≤◌, true, false, map, IfOk};
 ghost use Rattle.std.specs.String.{string_bytes};
+ghost use Rattle.world.specs.Causes.{HasCause, HasDeviceCause};
+ghost use Rattle.world.specs.HookCalls.{variable_of, RunsIfDone, RunsOn};
+ghost use Rattle.edges.specs.ChildCalls.{script_run, Starts, Polls, Leaves};
 
-use crate::faults::Faults;
-use std::alloc::{AllocError, Global};
-use std::cell::RefCell;
-use std::io;
-use std::os::unix::process::ExitStatusExt;
-use std::process::{Child, Command, ExitStatus, OpenProcess, Processes, Stdio};
-use std::rc::Rc;
+use crate::faults::{Faults, reason};
+use crate::processes::Children;
+use std::alloc::Global;
+use std::io::ErrorKind;
 use world::{DeviceAnswer, Failed, HookJob, Hooks, NoMemory, Poll};
 
-/// What a shell adds to the number of the signal that ended a child.
-const BY_SIGNAL: u32 = 128;
-
-/// The status that a child ended with, as a shell tells it.
-fn status_number(status: ExitStatus) -> u32 {
-    match (status.code(), status.signal()) {
-        (Some(code), _) => code.unsigned_abs(),
-        (None, Some(signal)) => BY_SIGNAL.saturating_add(signal.unsigned_abs()),
-        (None, None) => BY_SIGNAL,
-    }
-}
-
-/// The call that a job asks for. Its variables are the whole environment; it reads nothing, and what it prints is dropped.
-fn job_call(alloc: Global, script: &str, job: &HookJob) -> Result<Command, AllocError> {
-    let mut call = Command::new(alloc, script)?;
-    call.env_clear();
-    for var in &job.vars {
-        call.env(&var.name, &var.value)?;
-    }
-    call.stdin(Stdio::null()).stdout(Stdio::null());
-    Ok(call)
-}
-
-/// What is seen of the child that hooks run.
-#[derive(Clone, Copy, PartialEq, Eq)]
-pub enum Seen {
-    NoChild,
-    Runs,
-    Ended,
-}
-
-/// What sees whether a child of this process has ended.
-pub trait Watch {
-    fn look(&self) -> Seen;
-}
-
-/// The place of the child that hooks run. Those who watch it share the place.
-type Place<P> = Rc<RefCell<Option<Child<P>>>>;
-
-/// Who watches the child that hooks run.
+/// Hook scripts as children of this process, one at a time.
 #[derive(Drop)]
-pub struct ChildWatch<P: OpenProcess + Drop> {
-    place: Place<P>,
-}
-
-impl<P: OpenProcess + Drop> Watch for ChildWatch<P> {
-    /// A child that can't be asked runs on.
-    fn look(&self) -> Seen {
-        let Ok(mut place) = self.place.try_borrow_mut() else {
-            return Seen::Runs;
-        };
-        match &mut *place {
-            None => Seen::NoChild,
-            Some(child) => match child.try_wait() {
-                Ok(Some(_)) => Seen::Ended,
-                _ => Seen::Runs,
-            },
-        }
-    }
-}
-
-/// How the child in a place ended; `None` where it runs on, or there is none.
-fn asked<P: OpenProcess + Drop>(place: &Place<P>) -> io::Result<Option<ExitStatus>> {
-    match place.try_borrow_mut() {
-        Ok(mut place) => match &mut *place {
-            Some(child) => child.try_wait(),
-            None => Ok(None),
-        },
-        Err(_) => Ok(None),
-    }
-}
-
-/// Puts a child, or none, in its place, and says which one was there.
-fn put<P: OpenProcess + Drop>(place: &Place<P>, child: Option<Child<P>>) -> Option<Child<P>> {
-    match place.try_replace(child) {
-        Ok(before) => before,
-        Err(_) => None,
-    }
-}
-
-/// Hook scripts as children of this process, one at a time. What they do isn't told.
-#[derive(Drop)]
-pub struct ChildHooks<R: Processes + AllocGlobal + Drop> {
-    rt: R,
+pub struct ChildHooks<C: Children + Drop> {
+    children: C,
     script: String,
-    place: Place<R::Started>,
     running: bool,
     faults: Faults,
 }
 
-impl<R: Processes + AllocGlobal + Drop> ChildHooks<R> {
+impl<C: Children + Drop> ChildHooks<C> {
     /// Hooks whose own script has this path. Nothing runs yet.
-    pub fn new(rt: R, script: &str) -> Result<ChildHooks<R>, NoMemory>
+    pub fn new(alloc: Global, children: C, script: &str) -> Result<ChildHooks<C>, NoMemory>
         ensures script { IfOk result (λ hooks. string_bytes hooks.script ≡ script.now) }
         ensures idle { IfOk result (λ hooks. hooks.running ≡ false) }
+        ensures children { IfOk result (λ hooks. hooks.children ≡ children) }
     {
-        let (Ok(script), Ok(place)) = (
-            String::from_str(rt.alloc(), script),
-            Rc::new(rt.alloc(), RefCell::new(None)),
-        ) else {
-            return Err(NoMemory);
-        };
-        Ok(ChildHooks {
-            rt,
-            script,
-            place,
-            running: false,
-            faults: Faults::none(),
-        })
-    }
-
-    /// Who watches the child that runs, and each later one.
-    pub fn watch(&self) -> Result<ChildWatch<R::Started>, NoMemory> {
-        match self.place.clone() {
-            Ok(place) => Ok(ChildWatch { place }),
+        match String::from_str(alloc, script) {
+            Ok(script) => Ok(ChildHooks {
+                children,
+                script,
+                running: false,
+                faults: Faults::none(),
+            }),
             Err(_) => Err(NoMemory),
-        }
-    }
-
-    /// The script that a job runs: the hooks' own where it names none.
-    fn script_of<'a>(&'a self, job: &'a HookJob) -> &'a str {
-        if job.script.is_empty() {
-            &self.script
-        } else {
-            &job.script
         }
     }
 }
 
+/// The script that a job runs: the hooks' own where it names none.
+fn script_of<'a>(own: &'a str, named: &'a str) -> &'a str
+    ensures { result.now ≡ script_run own.now named.now }
+{
+    if named.is_empty() { own } else { named }
+}
+
+/// Ends the child and waits for it. One that can't be ended isn't waited for.
+fn end<C: Children>(children: &mut C) -> Result<(), ErrorKind>
+    ensures { Leaves true (C.calls children.old) (C.calls children.new) }
+{
+    children.kill()?;
+    children.wait()
+}
+
 #[tactic(auto, using(crate::proofs::Causing::counted_cause))]
-impl<R: Processes + AllocGlobal + Drop> Hooks for ChildHooks<R> {
+impl<C: Children + Drop> Hooks for ChildHooks<C> {
     ghost use Rattle.std.specs.Prelude.{None};
 
     ghost faults = { λ hooks. hooks.faults.count };
@@ -151,39 +65,51 @@ impl<R: Processes + AllocGlobal + Drop> Hooks for ChildHooks<R> {
 
     ghost failing = { λ hooks. None };
 
-    fn start(&mut self, job: &HookJob) -> Result<(), DeviceAnswer> {
-        let Ok(mut call) = job_call(self.rt.alloc(), self.script_of(job), job) else {
-            return Err(DeviceAnswer::NoMemory);
-        };
-        match call.spawn(&self.rt) {
-            Ok(child) => {
-                put(&self.place, Some(child));
+    fn start(&mut self, job: &HookJob) -> Result<(), DeviceAnswer>
+        requires { self.old.running ≡ false }
+        ensures cause { HasDeviceCause self.old.faults.count self.new.faults.count result }
+        ensures runs { RunsIfDone self.new.running result }
+        ensures script { self.new.script ≡ self.old.script }
+        ensures asked { Starts (script_run (string_bytes self.old.script) (string_bytes job.now.script)) (map variable_of job.now.vars.items) (C.calls self.old.children) (C.calls self.new.children) result }
+    {
+        let script = script_of(&self.script, &job.script);
+        match self.children.start(script, false, &job.vars) {
+            Ok(()) => {
                 self.running = true;
                 Ok(())
             }
-            Err(_) => Err(self.faults.counted(DeviceAnswer::Failed)),
+            Err(kind) => Err(self.faults.counted(reason(kind))),
         }
     }
 
-    fn poll(&mut self) -> Result<Poll, Failed> {
-        match asked(&self.place) {
+    fn poll(&mut self) -> Result<Poll, Failed>
+        requires { self.old.running ≡ true }
+        ensures cause { HasCause self.old.faults.count self.new.faults.count result }
+        ensures runs { RunsOn self.new.running result }
+        ensures script { self.new.script ≡ self.old.script }
+        ensures asked { Polls (C.calls self.old.children) (C.calls self.new.children) result }
+    {
+        match self.children.ask() {
             Ok(None) => Ok(Poll::Running),
             Ok(Some(status)) => {
-                put(&self.place, None);
                 self.running = false;
-                Ok(Poll::Ended(status_number(status)))
+                Ok(Poll::Ended(status))
             }
             Err(_) => self.faults.failed(Poll::Running),
         }
     }
 
-    fn abandon(&mut self) {
-        self.running = false;
-        let Some(mut child) = put(&self.place, None) else {
+    fn abandon(&mut self)
+        ensures cause { self.old.faults.count ≤ self.new.faults.count }
+        ensures runs { self.new.running ≡ false }
+        ensures script { self.new.script ≡ self.old.script }
+        ensures asked { Leaves self.old.running (C.calls self.old.children) (C.calls self.new.children) }
+    {
+        if !self.running {
             return;
-        };
-        // only a child that was ended is waited for
-        if child.kill().is_err() || child.wait().is_err() {
+        }
+        self.running = false;
+        if end(&mut self.children).is_err() {
             self.faults.counted(DeviceAnswer::Failed);
         }
     }

@@ -6,6 +6,8 @@ ghost use Rattle.world.specs.HostCalls.{Lists};
 ghost use Rattle.world.specs.RowOrder.{row_cmp};
 ghost use Rattle.world.specs.RowText.{row_text};
 ghost use Rattle.world.specs.Rows.{IsRow};
+ghost use Rattle.script_model.specs.RowSpellings.{SpellsRow};
+ghost use Rattle.edges.specs.Listings.{IsListing};
 
 use crate::faults::{Faults, reason};
 use net_types::split_at_byte;
@@ -18,15 +20,17 @@ use world::{DeviceAnswer, Host, HostRow, NoMemory};
 
 /// The row on a line of a listing.
 fn row_on(line: &[u8]) -> Option<HostRow>
-    ensures { IfSome result (λ row. IsRow row) }
+    ensures { IfSome result (λ row. SpellsRow line.now row × IsRow row) }
 {
     read_row(str::from_utf8(line).ok()?).ok()
 }
 
 /// Reads the rows of a listing, a line for each. A line that is no row, has no end or comes twice is a failure.
+#[tactic(auto, using(crate::proofs::ListingRows::listing_begins, crate::proofs::ListingRows::listing_ends))]
 fn rows_of(alloc: Global, listing: &[u8]) -> Result<BTreeSet<HostRow>, DeviceAnswer>
     ensures rows { IfOk result (λ rows. All IsRow rows.keys) }
     ensures ordered { IfOk result (λ rows. IsOrdered row_cmp rows) }
+    ensures whole { IfOk result (λ rows. IsListing listing.now rows.keys) }
 {
     let mut rows = BTreeSet::new(alloc);
     let mut rest = listing;
@@ -114,7 +118,7 @@ fn listing(rt: &(impl Processes + AllocGlobal), script: &str) -> Result<Vec<u8>,
     match listed(rt, script) {
         Ok(output) if output.status.success() => Ok(output.stdout),
         Ok(_) => Err(DeviceAnswer::Failed),
-        Err(error) => Err(reason(&error)),
+        Err(error) => Err(reason(error.kind())),
     }
 }
 

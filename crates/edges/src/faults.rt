@@ -1,12 +1,13 @@
-ghost use Rattle.std.specs.Prelude.{◌≡◌, ◌<◌, ◌-◌, ◌^◌, IfOk, IsErr};
+ghost use Rattle.std.specs.Prelude.{◌≡◌, ◌<◌, ◌-◌, ◌^◌, IfOk, IfErr, IsErr, OnOk};
 ghost use Rattle.world.specs.Causes.{HasCause, HasDeviceCause};
-ghost use Rattle.edges.specs.Counts.{Counted};
+ghost use Rattle.edges.specs.Asking.{failure_of};
+ghost use Rattle.edges.specs.Counts.{Counted, AnswersAs};
 
-use std::io;
 use std::io::ErrorKind;
 use world::{DeviceAnswer, Failed};
 
-/// How many calls of a device failed, up to 2^64 - 1. A failure past that is answered as want of memory; it doesn't come.
+/// How many calls of a device failed, up to 2^64 - 1. A device that can count no more answers that memory is wanted; it doesn't
+/// come to that.
 #[derive(Clone, Copy)]
 pub(crate) struct Faults {
     pub(crate) count: u64,
@@ -20,9 +21,22 @@ impl Faults {
         Faults { count: 0 }
     }
 
+    /// Whether one more failure can be counted.
+    pub(crate) fn room(&self) -> Result<(), DeviceAnswer>
+        ensures room { OnOk result (self.now.count < 2 ^ 64 - 1) }
+        ensures err { IfErr result (λ answer. answer ≡ DeviceAnswer.NoMemory) }
+    {
+        if self.count < u64::MAX {
+            Ok(())
+        } else {
+            Err(DeviceAnswer::NoMemory)
+        }
+    }
+
     /// Counts a call that gave nothing, unless it wanted memory, and says why it gave nothing.
     pub(crate) fn counted(&mut self, answer: DeviceAnswer) -> DeviceAnswer
-        ensures { Counted self.old.count self.new.count result }
+        ensures counted { Counted self.old.count self.new.count result }
+        ensures same { self.old.count < 2 ^ 64 - 1 → result ≡ answer }
     {
         if let DeviceAnswer::Failed = answer
             && let Some(count) = self.count.checked_add(1)
@@ -48,9 +62,10 @@ impl Faults {
         }
     }
 
-    /// The answer of a call of the system that may have changed something: without success it failed, whatever the reason.
-    pub(crate) fn answered(&mut self, answer: io::Result<()>) -> Result<(), DeviceAnswer>
-        ensures { HasDeviceCause self.old.count self.new.count result }
+    /// The answer of calls of the system that may have changed something: without success they failed, whatever the reason.
+    pub(crate) fn answered(&mut self, answer: Result<(), ErrorKind>) -> Result<(), DeviceAnswer>
+        ensures cause { HasDeviceCause self.old.count self.new.count result }
+        ensures as_asked { self.old.count < 2 ^ 64 - 1 → AnswersAs (failure_of answer) result }
     {
         match answer {
             Ok(()) => Ok(()),
@@ -60,8 +75,8 @@ impl Faults {
 }
 
 /// Why a call of the system that changes nothing gave nothing.
-pub(crate) fn reason(error: &io::Error) -> DeviceAnswer {
-    match error.kind() {
+pub(crate) fn reason(kind: ErrorKind) -> DeviceAnswer {
+    match kind {
         ErrorKind::OutOfMemory => DeviceAnswer::NoMemory,
         _ => DeviceAnswer::Failed,
     }

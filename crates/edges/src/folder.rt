@@ -1,20 +1,26 @@
-ghost use Rattle.std.specs.Prelude.{◌≡◌, ◌++◌, All, IfOk, IfErr, OnErr};
+ghost use Rattle.std.specs.Prelude.{◌≡◌, ◌≤◌, ◌+◌, ◌++◌, [], ◌∷◌, length, drop, filter, map, All, IfOk, IfErr, OnOk, OnErr};
 ghost use Rattle.std.specs.List.{list_all};
 ghost use Rattle.std.specs.String.{string_bytes};
-ghost use Rattle.world.specs.FileNames.{is_file_byte, IsFileName};
+ghost use Rattle.world.specs.Causes.{HasDeviceCause};
+ghost use Rattle.world.specs.FileLists.{is_aside};
+ghost use Rattle.world.specs.FileNames.{aside_of, is_file_byte, IsFileName};
 ghost use Rattle.world.specs.StoreCalls.{AppendsNames};
+ghost use Rattle.edges.specs.Asking.{failure_of, Answered};
+ghost use Rattle.edges.specs.DiskCalls.{is_no_text};
+ghost use Rattle.edges.specs.FolderCalls.{Syncs, Writes, WritesOn, Removes, Renames, ReadsOn, ReadsOpened, IsUnopened, ReadsPath, ListsOne, ListsOn, ListsAll, is_aside_name, is_missing, Appends};
 ghost use Rattle.edges.specs.Paths.{file_path};
 
+use crate::disks::Disk;
 use crate::faults::{Faults, reason};
 use std::alloc::Global;
-use std::fs;
-use std::fs::{File, OpenFile};
 use std::io::ErrorKind;
-use std::rt::Files;
 use world::{DeviceAnswer, NoMemory, Store};
 
 /// What the name of an aside ends in.
 const ASIDE: &str = ".new";
+
+/// How many bytes of a file are read at a time, at most.
+const PIECE: usize = 4096;
 
 /// A letter, a digit, `.`, `_` or `-`.
 fn is_file_byte(byte: u8) -> bool
@@ -35,55 +41,234 @@ fn is_file_name(name: &[u8]) -> bool
     name.iter().all(|byte| is_file_byte(*byte))
 }
 
-/// Keeps a name that the folder lists, where it is that of an aside.
-fn keep_aside(alloc: Global, names: &mut Vec<String>, name: &str) -> Result<(), DeviceAnswer>
-    requires { All (λ name. IsFileName (string_bytes name)) names.old.items }
-    ensures { All (λ name. IsFileName (string_bytes name)) names.new.items }
+/// Whether a name ends as that of an aside.
+fn ends_aside(name: &[u8]) -> bool
+    ensures { result ≡ is_aside name.now }
 {
-    if !name.ends_with(ASIDE) || !is_file_name(name.as_bytes()) {
+    let end = &name[name.len().saturating_sub(ASIDE.len())..];
+    end.cmp(&ASIDE.as_bytes()).is_eq()
+}
+
+/// Whether a name is one that a store's aside may have.
+fn is_aside_name(name: &[u8]) -> bool
+    ensures { result ≡ is_aside_name name.now }
+{
+    ends_aside(name) && is_file_name(name)
+}
+
+/// Makes what a file holds, or the names in a folder, outlive a crash.
+fn sync<D: Disk>(disk: &mut D, path: &str) -> Result<(), ErrorKind>
+    ensures { Syncs path.now (D.calls disk.old) (D.calls disk.new) (failure_of result) }
+{
+    disk.open(path)?;
+    let synced = disk.sync();
+    disk.close();
+    synced
+}
+
+/// What stands behind so many bytes.
+fn behind(bytes: &[u8], n: usize) -> &[u8]
+    requires { n ≤ length bytes.now }
+    ensures rest { result.now ≡ drop n bytes.now }
+    ensures shorter { length result.now + n ≡ length bytes.now }
+{
+    bytes.split_at(n).1
+}
+
+/// Writes all of these bytes to the open file.
+#[tactic(auto, using(crate::proofs::FolderSteps::writing_begins, crate::proofs::FolderSteps::writing_goes_on, crate::proofs::FolderSteps::all_written, crate::proofs::FolderSteps::some_written))]
+fn write_on<D: Disk>(disk: &mut D, bytes: &[u8]) -> Result<(), ErrorKind>
+    ensures { WritesOn bytes.now (D.calls disk.old) (D.calls disk.new) (failure_of result) }
+{
+    let mut rest = bytes;
+    'pieces: while !rest.is_empty() {
+        match disk.write(rest) {
+            Ok(n) => {
+                if n == 0 {
+                    return Err(ErrorKind::WriteZero);
+                }
+                rest = behind(rest, n);
+            }
+            Err(kind) => return Err(kind),
+        }
+    }
+    Ok(())
+}
+
+/// Makes a file of these bytes.
+fn write<D: Disk>(disk: &mut D, path: &str, bytes: &[u8]) -> Result<(), ErrorKind>
+    ensures { Writes path.now bytes.now (D.calls disk.old) (D.calls disk.new) (failure_of result) }
+{
+    disk.make(path)?;
+    let written = write_on(disk, bytes);
+    disk.close();
+    written
+}
+
+/// Whether a failure says that there is no such file.
+fn is_missing(kind: ErrorKind) -> bool
+    ensures { result ≡ is_missing kind }
+{
+    matches!(kind, ErrorKind::NotFound)
+}
+
+/// Whether a failure says that a name is no text.
+fn is_no_text(kind: ErrorKind) -> bool
+    ensures { result ≡ is_no_text kind }
+{
+    matches!(kind, ErrorKind::InvalidFilename)
+}
+
+/// Removes a file, where there is one.
+fn remove<D: Disk>(disk: &mut D, path: &str) -> Result<(), ErrorKind>
+    ensures { Removes path.now (D.calls disk.old) (D.calls disk.new) (failure_of result) }
+{
+    match disk.remove(path) {
+        Ok(()) => Ok(()),
+        Err(kind) => { if is_missing(kind) { Ok(()) } else { Err(kind) } }
+    }
+}
+
+/// Appends what the open file holds; a front of it where that fails.
+#[tactic(auto, using(crate::proofs::FolderSteps::reading_begins, crate::proofs::FolderSteps::reading_goes_on, crate::proofs::FolderSteps::all_read, crate::proofs::FolderSteps::front_kept, crate::proofs::FolderSteps::some_read, crate::proofs::FolderSteps::read_so_far))]
+fn read_on<D: Disk>(disk: &mut D, into: &mut Vec<u8>) -> Result<(), DeviceAnswer>
+    ensures { ReadsOn (D.calls disk.old) (D.calls disk.new) into.old.items into.new.items result }
+{
+    let mut piece = [0; PIECE];
+    'pieces: for _ in 0..u64::MAX {
+        match disk.read(&mut piece) {
+            Ok(n) => {
+                if n == 0 {
+                    return Ok(());
+                }
+                let Ok(()) = into.extend_from_slice(&piece[..n]) else {
+                    return Err(DeviceAnswer::NoMemory);
+                };
+            }
+            Err(kind) => return Err(reason(kind)),
+        }
+    }
+    Err(DeviceAnswer::Failed)
+}
+
+/// Appends what the open file holds, or nothing where that fails, and closes it.
+fn read_opened<D: Disk>(disk: &mut D, into: &mut Vec<u8>) -> Result<bool, DeviceAnswer>
+    ensures { ReadsOpened (D.calls disk.old) (D.calls disk.new) into.old.items into.new.items result }
+{
+    let before = into.len();
+    let read = read_on(disk, into);
+    disk.close();
+    match read {
+        Ok(()) => Ok(true),
+        Err(answer) => {
+            into.truncate(before);
+            Err(answer)
+        }
+    }
+}
+
+/// What the reading of a file that can't be opened gives.
+fn unopened(kind: ErrorKind) -> Result<bool, DeviceAnswer>
+    ensures { IsUnopened (is_missing kind) result }
+{
+    if is_missing(kind) {
+        Ok(false)
+    } else {
+        Err(reason(kind))
+    }
+}
+
+/// Appends the bytes of a file, or none where it can't be read; false where there is no such file.
+fn append_file<D: Disk>(disk: &mut D, path: &str, into: &mut Vec<u8>) -> Result<bool, DeviceAnswer>
+    ensures { ReadsPath path.now (D.calls disk.old) (D.calls disk.new) into.old.items into.new.items result }
+{
+    match disk.open(path) {
+        Ok(()) => read_opened(disk, into),
+        Err(kind) => unopened(kind),
+    }
+}
+
+/// Keeps the next name of the folder where it is that of an aside, and says whether the listing goes on.
+#[tactic(auto, using(crate::proofs::FolderSteps::one_named, crate::proofs::FolderSteps::one_passed))]
+fn list_one<D: Disk>(disk: &mut D, names: &mut Vec<String>) -> Result<bool, DeviceAnswer>
+    requires { All (λ name. IsFileName (string_bytes name)) names.old.items }
+    ensures named { All (λ name. IsFileName (string_bytes name)) names.new.items }
+    ensures listed { ListsOne (D.calls disk.old) (D.calls disk.new) (map string_bytes names.old.items) (map string_bytes names.new.items) result }
+{
+    match disk.next_name() {
+        Ok(None) => Ok(false),
+        Ok(Some(name)) => {
+            keep_aside(names, name)?;
+            Ok(true)
+        }
+        Err(kind) => {
+            if is_no_text(kind) {
+                Ok(true)
+            } else {
+                Err(reason(kind))
+            }
+        }
+    }
+}
+
+/// Keeps the names of asides among those that the folder goes on to list.
+#[tactic(auto, using(crate::proofs::FolderSteps::listing_begins, crate::proofs::FolderSteps::listing_goes_on, crate::proofs::FolderSteps::all_listed))]
+fn list_on<D: Disk>(disk: &mut D, names: &mut Vec<String>) -> Result<(), DeviceAnswer>
+    requires { All (λ name. IsFileName (string_bytes name)) names.old.items }
+    ensures named { All (λ name. IsFileName (string_bytes name)) names.new.items }
+    ensures listed { OnOk result (ListsOn (D.calls disk.old) (D.calls disk.new) (map string_bytes names.old.items) (map string_bytes names.new.items)) }
+{
+    'entries: for _ in 0..u64::MAX {
+        if !list_one(disk, names)? {
+            return Ok(());
+        }
+    }
+    Err(DeviceAnswer::Failed)
+}
+
+/// Keeps a name that the folder lists, where it is that of an aside.
+fn keep_aside(names: &mut Vec<String>, name: String) -> Result<(), DeviceAnswer>
+    requires { All (λ name. IsFileName (string_bytes name)) names.old.items }
+    ensures named { All (λ name. IsFileName (string_bytes name)) names.new.items }
+    ensures kept { OnOk result (map string_bytes names.new.items ≡ map string_bytes names.old.items ++ filter is_aside_name (string_bytes name ∷ [])) }
+{
+    if !is_aside_name(name.as_bytes()) {
         return Ok(());
     }
-    let Ok(copy) = String::from_str(alloc, name) else {
-        return Err(DeviceAnswer::NoMemory);
-    };
-    match names.push(copy) {
+    match names.push(name) {
         Ok(()) => Ok(()),
         Err(_) => Err(DeviceAnswer::NoMemory),
     }
 }
 
 /// The names of the asides in a folder, in no order. What a store can't hold isn't listed.
-fn found_asides<R: Files + AllocGlobal + Clone + Drop>(
-    rt: &R,
+fn found_asides<D: Disk>(
+    disk: &mut D,
+    alloc: Global,
     dir: &str,
 ) -> Result<Vec<String>, DeviceAnswer>
-    ensures { IfOk result (λ names. All (λ name. IsFileName (string_bytes name)) names.items) }
+    ensures named { IfOk result (λ names. All (λ name. IsFileName (string_bytes name)) names.items) }
+    ensures listed { IfOk result (λ names. ListsAll dir.now (D.calls disk.old) (D.calls disk.new) (map string_bytes names.items)) }
 {
-    let mut names = Vec::new(rt.alloc());
-    let entries = match fs::read_dir(rt, dir) {
-        Ok(entries) => entries,
-        Err(error) => return Err(reason(&error)),
-    };
-    for entry in entries {
-        match entry {
-            Ok(entry) => keep_aside(rt.alloc(), &mut names, entry.file_name())?,
-            // a name that is no text
-            Err(error) if error.kind() == ErrorKind::InvalidFilename => {}
-            Err(error) => return Err(reason(&error)),
-        }
+    let mut names = Vec::new(alloc);
+    match disk.list(dir) {
+        Ok(()) => list_on(disk, &mut names)?,
+        Err(kind) => return Err(reason(kind)),
     }
     Ok(names)
 }
 
 /// Appends the names of the asides in a folder, in byte order.
-fn append_asides<R: Files + AllocGlobal + Clone + Drop>(
-    rt: &R,
+fn append_asides<D: Disk>(
+    disk: &mut D,
+    alloc: Global,
     dir: &str,
     names: &mut Vec<String>,
 ) -> Result<(), DeviceAnswer>
-    ensures { AppendsNames names.old.items names.new.items result }
+    ensures names { AppendsNames names.old.items names.new.items result }
+    ensures listed { OnOk result (Appends dir.now (D.calls disk.old) (D.calls disk.new) names.old.items names.new.items) }
 {
-    let mut found = found_asides(rt, dir)?;
+    let mut found = found_asides(disk, alloc, dir)?;
     let Ok(()) = found.sort() else {
         return Err(DeviceAnswer::NoMemory);
     };
@@ -93,53 +278,25 @@ fn append_asides<R: Files + AllocGlobal + Clone + Drop>(
     }
 }
 
-/// Appends the bytes of a file, or none where it can't be read; false where there is no such file.
-fn append_file<R: Files + AllocGlobal>(
-    rt: &R,
-    path: &str,
-    into: &mut Vec<u8>,
-) -> Result<bool, DeviceAnswer>
-    ensures { OnErr result (into.new.items ≡ into.old.items) }
-{
-    match fs::read(rt, path) {
-        Ok(bytes) => match into.extend_from_slice(&bytes) {
-            Ok(()) => Ok(true),
-            Err(_) => Err(DeviceAnswer::NoMemory),
-        },
-        Err(error) if error.kind() == ErrorKind::NotFound => Ok(false),
-        Err(error) => Err(reason(&error)),
-    }
-}
-
-/// Makes what a file holds, or the names in a folder, outlive a crash.
-fn sync(rt: &impl Files, path: &str) -> std::io::Result<()> {
-    File::open(rt, path)?.sync_all()
-}
-
-/// Removes a file, where there is one.
-fn remove(rt: &impl Files, path: &str) -> std::io::Result<()> {
-    match fs::remove_file(rt, path) {
-        Err(error) if error.kind() == ErrorKind::NotFound => Ok(()),
-        answer => answer,
-    }
-}
-
-/// The files in a folder. What they hold isn't told. Names go to the system as they are given, behind that of the folder.
+/// The files in a folder. Names go to the system as they are given, behind that of the folder.
 #[derive(Drop)]
-pub struct FolderStore<R: Files + AllocGlobal + Clone + Drop> {
-    rt: R,
+pub struct FolderStore<D: Disk + Drop> {
+    alloc: Global,
+    disk: D,
     dir: String,
     faults: Faults,
 }
 
-impl<R: Files + AllocGlobal + Clone + Drop> FolderStore<R> {
+impl<D: Disk + Drop> FolderStore<D> {
     /// The files in the folder `dir`. Nothing is opened yet.
-    pub fn new(rt: R, dir: &str) -> Result<FolderStore<R>, NoMemory>
-        ensures { IfOk result (λ store. string_bytes store.dir ≡ dir.now) }
+    pub fn new(alloc: Global, disk: D, dir: &str) -> Result<FolderStore<D>, NoMemory>
+        ensures dir { IfOk result (λ store. string_bytes store.dir ≡ dir.now) }
+        ensures disk { IfOk result (λ store. store.disk ≡ disk) }
     {
-        match String::from_str(rt.alloc(), dir) {
+        match String::from_str(alloc, dir) {
             Ok(dir) => Ok(FolderStore {
-                rt,
+                alloc,
+                disk,
                 dir,
                 faults: Faults::none(),
             }),
@@ -148,19 +305,30 @@ impl<R: Files + AllocGlobal + Clone + Drop> FolderStore<R> {
     }
 
     /// The path of a file: that of the folder, a slash, and the name.
-    fn path(&self, name: &str, ending: &str) -> Result<String, DeviceAnswer>
-        ensures path { IfOk result (λ path. string_bytes path ≡ file_path (string_bytes self.now.dir) (name.now ++ ending.now)) }
+    fn path(&self, name: &str) -> Result<String, DeviceAnswer>
+        ensures path { IfOk result (λ path. string_bytes path ≡ file_path (string_bytes self.now.dir) name.now) }
         ensures err { IfErr result (λ answer. answer ≡ DeviceAnswer.NoMemory) }
     {
-        match format!(in self.rt.alloc(); "{}/{name}{ending}", self.dir) {
+        match format!(in self.alloc; "{}/{name}", self.dir) {
+            Ok(path) => Ok(path),
+            Err(_) => Err(DeviceAnswer::NoMemory),
+        }
+    }
+
+    /// The path of a file's aside.
+    fn aside(&self, name: &str) -> Result<String, DeviceAnswer>
+        ensures path { IfOk result (λ path. string_bytes path ≡ file_path (string_bytes self.now.dir) (aside_of name.now)) }
+        ensures err { IfErr result (λ answer. answer ≡ DeviceAnswer.NoMemory) }
+    {
+        match format!(in self.alloc; "{}/{name}{ASIDE}", self.dir) {
             Ok(path) => Ok(path),
             Err(_) => Err(DeviceAnswer::NoMemory),
         }
     }
 }
 
-#[tactic(auto, using(crate::proofs::Causing::counted_cause))]
-impl<R: Files + AllocGlobal + Clone + Drop> Store for FolderStore<R> {
+#[tactic(auto, using(crate::proofs::Causing::counted_cause, crate::proofs::Doing::answered_so))]
+impl<D: Disk + Drop> Store for FolderStore<D> {
     ghost use Rattle.std.specs.Prelude.{None};
 
     ghost faults = { λ store. store.faults.count };
@@ -169,43 +337,83 @@ impl<R: Files + AllocGlobal + Clone + Drop> Store for FolderStore<R> {
 
     ghost failing = { λ store. None };
 
-    fn list_asides(&mut self, names: &mut Vec<String>) -> Result<(), DeviceAnswer> {
-        match append_asides(&self.rt, &self.dir, names) {
+    fn list_asides(&mut self, names: &mut Vec<String>) -> Result<(), DeviceAnswer>
+        ensures cause { HasDeviceCause self.old.faults.count self.new.faults.count result }
+        ensures names { AppendsNames names.old.items names.new.items result }
+        ensures folder { self.new.dir ≡ self.old.dir }
+        ensures asked { OnOk result (Appends (string_bytes self.old.dir) (D.calls self.old.disk) (D.calls self.new.disk) names.old.items names.new.items) }
+    {
+        match append_asides(&mut self.disk, self.alloc, &self.dir, names) {
             Ok(()) => Ok(()),
             Err(answer) => Err(self.faults.counted(answer)),
         }
     }
 
-    fn read_file(&mut self, name: &str, into: &mut Vec<u8>) -> Result<bool, DeviceAnswer> {
-        let path = self.path(name, "")?;
-        match append_file(&self.rt, &path, into) {
+    fn read_file(&mut self, name: &str, into: &mut Vec<u8>) -> Result<bool, DeviceAnswer>
+        ensures cause { HasDeviceCause self.old.faults.count self.new.faults.count result }
+        ensures err { OnErr result (into.new.items ≡ into.old.items) }
+        ensures folder { self.new.dir ≡ self.old.dir }
+        ensures asked { ReadsPath (file_path (string_bytes self.old.dir) name.now) (D.calls self.old.disk) (D.calls self.new.disk) into.old.items into.new.items result }
+    {
+        let path = self.path(name)?;
+        match append_file(&mut self.disk, &path, into) {
             Ok(found) => Ok(found),
             Err(answer) => Err(self.faults.counted(answer)),
         }
     }
 
-    fn write_aside(&mut self, name: &str, bytes: &[u8]) -> Result<(), DeviceAnswer> {
-        let aside = self.path(name, ASIDE)?;
-        self.faults.answered(fs::write(&self.rt, &aside, bytes))
+    fn write_aside(&mut self, name: &str, bytes: &[u8]) -> Result<(), DeviceAnswer>
+        ensures cause { HasDeviceCause self.old.faults.count self.new.faults.count result }
+        ensures folder { self.new.dir ≡ self.old.dir }
+        ensures asked { Answered (Writes (file_path (string_bytes self.old.dir) (aside_of name.now)) bytes.now (D.calls self.old.disk) (D.calls self.new.disk)) (D.calls self.new.disk ≡ D.calls self.old.disk) result }
+    {
+        let aside = self.aside(name)?;
+        self.faults.room()?;
+        let written = write(&mut self.disk, &aside, bytes);
+        self.faults.answered(written)
     }
 
-    fn sync_aside(&mut self, name: &str) -> Result<(), DeviceAnswer> {
-        let aside = self.path(name, ASIDE)?;
-        self.faults.answered(sync(&self.rt, &aside))
+    fn sync_aside(&mut self, name: &str) -> Result<(), DeviceAnswer>
+        ensures cause { HasDeviceCause self.old.faults.count self.new.faults.count result }
+        ensures folder { self.new.dir ≡ self.old.dir }
+        ensures asked { Answered (Syncs (file_path (string_bytes self.old.dir) (aside_of name.now)) (D.calls self.old.disk) (D.calls self.new.disk)) (D.calls self.new.disk ≡ D.calls self.old.disk) result }
+    {
+        let aside = self.aside(name)?;
+        self.faults.room()?;
+        let synced = sync(&mut self.disk, &aside);
+        self.faults.answered(synced)
     }
 
-    fn rename_aside(&mut self, name: &str) -> Result<(), DeviceAnswer> {
-        let aside = self.path(name, ASIDE)?;
-        let path = self.path(name, "")?;
-        self.faults.answered(fs::rename(&self.rt, &aside, &path))
+    fn rename_aside(&mut self, name: &str) -> Result<(), DeviceAnswer>
+        ensures cause { HasDeviceCause self.old.faults.count self.new.faults.count result }
+        ensures folder { self.new.dir ≡ self.old.dir }
+        ensures asked { Answered (Renames (file_path (string_bytes self.old.dir) (aside_of name.now)) (file_path (string_bytes self.old.dir) name.now) (D.calls self.old.disk) (D.calls self.new.disk)) (D.calls self.new.disk ≡ D.calls self.old.disk) result }
+    {
+        let aside = self.aside(name)?;
+        let path = self.path(name)?;
+        self.faults.room()?;
+        let renamed = self.disk.rename(&aside, &path);
+        self.faults.answered(renamed)
     }
 
-    fn remove(&mut self, name: &str) -> Result<(), DeviceAnswer> {
-        let path = self.path(name, "")?;
-        self.faults.answered(remove(&self.rt, &path))
+    fn remove(&mut self, name: &str) -> Result<(), DeviceAnswer>
+        ensures cause { HasDeviceCause self.old.faults.count self.new.faults.count result }
+        ensures folder { self.new.dir ≡ self.old.dir }
+        ensures asked { Answered (Removes (file_path (string_bytes self.old.dir) name.now) (D.calls self.old.disk) (D.calls self.new.disk)) (D.calls self.new.disk ≡ D.calls self.old.disk) result }
+    {
+        let path = self.path(name)?;
+        self.faults.room()?;
+        let removed = remove(&mut self.disk, &path);
+        self.faults.answered(removed)
     }
 
-    fn settle(&mut self) -> Result<(), DeviceAnswer> {
-        self.faults.answered(sync(&self.rt, &self.dir))
+    fn settle(&mut self) -> Result<(), DeviceAnswer>
+        ensures cause { HasDeviceCause self.old.faults.count self.new.faults.count result }
+        ensures folder { self.new.dir ≡ self.old.dir }
+        ensures asked { Answered (Syncs (string_bytes self.old.dir) (D.calls self.old.disk) (D.calls self.new.disk)) (D.calls self.new.disk ≡ D.calls self.old.disk) result }
+    {
+        self.faults.room()?;
+        let synced = sync(&mut self.disk, &self.dir);
+        self.faults.answered(synced)
     }
 }

@@ -1,26 +1,34 @@
 //! The outside of the daemon on a real machine: the standard streams, files in a folder, scripts that keep the host's rows,
 //! children that run hooks, and datagrams on the loopback address in the place of interfaces.
 //!
-//! What the machine holds and does is told by none of these devices, and is trusted: the kernel's files, streams, processes,
-//! sockets and clock, and the scripts. What is proved of each is the same as of any other device of its kind: a call answers
-//! that the device failed only where its count rose in that call, and what it lends back is as the call says.
+//! Files, children and datagrams stand over traits of this crate, each method of which is one call of the system: `Disk`,
+//! `Children` and `Loopback`. Where a machine tells its calls, each device says which it made, and that it answers by them. The
+//! runtime's own calls (`system`) tell nothing, and are trusted, as are the scripts that keep the host's rows.
 #![tactic(auto)]
 
 mod children;
 mod commands;
 mod constants;
 mod datagrams;
+mod disks;
 mod faults;
 mod folder;
 mod links;
+mod loopback;
 mod moments;
+mod processes;
 mod salts;
 mod streams;
+mod system;
 
-pub use children::{ChildHooks, ChildWatch, Seen, Watch};
+pub use children::ChildHooks;
 pub use commands::CommandHost;
-pub use constants::{datagrams_are_these, salts_are_these};
+pub use constants::{datagrams_are_these, loopback_is_this, salts_are_these};
+pub use disks::Disk;
 pub use folder::FolderStore;
 pub use links::LoopLink;
+pub use loopback::{Arrival, Loopback, Sender};
+pub use processes::{Children, Seen, Watch};
 pub use salts::Salts;
 pub use streams::{StdSink, StdSource};
+pub use system::{ChildWatch, SystemChildren, SystemDisk, SystemLoopback};

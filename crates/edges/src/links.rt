@@ -1,20 +1,24 @@
-ghost use Rattle.std.specs.Prelude.{◌≡◌, ◌<◌, ◌≤◌, ◌-◌, ◌^◌, length, IfOk, IfSome, IsSome};
+ghost use Rattle.std.specs.Prelude.{◌≡◌, ◌<◌, ◌≤◌, ◌-◌, ◌^◌, true, [], ◌∷◌, length, None, IfOk, IfSome, OnOk};
 ghost use Rattle.edges.specs.Ports.{port_named};
 ghost use Rattle.edges.specs.Waiting.{wait_end, piece_of, glancing, is_over};
 ghost use Rattle.world.specs.Causes.{HasCause};
+ghost use Rattle.edges.specs.Asking.{Does};
+ghost use Rattle.edges.specs.Datagrams.{frame_datagram};
+ghost use Rattle.edges.specs.Salts.{salt_step};
+ghost use Rattle.edges.specs.WireCalls.{Sent, Binds, Receives};
+ghost use Rattle.edges.specs.declared.loopback.TheConstants.{LOOPBACK};
 ghost use Rattle.world.specs.LinkCalls.{frame_len};
 
-use crate::children::{Seen, Watch};
 use crate::datagrams::{FRAME_LIMIT, HEAD, frame_datagram, taken};
 use crate::faults::Faults;
+use crate::loopback::{Arrival, LOOPBACK, Loopback};
 use crate::moments::Moments;
+use crate::processes::{Seen, Watch};
 use crate::salts::Salts;
 use net_types::{IfIndex, number_of};
-use rand_core::Rng;
+use rand_core::utils::NextWord;
+use std::alloc::Global;
 use std::io::ErrorKind;
-use std::net::{Ipv4Addr, Net, SocketAddr, SocketAddrV4, UdpSocket};
-use std::rt::Clock;
-use std::time::Duration;
 use world::{Begin, DeviceAnswer, Event, Failed, Link, Wake};
 
 /// How many milliseconds the link waits where no moment is asked for.
@@ -84,34 +88,50 @@ fn port_of(word: &str) -> u16
     }
 }
 
-/// The socket, the clock and the random words of a link, and who watches the child that hooks run.
+/// The socket, the clocks and the random words of a link, and who watches the child that hooks run.
 #[derive(Drop)]
-struct Wire<R: Net + Clock + AllocGlobal + Drop, W: Watch + Drop> {
-    rt: R,
+struct Wire<L: Loopback + Drop, W: Watch + Drop> {
+    alloc: Global,
+    line: L,
     watch: W,
     port: u16,
     peer: u16,
-    socket: Option<UdpSocket>,
+    bound: bool,
     moments: Option<Moments>,
     salts: Salts,
 }
 
-impl<R: Net + Clock + AllocGlobal + Drop, W: Watch + Drop> Wire<R, W> {
-    fn peer(&self) -> SocketAddr {
-        SocketAddr::V4(SocketAddrV4::new(Ipv4Addr::LOCALHOST, self.peer))
+/// How long the datagram is that came, where the peer sent it.
+fn from_peer(arrival: Arrival, peer: u16) -> Option<usize>
+    ensures { IfSome result (λ len. (len ≡ arrival.len) × (arrival.sender.address ≡ LOOPBACK) × (arrival.sender.port ≡ peer)) }
+{
+    if arrival.sender.address == LOOPBACK && arrival.sender.port == peer {
+        Some(arrival.len)
+    } else {
+        None
     }
+}
 
+/// What a receiving that failed gives: nothing where none came.
+fn nothing_came(kind: ErrorKind) -> Result<Option<usize>, Failed>
+    ensures { IfOk result (λ got. (got ≡ None) × (is_over kind ≡ true)) }
+{
+    if is_over(kind) { Ok(None) } else { Err(Failed) }
+}
+
+impl<L: Loopback + Drop, W: Watch + Drop> Wire<L, W> {
     /// Binds the socket, where that wasn't done before.
     fn bind(&mut self) -> Result<(), Failed>
-        ensures bound { IfOk result (λ _. IsSome self.new.socket) }
+        ensures bound { IfOk result (λ _. self.new.bound ≡ true) }
         ensures ports { (self.new.port ≡ self.old.port) × (self.new.peer ≡ self.old.peer) }
+        ensures asked { Binds self.old.bound self.old.port (L.calls self.old.line) (L.calls self.new.line) result }
     {
-        if self.socket.is_some() {
+        if self.bound {
             return Ok(());
         }
-        match UdpSocket::bind(&self.rt, (Ipv4Addr::LOCALHOST, self.port)) {
-            Ok(socket) => {
-                self.socket = Some(socket);
+        match self.line.bind(self.port) {
+            Ok(()) => {
+                self.bound = true;
                 Ok(())
             }
             Err(_) => Err(Failed),
@@ -119,46 +139,49 @@ impl<R: Net + Clock + AllocGlobal + Drop, W: Watch + Drop> Wire<R, W> {
     }
 
     /// All interfaces have carrier at first.
-    fn begin(&mut self) -> Result<Begin, Failed> {
+    fn begin(&mut self) -> Result<Begin, Failed>
+        ensures salt { IfOk result (λ begin. begin.salt ≡ (salt_step begin.at).0) }
+    {
         self.bind()?;
-        let moments = Moments::begin(&self.rt)?;
+        let moments = Moments::begin(&mut self.line)?;
         let at = moments.begun();
         self.moments = Some(moments);
         self.salts = Salts::begun_by(at);
         Ok(Begin {
             at,
-            salt: self.salts.next_u64(),
+            salt: self.salts.next_word(),
             up: u64::MAX,
         })
     }
 
-    fn moment(&mut self) -> Result<u64, Failed> {
+    fn moment(&mut self) -> Result<u64, Failed>
+        ensures peer { self.new.peer ≡ self.old.peer }
+        ensures kept { self.new.salts ≡ self.old.salts }
+    {
         match &mut self.moments {
-            Some(moments) => moments.now(&self.rt),
+            Some(moments) => moments.now(&mut self.line),
             None => Err(Failed),
         }
     }
 
     /// Receives a datagram of the peer within so many milliseconds and says how long it is; `None` where none came.
-    fn receive(&self, piece: u64, datagram: &mut [u8]) -> Result<Option<usize>, Failed>
-        ensures { IfOk result (λ got. IfSome got (λ len. len ≤ length datagram.new)) }
+    fn receive(&mut self, piece: u64, datagram: &mut [u8]) -> Result<Option<usize>, Failed>
+        ensures room { IfOk result (λ got. IfSome got (λ len. len ≤ length datagram.new)) }
+        ensures kept { (self.new.peer ≡ self.old.peer) × (self.new.salts ≡ self.old.salts) }
+        ensures asked { Receives piece self.old.peer datagram.new (L.calls self.old.line) (L.calls self.new.line) result }
     {
-        let Some(socket) = &self.socket else {
+        let Ok(()) = self.line.limit(piece) else {
             return Err(Failed);
         };
-        let Ok(()) = socket.set_read_timeout(Some(Duration::from_millis(piece))) else {
-            return Err(Failed);
-        };
-        match socket.recv_from(datagram) {
-            Ok((len, sender)) if sender == self.peer() => Ok(Some(len)),
-            Ok(_) => Ok(None),
-            Err(error) if is_over(error.kind()) => Ok(None),
-            Err(_) => Err(Failed),
+        match self.line.receive(datagram) {
+            Ok(arrival) => Ok(from_peer(arrival, self.peer)),
+            Err(kind) => nothing_came(kind),
         }
     }
 
     /// The event of a datagram that comes within so many milliseconds.
-    fn heard(&self, piece: u64, buf: &mut [u8]) -> Result<Option<Event>, Failed>
+    fn heard(&mut self, piece: u64, buf: &mut [u8]) -> Result<Option<Event>, Failed>
+        ensures kept { (self.new.peer ≡ self.old.peer) × (self.new.salts ≡ self.old.salts) }
         ensures room { IfOk result (λ heard. IfSome heard (λ event. frame_len event ≤ length buf.new)) }
     {
         // one byte more than the longest, so that a longer one is told from it
@@ -204,20 +227,23 @@ impl<R: Net + Clock + AllocGlobal + Drop, W: Watch + Drop> Wire<R, W> {
         let at = self.moment()?;
         Ok(Wake {
             at,
-            salt: self.salts.next_u64(),
+            salt: self.salts.next_word(),
             event,
         })
     }
 
-    fn send(&self, iface: IfIndex, frame: &[u8]) -> Result<(), DeviceAnswer> {
-        let (Some(socket), Ok(iface)) = (&self.socket, u8::try_from(iface.number)) else {
+    /// Sends the datagram of a frame to the peer.
+    fn send(&mut self, iface: IfIndex, frame: &[u8]) -> Result<(), DeviceAnswer>
+        ensures asked { OnOk result (Does (Sent (frame_datagram iface.number frame.now) self.old.peer None ∷ []) (L.calls self.old.line) (L.calls self.new.line)) }
+    {
+        let Ok(iface) = u8::try_from(iface.number) else {
             return Err(DeviceAnswer::Failed);
         };
-        let Ok(datagram) = frame_datagram(self.rt.alloc(), iface, frame) else {
+        let Ok(datagram) = frame_datagram(self.alloc, iface, frame) else {
             return Err(DeviceAnswer::NoMemory);
         };
-        match socket.send_to(&datagram, self.peer()) {
-            Ok(_) => Ok(()),
+        match self.line.send(&datagram, self.peer) {
+            Ok(()) => Ok(()),
             Err(_) => Err(DeviceAnswer::Failed),
         }
     }
@@ -228,27 +254,28 @@ impl<R: Net + Clock + AllocGlobal + Drop, W: Watch + Drop> Wire<R, W> {
 /// A datagram from the peer's port is one event; any other is passed over. The end of a child ends a wait. A send reaches the
 /// peer, or nobody.
 #[derive(Drop)]
-pub struct LoopLink<R: Net + Clock + AllocGlobal + Drop, W: Watch + Drop> {
-    wire: Wire<R, W>,
+pub struct LoopLink<L: Loopback + Drop, W: Watch + Drop> {
+    wire: Wire<L, W>,
     faults: Faults,
     send_faults: Faults,
     begins: u64,
 }
 
-impl<R: Net + Clock + AllocGlobal + Drop, W: Watch + Drop> LoopLink<R, W> {
+impl<L: Loopback + Drop, W: Watch + Drop> LoopLink<L, W> {
     /// A link between two ports of 127.0.0.1, its own and the peer's. A word that is no port stands for 0. Nothing is opened yet.
-    pub fn new(rt: R, watch: W, port: &str, peer: &str) -> LoopLink<R, W>
+    pub fn new(alloc: Global, line: L, watch: W, port: &str, peer: &str) -> LoopLink<L, W>
         ensures port { result.wire.port ≡ port_named port.now }
         ensures peer { result.wire.peer ≡ port_named peer.now }
         ensures begins { result.begins ≡ 0 }
     {
         LoopLink {
             wire: Wire {
-                rt,
+                alloc,
+                line,
                 watch,
                 port: port_of(port),
                 peer: port_of(peer),
-                socket: None,
+                bound: false,
                 moments: None,
                 salts: Salts::begun_by(0),
             },
@@ -260,11 +287,12 @@ impl<R: Net + Clock + AllocGlobal + Drop, W: Watch + Drop> LoopLink<R, W> {
 
     /// Binds the link's port, where that wasn't done before.
     pub fn bind(&mut self) -> Result<(), Failed>
-        ensures bound { self.old.faults.count < 2 ^ 64 - 1 → IfOk result (λ _. IsSome self.new.wire.socket) }
+        ensures bound { self.old.faults.count < 2 ^ 64 - 1 → IfOk result (λ _. self.new.wire.bound ≡ true) }
         ensures ports { (self.new.wire.port ≡ self.old.wire.port) × (self.new.wire.peer ≡ self.old.wire.peer) }
         ensures cause { HasCause self.old.faults.count self.new.faults.count result }
         ensures no_send { self.new.send_faults ≡ self.old.send_faults }
         ensures no_begin { self.new.begins ≡ self.old.begins }
+        ensures asked { self.old.faults.count < 2 ^ 64 - 1 → Binds self.old.wire.bound self.old.wire.port (L.calls self.old.wire.line) (L.calls self.new.wire.line) result }
     {
         match self.wire.bind() {
             Ok(()) => Ok(()),
@@ -274,9 +302,7 @@ impl<R: Net + Clock + AllocGlobal + Drop, W: Watch + Drop> LoopLink<R, W> {
 }
 
 #[tactic(auto, using(crate::proofs::Causing::counted_cause))]
-impl<R: Net + Clock + AllocGlobal + Drop, W: Watch + Drop> Link for LoopLink<R, W> {
-    ghost use Rattle.std.specs.Prelude.{None};
-
+impl<L: Loopback + Drop, W: Watch + Drop> Link for LoopLink<L, W> {
     ghost faults = { λ link. link.faults.count };
 
     ghost send_faults = { λ link. link.send_faults.count };

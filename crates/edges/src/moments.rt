@@ -1,15 +1,20 @@
 //! The moments that a link tells.
 
-ghost use Rattle.std.specs.Prelude.{◌≡◌, ◌≤◌, ◌<◌, ◌^◌, IfOk, Ok};
+ghost use Rattle.std.specs.Prelude.{◌≡◌, ◌≤◌, ◌/◌, [], ◌∷◌, IfOk, Ok};
 ghost use Rattle.std.specs.Time.{instant_nanos};
+ghost use Rattle.std.specs.Duration.{as_nanos};
+ghost use Rattle.edges.specs.Asking.{Does};
 ghost use Rattle.edges.specs.Moments.{moment_at, next_moment};
+ghost use Rattle.edges.specs.WireCalls.{SteadyRead, ReadsWall, BeginsWith, TellsMoment};
 
-use std::rt::Clock;
-use std::time::{Duration, Instant, SystemTime, UNIX_EPOCH};
+use crate::loopback::Loopback;
+use std::time::{Duration, Instant};
 use world::Failed;
 
 /// A time in whole milliseconds.
-fn millis(time: Duration) -> Result<u64, Failed> {
+fn millis(time: Duration) -> Result<u64, Failed>
+    ensures { IfOk result (λ moment. moment ≡ as_nanos time / 1_000_000) }
+{
     match u64::try_from(time.as_millis()) {
         Ok(millis) => Ok(millis),
         Err(_) => Err(Failed),
@@ -17,19 +22,20 @@ fn millis(time: Duration) -> Result<u64, Failed> {
 }
 
 /// The moment of the wall clock, in milliseconds since 1970.
-fn wall_moment(clock: &impl Clock) -> Result<u64, Failed> {
-    let Ok(now) = SystemTime::now(clock) else {
-        return Err(Failed);
-    };
-    match now.duration_since(UNIX_EPOCH) {
+fn wall_moment<L: Loopback>(line: &mut L) -> Result<u64, Failed>
+    ensures { IfOk result (λ moment. ReadsWall moment (L.calls line.old) (L.calls line.new)) }
+{
+    match line.wall() {
         Ok(passed) => millis(passed),
         Err(_) => Err(Failed),
     }
 }
 
 /// The clock that nobody sets, and that doesn't go back.
-fn steady_now(clock: &impl Clock) -> Result<Instant, Failed> {
-    match Instant::now(clock) {
+fn steady_now<L: Loopback>(line: &mut L) -> Result<Instant, Failed>
+    ensures { IfOk result (λ now. Does (SteadyRead (Ok (instant_nanos now)) ∷ []) (L.calls line.old) (L.calls line.new)) }
+{
+    match line.steady() {
         Ok(now) => Ok(now),
         Err(_) => Err(Failed),
     }
@@ -47,11 +53,12 @@ pub(crate) struct Moments {
 
 impl Moments {
     /// The moments of a life that begins now.
-    pub(crate) fn begin(clock: &impl Clock) -> Result<Moments, Failed>
-        ensures { IfOk result (λ moments. moments.last ≡ moments.begun) }
+    pub(crate) fn begin<L: Loopback>(line: &mut L) -> Result<Moments, Failed>
+        ensures last { IfOk result (λ moments. moments.last ≡ moments.begun) }
+        ensures begun { IfOk result (λ moments. BeginsWith moments.begun (instant_nanos moments.since) (L.calls line.old) (L.calls line.new)) }
     {
-        let begun = wall_moment(clock)?;
-        let since = steady_now(clock)?;
+        let begun = wall_moment(line)?;
+        let since = steady_now(line)?;
         Ok(Moments {
             begun,
             since,
@@ -86,11 +93,12 @@ impl Moments {
     }
 
     /// The moment now. None is before one that was told.
-    pub(crate) fn now(&mut self, clock: &impl Clock) -> Result<u64, Failed>
+    pub(crate) fn now<L: Loopback>(&mut self, line: &mut L) -> Result<u64, Failed>
         ensures never_falls { IfOk result (λ at. self.old.last ≤ at) }
         ensures kept { IfOk result (λ at. self.new ≡ record self.old { last = at }) }
+        ensures read { IfOk result (λ at. TellsMoment at self.old.last self.old.begun (instant_nanos self.old.since) (L.calls line.old) (L.calls line.new)) }
     {
-        let now = steady_now(clock)?;
+        let now = steady_now(line)?;
         Ok(self.tell(now))
     }
 }

@@ -78,6 +78,7 @@ impl StdSink {
     }
 }
 
+#[tactic(auto, using(crate::proofs::Causing::counted_cause))]
 impl Sink for StdSink {
     ghost faults = { λ sink. sink.faults.count };
 
@@ -86,6 +87,9 @@ impl Sink for StdSink {
     ghost written = { λ sink. None };
 
     fn write(&mut self, bytes: &[u8]) -> Result<(), DeviceAnswer> {
-        self.faults.answered(self.stdout.write_all(bytes))
+        match self.stdout.write_all(bytes) {
+            Ok(()) => Ok(()),
+            Err(_) => Err(self.faults.counted(DeviceAnswer::Failed)),
+        }
     }
 }

@@ -2,7 +2,10 @@
 
 ghost use Rattle.std.specs.Prelude.{◌≡◌, true};
 
-use edges::{ChildHooks, CommandHost, FolderStore, LoopLink, Salts, StdSink, StdSource};
+use edges::{
+    ChildHooks, CommandHost, FolderStore, LoopLink, Salts, StdSink, StdSource, SystemChildren,
+    SystemDisk, SystemLoopback,
+};
 use net_types::{IfIndex, Ip4, Net, Net4};
 use rand_core::Rng;
 use std::alloc::{AllocError, Global};
@@ -44,7 +47,7 @@ fn asides_of<S: Store>(rt: &impl Abort, alloc: Global, store: &mut S) -> String 
 #[test]
 fn files_in_a_folder(rt: HostRuntime) {
     let dir = new_folder(&rt).expect(&rt, "a folder");
-    let mut store = FolderStore::new(&rt, &dir).expect(&rt, "memory");
+    let mut store = FolderStore::new(rt.alloc(), SystemDisk::new(&rt), &dir).expect(&rt, "memory");
     // nothing stands aside when it's to be renamed
     let written = [
         store.remove("lease"),
@@ -151,7 +154,8 @@ fn ended<H: Hooks>(rt: &HostRuntime, hooks: &mut H) -> Option<u32>
 #[test]
 fn a_child_ends(rt: HostRuntime) {
     let script = new_script(&rt, HOOK).expect(&rt, "a script");
-    let mut hooks = ChildHooks::new(&rt, &script).expect(&rt, "memory");
+    let children = SystemChildren::new(&rt).expect(&rt, "memory");
+    let mut hooks = ChildHooks::new(rt.alloc(), children, &script).expect(&rt, "memory");
     let job = job(rt.alloc(), Some("3")).expect(&rt, "memory");
     hooks.start(&job).expect(&rt, "a child");
     assert_eq!(rt; ended(&rt, &mut hooks), Some(3));
@@ -160,12 +164,14 @@ fn a_child_ends(rt: HostRuntime) {
 #[test]
 fn a_child_is_abandoned(rt: HostRuntime) {
     let script = new_script(&rt, HOOK).expect(&rt, "a script");
-    let mut hooks = ChildHooks::new(&rt, &script).expect(&rt, "memory");
+    let children = SystemChildren::new(&rt).expect(&rt, "memory");
+    let mut hooks = ChildHooks::new(rt.alloc(), children, &script).expect(&rt, "memory");
     let job = job(rt.alloc(), None).expect(&rt, "memory");
     hooks.start(&job).expect(&rt, "a child");
     assert_eq!(rt; hooks.poll(), Ok(Poll::Running));
     hooks.abandon();
-    let mut none = ChildHooks::new(&rt, "/nowhere").expect(&rt, "memory");
+    let children = SystemChildren::new(&rt).expect(&rt, "memory");
+    let mut none = ChildHooks::new(rt.alloc(), children, "/nowhere").expect(&rt, "memory");
     assert_eq!(rt; none.start(&job), FAILED);
 }
 
@@ -181,9 +187,15 @@ fn datagrams_are_events(rt: HostRuntime) {
     let (peer, peer_port) = new_peer(&rt).expect(&rt, "a socket");
     // the port of a socket that is closed at once
     let port = new_peer(&rt).expect(&rt, "a socket").1;
-    let hooks = ChildHooks::new(&rt, "").expect(&rt, "memory");
-    let watch = hooks.watch().expect(&rt, "memory");
-    let mut link = LoopLink::new(&rt, watch, &port, &peer_port);
+    let children = SystemChildren::new(&rt).expect(&rt, "memory");
+    let watch = children.watch().expect(&rt, "memory");
+    let mut link = LoopLink::new(
+        rt.alloc(),
+        SystemLoopback::new(&rt),
+        watch,
+        &port,
+        &peer_port,
+    );
     let mut buf = [0; 16];
     assert!(rt; link.wait(Some(0), &mut buf).is_err());
     link.begin().expect(&rt, "a start");
@@ -225,9 +237,16 @@ fn a_wait_ends_at_its_moment_or_with_a_child(rt: HostRuntime) {
     let address = format!(in rt.alloc(); "127.0.0.1:{port}").expect(&rt, "memory");
     drop(stranger);
     let script = new_script(&rt, HOOK).expect(&rt, "a script");
-    let mut hooks = ChildHooks::new(&rt, &script).expect(&rt, "memory");
-    let watch = hooks.watch().expect(&rt, "memory");
-    let mut link = LoopLink::new(&rt, watch, &port, &peer_port);
+    let children = SystemChildren::new(&rt).expect(&rt, "memory");
+    let watch = children.watch().expect(&rt, "memory");
+    let mut hooks = ChildHooks::new(rt.alloc(), children, &script).expect(&rt, "memory");
+    let mut link = LoopLink::new(
+        rt.alloc(),
+        SystemLoopback::new(&rt),
+        watch,
+        &port,
+        &peer_port,
+    );
     let at = link.begin().expect(&rt, "a start").at;
     let mut buf = [0; 16];
     // what a stranger sends is passed over

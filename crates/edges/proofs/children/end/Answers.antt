@@ -1,0 +1,5 @@
+use Rattle.edges.proofs.Doing.{ended_so}
+use Rattle.edges.proofs.children.end.Goals as goal
+
+pub returns : goal.returns
+returns g c = ended_so _ _ _ _ c.in_ok-kill.ensures c.wait.ensures

@@ -1,0 +1,5 @@
+use Rattle.edges.proofs.FolderSteps.{Reading}
+use Rattle.edges.proofs.folder.read_on.Given as goal
+
+abbrev pub invariant-pieces : goal.invariant-pieces
+invariant-pieces g l = Reading (g.D.Disk.calls l.fn.disk) (g.D.Disk.calls l.disk) l.fn.into.items l.into.items

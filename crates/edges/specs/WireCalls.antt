@@ -1,0 +1,84 @@
+-- The calls of the system on a socket of the loopback address and on the clocks, with their answers, and what the loopback link
+-- wants of them. `old` and `new` are the calls before and after, the last one first.
+use Rattle.std.specs.Prelude.{ℕ, Bool, true, false, ◌≡◌, ◌⊎◌, ◌/◌, List, [], ◌∷◌, take, Option, None, Some, Result, Ok, Err}
+use Rattle.std.specs.declared.io.ErrorKind.{ErrorKind}
+use Rattle.std.specs.Duration.{as_nanos}
+use Rattle.std.specs.declared.time.Duration.{Duration}
+use Rattle.std.specs.declared.time.Instant.{Instant}
+use Rattle.std.specs.Time.{instant_nanos}
+use Rattle.net_types.specs.declared.fault.Failed.{Failed}
+use Rattle.edges.specs.declared.loopback.Sender.{Sender}
+use Rattle.edges.specs.declared.loopback.Arrival.{Arrival}
+use Rattle.edges.specs.declared.loopback.TheConstants.{LOOPBACK}
+use Rattle.edges.specs.Asking.{Does}
+use Rattle.edges.specs.Moments.{next_moment}
+use Rattle.edges.specs.Waiting.{is_over}
+
+-- a datagram as it came, cut to a buffer
+pub record Datagram : Type 0 where
+  pub bytes : List ℕ
+  pub sender : Sender
+
+-- each with why it gave nothing, where it did
+pub data WireCall : Type 0 where
+  -- the socket has this port of 127.0.0.1
+  Bound : (port : ℕ) → (failure : Option ErrorKind) → WireCall
+  -- a receiving waits so many milliseconds at most
+  Limited : (millis : ℕ) → (failure : Option ErrorKind) → WireCall
+  Received : (answer : Result Datagram ErrorKind) → WireCall
+  -- a datagram for this port of 127.0.0.1
+  Sent : (datagram : List ℕ) → (port : ℕ) → (failure : Option ErrorKind) → WireCall
+  -- nanoseconds since 1970, and those of a clock that nobody sets
+  WallRead : (answer : Result ℕ ErrorKind) → WireCall
+  SteadyRead : (answer : Result ℕ ErrorKind) → WireCall
+
+abbrev pub arrived : (buffer : List ℕ) → Result Arrival ErrorKind → Result Datagram ErrorKind
+arrived buffer (Ok arrival) = Ok (record { bytes = take arrival.len buffer; sender = arrival.sender })
+arrived buffer (Err kind) = Err kind
+
+abbrev pub wall_nanos : Result Duration ErrorKind → Result ℕ ErrorKind
+wall_nanos (Ok time) = Ok (as_nanos time)
+wall_nanos (Err kind) = Err kind
+
+abbrev pub steady_nanos : Result Instant ErrorKind → Result ℕ ErrorKind
+steady_nanos (Ok time) = Ok (instant_nanos time)
+steady_nanos (Err kind) = Err kind
+
+-- A socket that is bound isn't bound again.
+abbrev pub Binds : {T : Type 0} → (bound : Bool) → (port : ℕ) → (old new : Option (List WireCall)) → Result T Failed → Type 0
+Binds true port old new result = new ≡ old
+Binds false port old new (Ok x) = Does (Bound port None ∷ []) old new
+Binds false port old new (Err e) = (kind : ErrorKind) × Does (Bound port (Some kind) ∷ []) old new
+
+-- a datagram of the peer came within so many milliseconds
+pub record Hears (millis peer : ℕ) (bytes : List ℕ) (old new : Option (List WireCall)) : Type 0 where
+  pub sender : Sender
+  pub here : sender.address ≡ LOOPBACK
+  pub port : sender.port ≡ peer
+  pub asked : Does (Received (Ok (record { bytes = bytes; sender = sender })) ∷ Limited millis None ∷ []) old new
+
+-- Of what others send nothing is taken. A failure that says that nothing came is none.
+abbrev pub Receives : (millis peer : ℕ) → (buffer : List ℕ) → (old new : Option (List WireCall)) → Result (Option ℕ) Failed → Type 0
+Receives millis peer buffer old new (Ok (Some len)) = Hears millis peer (take len buffer) old new
+Receives millis peer buffer old new (Ok None) =
+    ((datagram : Datagram) × Does (Received (Ok datagram) ∷ Limited millis None ∷ []) old new)
+    ⊎ ((kind : ErrorKind) × (is_over kind ≡ true) × Does (Received (Err kind) ∷ Limited millis None ∷ []) old new)
+Receives millis peer buffer old new (Err e) = Unit {0}
+
+-- a moment of the wall clock, in whole milliseconds since 1970
+pub record ReadsWall (moment : ℕ) (old new : Option (List WireCall)) : Type 0 where
+  pub nanos : ℕ
+  pub in_millis : moment ≡ nanos / 1_000_000
+  pub asked : Does (WallRead (Ok nanos) ∷ []) old new
+
+-- a life begins with a moment of the wall clock, and with what the clock reads that nobody sets
+pub record BeginsWith (moment since : ℕ) (old new : Option (List WireCall)) : Type 0 where
+  pub between : Option (List WireCall)
+  pub wall : ReadsWall moment old between
+  pub steady : Does (SteadyRead (Ok since) ∷ []) between new
+
+-- the next moment is told by that clock alone
+pub record TellsMoment (moment last begun since : ℕ) (old new : Option (List WireCall)) : Type 0 where
+  pub nanos : ℕ
+  pub told : moment ≡ next_moment last begun since nanos
+  pub asked : Does (SteadyRead (Ok nanos) ∷ []) old new
