@@ -1,5 +1,5 @@
 -- What a turn of an interface is to its DHCPv6 client: a turn of its own.
-use Rattle.std.proofs.Common.{◌≡◌, ℕ, ◌==◌, Bool, true, false, ◌&&◌, ◌||◌, List, [], Option, Some, None, refl, sym, ap, subst, ◌∙◌, bytes_eq, arith, if◌then◌else◌}
+use Rattle.std.proofs.Common.{◌≡◌, ℕ, ◌==◌, true, false, ◌||◌, List, [], Option, Some, None, refl, sym, subst, ◌∙◌, bytes_eq, arith}
 use Rattle.std.proofs.lemmas.Bool.Decides.{nat_tests}
 use Rattle.std.proofs.lemmas.Bool.{and_right}
 use Rattle.std.specs.Option.{option_and_then}
@@ -33,7 +33,7 @@ use Rattle.client_model.specs.KeptLeases.{Beginning}
 use Rattle.lease6_progress.specs.ClientTurns.{Input6, Quiet, Hears, IsUsed, Rebinds, Drops, Releases, takes, takes_in}
 use Rattle.lease6_progress.specs.ClientTurns as client_turns
 use Rattle.lease6_progress.specs.GoingWell.{CarrierStays}
-use Rattle.lease6_progress.specs.InterfaceTurns.{RunsDhcp6, begun, heard_as, if_own, input_for, is_own, start_for, turn_for}
+use Rattle.lease6_progress.specs.InterfaceTurns.{RunsDhcp6, begun, heard_as, input_for, is_own, start_for, turn_for}
 
 -- ---- frames of other kinds
 
