@@ -33,7 +33,7 @@ module _ (own : List Mac) (b : Beginning) (up at salt : ℕ) (r : RunsDhcp6 up b
   abbrev own_turns : List Turn → List ClientTurn
   own_turns turns = turns_for b.managed turns
 
-  stands : (answered : Answered) (wait : ℕ) (turns : List Turn) → Fair s answered wait (own_turns turns)
+  pub stands : (answered : Answered) (wait : ℕ) (turns : List Turn) → Fair s answered wait (own_turns turns)
       → Stands b.managed (client_run s (own_turns turns)) (iface_run own iface turns)
   stands answered wait [] fair = opened_stands b up at salt r
   stands answered wait (turn ∷ past) fair =
