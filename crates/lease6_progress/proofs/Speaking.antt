@@ -1,5 +1,5 @@
 -- What an interface says of DHCPv6 in a turn is what its client says.
-use Rattle.std.proofs.Common.{◌≡◌, ℕ, Bool, true, false, List, [], ◌∷◌, ◌++◌, map, Option, Some, None, refl, sym, ap, subst, ◌∙◌}
+use Rattle.std.proofs.Common.{◌≡◌, ℕ, true, false, List, [], ◌∷◌, ◌++◌, map, Option, Some, None, refl, sym, ap, subst, ◌∙◌}
 use Rattle.std.specs.Prelude.{option_to_list}
 use Rattle.net_types.proofs.CaseLaws.{gated, split}
 use Rattle.net_types.specs.declared.address.Mac.{Mac}
@@ -14,10 +14,8 @@ use Rattle.v4_client.specs.declared.states.Step4.{Step4}
 use Rattle.v6_frames.specs.Heard.{HeardMessage6, heard6_in}
 use Rattle.v6_frames.specs.Spelled.{Sent6}
 use Rattle.v6_client.specs.Clients.{ClientContent}
-use Rattle.v6_client.specs.Moves.{OutContent}
 use Rattle.v6_client.specs.Runs.{rebind_turned, tick_turned}
 use Rattle.v6_client.specs.Saying.{SpokenContent}
-use Rattle.v6_client.specs.Settings.{SettingsContent}
 use Rattle.v6_client.proofs.StayingRuns.{settings_stay}
 use Rattle.ipv4ll.specs.declared.link_local.LinkLocal.{LinkLocal}
 use Rattle.ipv4ll.specs.Table.{ll_hears, ll_tick}
@@ -32,14 +30,13 @@ use Rattle.client_model.specs.Dhcp6Steps.{rebind_dhcp6, tick_dhcp6}
 use Rattle.client_model.specs.IfaceSteps.{IfaceStep}
 use Rattle.client_model.specs.IfaceTurns.{Turn, arp_heard, hears_either, iface_turned, input_step}
 use Rattle.client_model.specs.Interfaces.{machines_rebind, ticked, unsent_in}
-use Rattle.client_model.specs.KeptLeases.{Beginning}
 use Rattle.client_model.specs.LocalSteps.{local_hears, tick_local}
 use Rattle.client_model.specs.Messages.{Said, Arp, Dhcp4, Dhcp6}
 use Rattle.client_model.specs.Runs.{iface_run}
-use Rattle.lease6_progress.specs.ClientTurns.{Input6, Quiet, Rebinds, acts_in, client_run, takes, takes_in}
-use Rattle.lease6_progress.specs.GoingWell.{Answered, CarrierStays, Fair}
+use Rattle.lease6_progress.specs.ClientTurns.{acts_in, client_run, takes, takes_in}
+use Rattle.lease6_progress.specs.GoingWell.{CarrierStays}
 use Rattle.lease6_progress.specs.InterfaceHolds.{ClientsSpeak}
-use Rattle.lease6_progress.specs.InterfaceTurns.{RunsDhcp6, begun, heard_as, input_for, is_own, messages6, sent_from, start_for, turn_for, turns_for}
+use Rattle.lease6_progress.specs.InterfaceTurns.{begun, heard_as, input_for, is_own, messages6, sent_from, start_for, turn_for, turns_for}
 use Rattle.lease6_progress.proofs.Interface.{Stands, arms_stand, arp_no_six, four_no_six, four_rebinds, shaped, ticked_stands, unsent_stands}
 use Rattle.lease6_progress.proofs.Interfaces.{stands}
 use Rattle.lease6_progress.proofs.Turning.{run_settings}
