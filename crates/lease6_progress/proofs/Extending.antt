@@ -1,5 +1,5 @@
 -- What a client that holds a lease that lasts makes of what comes in.
-use Rattle.std.proofs.Common.{◌≡◌, ℕ, Bool, true, false, cond, ◌&&◌, List, Option, Some, None, IfSome, refl, sym, ap, subst}
+use Rattle.std.proofs.Common.{◌≡◌, ℕ, Bool, true, false, cond, Option, Some, None, IfSome, refl, sym, ap, subst}
 use Rattle.std.proofs.lemmas.Bool.{and_from, and_left, and_parts, and_right, cond_both}
 use Rattle.std.specs.Option.{option_and_then}
 use Rattle.net_types.specs.declared.address.Ip6.{Ip6}

@@ -1,12 +1,11 @@
 -- A Reply that gives something of what is asked for leaves a lease with items.
-use Rattle.std.proofs.Common.{◌≡◌, ℕ, zero, suc, Bool, true, false, cond, ◌&&◌, ◌||◌, List, [], ◌∷◌, ◌++◌, length, Option, Some, None, inl, inr, bytes_eq, refl, ap, ◌∙◌}
+use Rattle.std.proofs.Common.{◌≡◌, ℕ, zero, suc, Bool, true, false, cond, List, [], ◌∷◌, ◌++◌, length, Option, Some, None, inl, inr, bytes_eq, refl, ap, ◌∙◌}
 use Rattle.std.specs.Prelude.{nat_lt, not, slice_set}
 use Rattle.std.proofs.lemmas.Bool.{and_parts, cond_both, or_cases, or_left, or_right}
 use Rattle.std.proofs.lemmas.List.Folds.{list_any-append}
-use Rattle.std.specs.List.{flat_map, fold, list_all, list_any}
+use Rattle.std.specs.List.{fold, list_all, list_any}
 use Rattle.std.specs.Option.{option_and_then}
 use Rattle.std.specs.Prelude.{◌==◌}
-use Rattle.net_types.specs.declared.interface.IfSpec.{IfSpec}
 use Rattle.v6_options.specs.declared.ia.IaKind.{IaKind}
 use Rattle.v6_options.specs.declared.ia.ItemSaid.{ItemSaid}
 use Rattle.v6_options.specs.Duids.{duid_in}
@@ -15,11 +14,10 @@ use Rattle.lease6_text.specs.declared.lease.Item6.{Item6}
 use Rattle.lease6_text.specs.declared.lease.TheConstants.{ITEM_LIMIT}
 use Rattle.lease6_text.specs.Leases.{IaLeaseContent, Lease6Content}
 use Rattle.v6_client.specs.declared.settings.IaAsk.{IaAsk}
-use Rattle.v6_client.specs.Answers.{is_duid, is_from, may_answer, meeting_of, server_of, granted}
+use Rattle.v6_client.specs.Answers.{is_duid, is_from, meeting_of, server_of, granted}
 use Rattle.v6_client.specs.Clients.{ClientContent}
 use Rattle.v6_client.specs.Items.{ia_with, is_nonempty}
-use Rattle.v6_client.specs.Reading.{ia_for, saids_of}
-use Rattle.v6_client.specs.Taking.{IaTaking, Meeting, ia_granted, ias_granted, item_from, lease_granted, origin_granted, place_of, placed, spans_granted, t1_granted, t2_granted, taken_by, takes_item, values_granted}
+use Rattle.v6_client.specs.Taking.{IaTaking, Meeting, ia_granted, ias_granted, item_from, origin_granted, place_of, placed, spans_granted, t1_granted, t2_granted, taken_by, takes_item, values_granted}
 use Rattle.lease6_progress.specs.Acquiring.{has_item}
 use Rattle.lease6_progress.specs.Questions.{gives, gives_items, said_for}
 

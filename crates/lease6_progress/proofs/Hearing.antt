@@ -15,18 +15,18 @@ use Rattle.v6_client.specs.declared.states.Answer6.TheVariants as answer
 use Rattle.v6_client.specs.declared.states.State6.{State6}
 use Rattle.v6_client.specs.declared.states.State6.TheVariants.{Off, Waiting, Soliciting, Requesting, Bound, Renewing, Rebinding, Restarting, Declining}
 use Rattle.v6_client.specs.declared.turn.Turn6.{Turn6}
-use Rattle.v6_client.specs.Answers.{chosen, counts, granted, grants_or_empties, has_bytes, is_awaited, is_from, learnt, plea_offered, server_of, sol_max_with}
+use Rattle.v6_client.specs.Answers.{chosen, counts, granted, grants_or_empties, is_from, plea_offered, server_of, sol_max_with}
 use Rattle.v6_client.specs.Clients.{ClientContent, PleaContent, turn_of}
 use Rattle.v6_client.specs.Hearing.{heard_row, is_better, is_taken_at_once}
 use Rattle.v6_client.specs.Reading.{serves}
-use Rattle.v6_client.specs.Runs.{Turned6, answered, contested_turned, hears_turned, rebind_turned, rested, stepped}
-use Rattle.v6_client.specs.Saying.{SpokenContent, lease_server, plea_server}
+use Rattle.v6_client.specs.Runs.{Turned6, answered, contested_turned, hears_turned, rebind_turned, stepped}
+use Rattle.v6_client.specs.Saying.{SpokenContent, plea_server}
 use Rattle.v6_client.specs.Settings.{SettingsContent}
 use Rattle.v6_client.specs.Steps.{requests, rests}
 use Rattle.v6_client.specs.Answers.{advertised}
 use Rattle.lease6_progress.specs.ClientTurns.{Input6, Quiet, Hears, IsUsed, Rebinds, Drops, Releases, takes}
 use Rattle.lease6_progress.specs.GoingWell.{CarrierStays, NothingIsDenied}
-use Rattle.lease6_progress.specs.Questions.{Question, answers, asked_by, gives, is_answer, is_grant, is_offer, left_by, unanswered}
+use Rattle.lease6_progress.specs.Questions.{Question, answers, asked_by, gives, is_answer, left_by, unanswered}
 use Rattle.lease6_progress.proofs.Granting.{GrantsSome, grants_some}
 use Rattle.lease6_progress.proofs.Stages.{Chooses, HoldsSome, IsGrantedBy, Limits, Pending, PendingIn, Requests, Solicits, Waits, client_of, question_of}
 use Rattle.lease6_progress.proofs.Ticking.{requests_now}

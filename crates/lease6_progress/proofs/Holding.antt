@@ -1,5 +1,5 @@
 -- What a client acquires in time stays held from then on.
-use Rattle.std.proofs.Common.{◌≡◌, ℕ, List, [], ◌∷◌, ◌++◌, Option, Some, None, IfSome, refl, sym, ap, subst, ◌∙◌}
+use Rattle.std.proofs.Common.{◌≡◌, ℕ, List, [], ◌∷◌, ◌++◌, Option, Some, None, IfSome, sym, ap, subst, ◌∙◌}
 use Rattle.lease6_text.specs.Leases.{Lease6Content}
 use Rattle.v6_client.specs.declared.states.State6.TheVariants.{Bound}
 use Rattle.v6_client.specs.Clients.{ClientContent, held_of}
@@ -11,7 +11,7 @@ use Rattle.lease6_progress.specs.Questions.{question_in}
 use Rattle.lease6_progress.specs.Staying.{AlwaysLasting, GrantsLasting, HoldsFromThenOn, HoldsItem, HoldsLasting, IsLasting, Lasting, Lasts}
 use Rattle.lease6_progress.proofs.Retaining.{stays_held}
 use Rattle.lease6_progress.proofs.Stages.{IsGrantedBy}
-use Rattle.lease6_progress.proofs.Turning.{HeldSince, held_since, run_settings}
+use Rattle.lease6_progress.proofs.Turning.{held_since, run_settings}
 
 lasts_so : (answered : Answered) (wait at : ℕ) (c : ClientContent) (input : Input6) (lease : Lease6Content)
     → GrantsLasting answered wait at c input → IsGrantedBy at c input lease → Lasts c.settings.asks answered wait at lease

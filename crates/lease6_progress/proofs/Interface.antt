@@ -1,5 +1,5 @@
 -- What a turn of an interface is to its DHCPv6 client: a turn of its own.
-use Rattle.std.proofs.Common.{◌≡◌, ℕ, ◌==◌, Bool, true, false, ◌&&◌, ◌||◌, List, [], Option, Some, None, refl, sym, ap, subst, ◌∙◌, bytes_eq, arith, if◌then◌else◌}
+use Rattle.std.proofs.Common.{◌≡◌, ℕ, ◌==◌, true, false, ◌||◌, List, [], Option, Some, None, refl, sym, subst, ◌∙◌, bytes_eq, arith}
 use Rattle.std.proofs.lemmas.Bool.Decides.{nat_tests}
 use Rattle.std.proofs.lemmas.Bool.{and_right}
 use Rattle.std.specs.Option.{option_and_then}
@@ -33,7 +33,7 @@ use Rattle.client_model.specs.KeptLeases.{Beginning}
 use Rattle.lease6_progress.specs.ClientTurns.{Input6, Quiet, Hears, IsUsed, Rebinds, Drops, Releases, takes, takes_in}
 use Rattle.lease6_progress.specs.ClientTurns as client_turns
 use Rattle.lease6_progress.specs.GoingWell.{CarrierStays}
-use Rattle.lease6_progress.specs.InterfaceTurns.{RunsDhcp6, begun, heard_as, if_own, input_for, is_own, start_for, turn_for}
+use Rattle.lease6_progress.specs.InterfaceTurns.{RunsDhcp6, begun, heard_as, input_for, is_own, start_for, turn_for}
 
 -- ---- frames of other kinds
 
@@ -68,17 +68,17 @@ message4_alone mac heard (Some frame) h =
     no_four : (frame.kind == KIND_IPV4) ≡ false → dhcp4.message_for mac frame ≡ None
     no_four other = rw (and_right (dhcp4.same_mac frame.to mac || dhcp4.same_mac frame.to ethernet.broadcast) (frame.kind == KIND_IPV4) other) refl
 
-arp_no_six : (mac : Mac) (bytes : List ℕ) (arp : ArpView) → arp_heard bytes ≡ Some arp → heard6_in mac bytes ≡ None
+pub arp_no_six : (mac : Mac) (bytes : List ℕ) (arp : ArpView) → arp_heard bytes ≡ Some arp → heard6_in mac bytes ≡ None
 unfolding heard6_in
 arp_no_six mac bytes arp h = packet_alone mac arp (ethernet.frame_in bytes) h
 
-four_no_six : (mac : Mac) (bytes : List ℕ) (heard : dhcp4.HeardMessage) → dhcp4.heard4_in mac bytes ≡ Some heard → heard6_in mac bytes ≡ None
+pub four_no_six : (mac : Mac) (bytes : List ℕ) (heard : dhcp4.HeardMessage) → dhcp4.heard4_in mac bytes ≡ Some heard → heard6_in mac bytes ≡ None
 unfolding heard6_in dhcp4.heard4_in
 four_no_six mac bytes heard h = message4_alone mac heard (ethernet.frame_in bytes) h
 
 -- ---- an interface with this client
 
-abbrev shaped : Managed → four.ClientContent → LinkLocal → ClientContent → Iface
+abbrev pub shaped : Managed → four.ClientContent → LinkLocal → ClientContent → Iface
 shaped managed c4 local c = record { managed = managed; up = true; stopped = false; dhcp4 = c4; local = local; dhcp6 = c }
 
 pub record Stands (managed : Managed) (c : ClientContent) (iface : Iface) : Type 0 where
@@ -94,12 +94,12 @@ module _ (managed : Managed) (runs : runs_dhcp6 managed.conf ≡ true) (own : Li
     itself : Stands managed c here
     itself = record { c4 = c4; local = local; is = refl }
 
-    unsent_stands : (set : ℕ) → Stands managed c (unsent_in set at salt here)
+    pub unsent_stands : (set : ℕ) → Stands managed c (unsent_in set at salt here)
     unsent_stands set =
         gated (Stands managed c) (is_in set managed.spec.index.number) (restarted at salt here) here
         (record { c4 = _; local = _; is = refl }) itself
 
-    ticked_stands : Stands managed (tick_turned at salt c).client (ticked at salt here).iface
+    pub ticked_stands : Stands managed (tick_turned at salt c).client (ticked at salt here).iface
     ticked_stands = record { c4 = _; local = _; is = refl }
 
     either : (arp : Option ArpView) (message4 : Option dhcp4.HeardMessage) (message6 : Option HeardMessage6)
@@ -116,11 +116,11 @@ module _ (managed : Managed) (runs : runs_dhcp6 managed.conf ≡ true) (own : Li
     either None None None one two = itself
 
     -- what DHCPv4 and link-local make of a command to rebind, or of the carrier
-    four_rebinds : Stands managed c (rebind_dhcp4 at salt here).iface
+    pub four_rebinds : Stands managed c (rebind_dhcp4 at salt here).iface
     four_rebinds =
         gated (λ (step : IfaceStep). Stands managed c step.iface) (runs_dhcp4 managed.conf) _ _ (record { c4 = _; local = _; is = refl }) itself
 
-    arms_stand : Stands managed c (arms at here).iface
+    pub arms_stand : Stands managed c (arms at here).iface
     arms_stand = gated (λ (step : IfaceStep). Stands managed c step.iface) (holds_lease here) _ _ itself (record { c4 = _; local = _; is = refl })
 
     six_rebinds : Stands managed (takes at salt Rebinds c).client (rebind_dhcp6 at salt here).iface

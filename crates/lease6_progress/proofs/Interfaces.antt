@@ -1,5 +1,5 @@
 -- The laws on clients are laws on interfaces.
-use Rattle.std.proofs.Common.{◌≡◌, ℕ, ◌+◌, ◌<◌, ◌≤◌, min, max, true, List, [], ◌∷◌, ◌++◌, map, Option, Some, None, refl, sym, ap, subst, ◌∙◌, arith}
+use Rattle.std.proofs.Common.{◌≡◌, ℕ, ◌+◌, ◌<◌, ◌≤◌, min, max, true, List, [], ◌∷◌, ◌++◌, Option, Some, None, refl, sym, ap, subst, ◌∙◌, arith}
 use Rattle.net_types.specs.declared.address.Mac.{Mac}
 use Rattle.v6_client.specs.Calls as lease6
 use Rattle.v6_client.specs.Clients.{ClientContent, held_of}
@@ -10,7 +10,6 @@ use Rattle.client_model.specs.IfaceTurns.{Turn}
 use Rattle.client_model.specs.Interfaces.{iface_due}
 use Rattle.client_model.specs.KeptLeases.{Beginning}
 use Rattle.client_model.specs.Runs.{iface_run}
-use Rattle.settings.specs.declared.interfaces.Managed.{Managed}
 use Rattle.lease6_progress.specs.Acquiring.{HeldBy, longest_choice, longest_delay}
 use Rattle.lease6_progress.specs.ClientTurns.{ClientTurn, Start, client_run, now_in}
 use Rattle.lease6_progress.specs.GoingWell.{Answered, EachQuestion, Fair, NotAfter, Prompt}
@@ -34,7 +33,7 @@ module _ (own : List Mac) (b : Beginning) (up at salt : ℕ) (r : RunsDhcp6 up b
   abbrev own_turns : List Turn → List ClientTurn
   own_turns turns = turns_for b.managed turns
 
-  stands : (answered : Answered) (wait : ℕ) (turns : List Turn) → Fair s answered wait (own_turns turns)
+  pub stands : (answered : Answered) (wait : ℕ) (turns : List Turn) → Fair s answered wait (own_turns turns)
       → Stands b.managed (client_run s (own_turns turns)) (iface_run own iface turns)
   stands answered wait [] fair = opened_stands b up at salt r
   stands answered wait (turn ∷ past) fair =

@@ -1,5 +1,5 @@
 -- A client that holds a lease that lasts, when its moment may have come.
-use Rattle.std.proofs.Common.{◌≡◌, ℕ, ◌+◌, ◌<◌, ◌≤◌, ◌/◌, ◌%◌, ◌^◌, min, max, Bool, true, false, cond, not, ◌&&◌, List, Option, Some, None, IfSome, nat_le, inl, inr, refl, sym, ap, subst, ◌∙◌, arith}
+use Rattle.std.proofs.Common.{◌≡◌, ℕ, ◌+◌, ◌<◌, ◌≤◌, ◌/◌, ◌%◌, ◌^◌, min, max, Bool, true, false, cond, not, ◌&&◌, List, Option, Some, None, nat_le, refl, sym, ap, subst, ◌∙◌, arith}
 use Rattle.std.proofs.lemmas.Bool.Decides.{nat_tests}
 use Rattle.std.proofs.lemmas.Bool.{and_parts, both_ways, cond_both, eq-eqb, not_from_true}
 use Rattle.std.specs.Prelude.{◌==◌, option_map}
@@ -9,7 +9,6 @@ use Rattle.net_types.specs.declared.interface.IfIndex.{IfIndex}
 use Rattle.v6_message.specs.declared.kind.Kind6.{Kind6}
 use Rattle.v6_message.specs.declared.kind.Kind6.TheVariants as kind
 use Rattle.v6_message.specs.Requests.{AskedContent}
-use Rattle.v6_retrans.specs.declared.parameters.TheConstants.{REBIND, RENEW}
 use Rattle.lease6_text.specs.Leases.{IaLeaseContent, Lease6Content}
 use Rattle.v6_client.specs.declared.exchange.Exchange6.{Exchange6}
 use Rattle.v6_client.specs.declared.states.Cause6.TheVariants.{Lapse}
@@ -23,9 +22,9 @@ use Rattle.v6_client.specs.declared.turn.Turn6.{Turn6}
 use Rattle.v6_client.specs.Asking.{ias_asked}
 use Rattle.v6_client.specs.Calls.{dates_in, due_of}
 use Rattle.v6_client.specs.Clients.{ClientContent, PleaContent, holds, is_at_end, turn_of}
-use Rattle.v6_client.specs.Exchanges.{again, begun, is_again_due, new_xid, other_than, rand_in, xid_drawn}
-use Rattle.v6_client.specs.Items.{ias_of, without}
-use Rattle.v6_client.specs.Moves.{kept_live, lapsed, lease_with, parting_at, plea_lapsed}
+use Rattle.v6_client.specs.Exchanges.{is_again_due, new_xid, other_than, xid_drawn}
+use Rattle.v6_client.specs.Items.{without}
+use Rattle.v6_client.specs.Moves.{lapsed, lease_with, parting_at, plea_lapsed}
 use Rattle.v6_client.specs.Runs.{Turned6, stepped, tick_turned}
 use Rattle.v6_client.specs.Saying.{SpokenContent, spoken_by}
 use Rattle.v6_client.specs.Settings.{SettingsContent}

@@ -11,3 +11,4 @@ pub mod Retaining
 pub mod Holding
 pub mod Interface
 pub mod Interfaces
+pub mod Speaking

@@ -1,19 +1,19 @@
 -- Over all turns: the client goes on holding leases that last.
-use Rattle.std.proofs.Common.{◌≡◌, ℕ, ◌+◌, ◌≤◌, Bool, true, false, cond, List, [], ◌∷◌, ◌++◌, Option, Some, None, refl, sym, ap, subst, ◌∙◌}
+use Rattle.std.proofs.Common.{◌≡◌, ℕ, Bool, true, false, cond, List, [], ◌∷◌, ◌++◌, Option, Some, None, refl, sym, ap, subst, ◌∙◌}
 use Rattle.v6_message.specs.declared.kind.Kind6.TheVariants as kind
 use Rattle.lease6_text.specs.Leases.{Lease6Content}
 use Rattle.v6_client.specs.declared.exchange.Exchange6.{Exchange6}
 use Rattle.v6_client.specs.declared.states.State6.{State6}
 use Rattle.v6_client.specs.declared.states.State6.TheVariants.{Off, Waiting, Soliciting, Requesting, Bound, Renewing, Rebinding, Restarting, Declining}
 use Rattle.v6_client.specs.Calls.{due_of}
-use Rattle.v6_client.specs.Clients.{ClientContent, PleaContent, held_of, holds}
+use Rattle.v6_client.specs.Clients.{ClientContent, PleaContent, holds}
 use Rattle.v6_client.specs.Runs.{Turned6, tick_turned}
 use Rattle.v6_client.specs.Settings.{SettingsContent}
 use Rattle.v6_client.proofs.StayingRuns.{settings_stay}
 use Rattle.lease6_progress.specs.ClientTurns.{ClientTurn, Input6, Quiet, Hears, IsUsed, Rebinds, Drops, Releases, Start, acts_in, client_run, now_in, takes}
 use Rattle.lease6_progress.specs.GoingWell.{Answered, EachQuestion, RebindsAlone, CarrierStays, Fair, IsFair, IsPrompt, NotAfter, NothingIsDenied, Prompt, Serves}
 use Rattle.lease6_progress.specs.Questions.{Question, asked_by, left_by, question_in}
-use Rattle.lease6_progress.specs.Staying.{GrantsLasting, HoldsItem, HoldsLasting, IsLasting, IsRenewedInTime, IsUndisturbed, IsValidUntil, Lasting, Lasts, StaysHeld, asked_when, has_valid}
+use Rattle.lease6_progress.specs.Staying.{GrantsLasting, HoldsItem, HoldsLasting, IsLasting, IsRenewedInTime, IsUndisturbed, IsValidUntil, Lasting, StaysHeld, asked_when}
 use Rattle.lease6_progress.proofs.Extending.{bound_hears, firm, rebinding_hears, renewing_hears, used_bound, used_rebinding, used_renewing}
 use Rattle.lease6_progress.proofs.Keeping.{Asks, Firm, Renews, Rests, Stage, each_bound, each_renewing, rebind_bound, rebind_rebinding, rebind_renewing, still_asked}
 use Rattle.lease6_progress.proofs.Keeping as keeping

@@ -1,14 +1,14 @@
 -- How far a client may be that holds nothing yet, and by which moment it goes on.
-use Rattle.std.proofs.Common.{◌≡◌, ℕ, ◌+◌, ◌*◌, ◌/◌, ◌%◌, ◌<◌, ◌≤◌, ◌^◌, min, max, Bool, true, false, cond, List, Option, Some, None, nat_le, refl, sym, ap, subst, ◌∙◌, arith, lit≤}
+use Rattle.std.proofs.Common.{◌≡◌, ℕ, ◌+◌, ◌*◌, ◌/◌, ◌%◌, ◌<◌, ◌≤◌, ◌^◌, min, max, Bool, true, false, cond, List, Option, Some, None, nat_le, arith, lit≤}
 use Rattle.std.proofs.lemmas.Bool.Decides.{nat_tests}
-use Rattle.std.proofs.lemmas.Bool.{cond_both, eq-eqb}
-use Rattle.std.specs.Prelude.{◌⊎◌, ◌==◌, if◌then◌else◌}
+use Rattle.std.proofs.lemmas.Bool.{cond_both}
+use Rattle.std.specs.Prelude.{◌⊎◌, if◌then◌else◌}
 use Rattle.machine.specs.Draw.{draw_of}
 use Rattle.v6_message.specs.declared.kind.Kind6.{Kind6}
 use Rattle.v6_message.specs.declared.kind.Kind6.TheVariants as kind
 use Rattle.v6_message.specs.declared.kind.ServerKind6.TheVariants.{Reply}
 use Rattle.v6_message.specs.Requests.{AskedContent}
-use Rattle.v6_retrans.specs.Retransmission.{bounded, doubled, next_time, positive_rand_of, rand_of, spread}
+use Rattle.v6_retrans.specs.Retransmission.{doubled, next_time, positive_rand_of, spread}
 use Rattle.v6_retrans.specs.declared.parameters.TheConstants.{REQUEST}
 use Rattle.lease6_text.specs.Leases.{Lease6Content}
 use Rattle.v6_client.specs.declared.exchange.Exchange6.{Exchange6}
@@ -17,13 +17,12 @@ use Rattle.v6_client.specs.declared.states.State6.TheVariants.{Off, Waiting, Sol
 use Rattle.v6_client.specs.declared.turn.Turn6.{Turn6}
 use Rattle.v6_client.specs.Calls.{fresh_in}
 use Rattle.v6_client.specs.Clients.{ClientContent, PleaContent, held_of}
-use Rattle.v6_client.specs.Exchanges.{again, begun, capped, rand_in, solicit_parameters}
-use Rattle.v6_client.specs.Saying.{SpokenContent, plea_server}
+use Rattle.v6_client.specs.Exchanges.{again, begun, rand_in, solicit_parameters}
+use Rattle.v6_client.specs.Saying.{plea_server}
 use Rattle.v6_client.specs.Settings.{SettingsContent}
 use Rattle.v6_client.specs.Times.{first_delay}
-use Rattle.lease6_progress.specs.Acquiring.{has_item, longest_delay}
+use Rattle.lease6_progress.specs.Acquiring.{has_item}
 use Rattle.lease6_progress.specs.ClientTurns.{Input6, Hears}
-use Rattle.lease6_progress.specs.GoingWell.{NotAfter}
 use Rattle.lease6_progress.specs.Questions.{Question}
 
 -- ---- moments

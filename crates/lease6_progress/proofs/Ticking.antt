@@ -1,5 +1,5 @@
 -- What a client that holds nothing yet does when its moment may have come.
-use Rattle.std.proofs.Common.{◌≡◌, ℕ, ◌+◌, ◌<◌, ◌≤◌, min, Bool, true, false, cond, List, map, Option, Some, None, nat_le, inl, inr, refl, sym, ap, subst, ◌∙◌, arith, lit≤}
+use Rattle.std.proofs.Common.{◌≡◌, ℕ, ◌+◌, ◌≤◌, min, Bool, true, false, cond, map, Option, Some, None, nat_le, inl, inr, refl, ap, subst, ◌∙◌, arith}
 use Rattle.std.proofs.lemmas.Bool.Decides.{nat_tests}
 use Rattle.std.proofs.lemmas.Bool.{cond_both, eq-eqb}
 use Rattle.machine.specs.Moment.{is_due}
@@ -7,7 +7,6 @@ use Rattle.v6_message.specs.declared.kind.Kind6.TheVariants as kind
 use Rattle.v6_retrans.specs.declared.parameters.TheConstants.{REQUEST}
 use Rattle.lease6_text.specs.Leases.{Lease6Content}
 use Rattle.v6_client.specs.declared.exchange.Exchange6.{Exchange6}
-use Rattle.v6_client.specs.declared.settings.IaAsk.{IaAsk}
 use Rattle.v6_client.specs.declared.states.Scope6.TheVariants as scope
 use Rattle.v6_client.specs.declared.states.State6.{State6}
 use Rattle.v6_client.specs.declared.states.State6.TheVariants.{Off, Waiting, Soliciting, Requesting, Bound, Renewing, Rebinding, Restarting, Declining}
@@ -16,7 +15,7 @@ use Rattle.v6_client.specs.declared.turn.Turn6.{Turn6}
 use Rattle.v6_client.specs.Asking.{ia_solicited}
 use Rattle.v6_client.specs.Calls.{due_of}
 use Rattle.v6_client.specs.Clients.{ClientContent, PleaContent, turn_of}
-use Rattle.v6_client.specs.Exchanges.{again, begun, is_used_up, new_xid, rand_in}
+use Rattle.v6_client.specs.Exchanges.{begun, is_used_up, new_xid, rand_in}
 use Rattle.v6_client.specs.Runs.{Turned6, stepped, tick_turned}
 use Rattle.v6_client.specs.Saying.{SpokenContent, plea_ias, plea_server, spoken_by}
 use Rattle.v6_client.specs.Ticks.{requesting_tick}

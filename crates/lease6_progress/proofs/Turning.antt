@@ -1,5 +1,5 @@
 -- Over all turns: the first item is pending, or it is held since some turn that came in time.
-use Rattle.std.proofs.Common.{◌≡◌, ℕ, ◌+◌, ◌<◌, ◌≤◌, Bool, true, false, cond, List, [], ◌∷◌, ◌++◌, Option, Some, None, inl, inr, refl, sym, ap, subst, ◌∙◌, arith}
+use Rattle.std.proofs.Common.{◌≡◌, ℕ, ◌+◌, ◌<◌, ◌≤◌, Bool, true, cond, List, [], ◌∷◌, Option, None, inl, inr, refl, sym, ap, subst, ◌∙◌, arith}
 use Rattle.std.proofs.lemmas.Bool.{cases_lt}
 use Rattle.std.specs.Prelude.{◌⊎◌}
 use Rattle.v6_message.specs.declared.kind.ServerKind6.TheVariants.{Advertise, Reply}
@@ -8,7 +8,7 @@ use Rattle.v6_client.specs.declared.states.Carrier6.TheVariants.{Up, Down}
 use Rattle.v6_client.specs.declared.states.State6.{State6}
 use Rattle.v6_client.specs.declared.states.Step6.{Step6}
 use Rattle.v6_client.specs.declared.turn.Turn6.{Turn6}
-use Rattle.v6_client.specs.Calls.{carried_by, due_of, parting_begun, stands_at}
+use Rattle.v6_client.specs.Calls.{carried_by, due_of, stands_at}
 use Rattle.v6_client.specs.Clients.{ClientContent, client_made, turn_of}
 use Rattle.v6_client.specs.Runs.{Turned6, carrier_turned, stepped, tick_turned}
 use Rattle.v6_client.specs.Saying.{plea_server}
@@ -17,7 +17,7 @@ use Rattle.v6_client.specs.Steps.{restarts, to_waiting}
 use Rattle.v6_client.specs.Times.{first_delay}
 use Rattle.v6_client.proofs.StayingRuns.{settings_stay}
 use Rattle.lease6_progress.specs.Acquiring.{Acquires, AcquiresAtOnce, BeginsAnew, HeldBy, IsReply, RepliesAlone, longest_choice, longest_delay}
-use Rattle.lease6_progress.specs.ClientTurns.{ClientTurn, Input6, Quiet, Hears, IsUsed, Rebinds, Drops, Releases, Start, acts_in, begun, client_run, now_in, takes, takes_in}
+use Rattle.lease6_progress.specs.ClientTurns.{ClientTurn, Input6, Quiet, Hears, IsUsed, Rebinds, Drops, Releases, Start, acts_in, begun, client_run, now_in, takes}
 use Rattle.lease6_progress.specs.GoingWell.{CarrierStays, Fair, EachQuestion, IsFair, IsPrompt, NotAfter, NothingIsDenied, Prompt, Serves}
 use Rattle.lease6_progress.specs.Questions.{Question, asked_by, left_by, question_in}
 use Rattle.lease6_progress.proofs.Hearing.{MayOffer, input_comes}

@@ -1,13 +1,12 @@
 -- What is valid at a moment stays so where what is over at an earlier one goes.
-use Rattle.std.proofs.Common.{◌≡◌, ℕ, ◌+◌, ◌≤◌, Bool, true, false, cond, not, ◌&&◌, ◌||◌, List, [], ◌∷◌, ◌++◌, filter, find, Option, Some, None, nat_le, inl, inr, refl, sym, ap, subst, ◌∙◌, arith}
+use Rattle.std.proofs.Common.{◌≡◌, ℕ, ◌+◌, ◌≤◌, Bool, true, false, cond, not, List, [], ◌∷◌, ◌++◌, filter, find, Option, Some, None, nat_le, inl, inr, refl, sym, subst, arith}
 use Rattle.std.proofs.lemmas.Bool.Decides.{nat_tests}
-use Rattle.std.proofs.lemmas.Bool.{and_left, both_ways, cond_both, or_cases, or_left, or_right}
+use Rattle.std.proofs.lemmas.Bool.{both_ways, cond_both, or_cases, or_left, or_right}
 use Rattle.std.specs.List.{list_any}
 use Rattle.std.specs.Option.{option_map_or}
 use Rattle.net_types.proofs.CaseLaws.{split}
-use Rattle.v6_options.specs.declared.ia.IaKind.{IaKind}
 use Rattle.lease6_text.specs.declared.lease.Item6.{Item6}
-use Rattle.lease6_text.specs.Leases.{IaLeaseContent, Lease6Content}
+use Rattle.lease6_text.specs.Leases.{IaLeaseContent}
 use Rattle.lease6_text.specs.LineParts.{is_ia}
 use Rattle.v6_client.specs.declared.settings.IaAsk.{IaAsk}
 use Rattle.v6_client.specs.declared.states.Cause6.TheVariants.{Lapse}

@@ -2,7 +2,9 @@
 use Rattle.std.specs.Prelude.{◌≡◌, ℕ, ◌≤◌, ◌==◌, Bool, true, false, if◌then◌else◌, List, [], ◌∷◌, map, Option, Some, None}
 use Rattle.net_types.specs.declared.address.Mac.{Mac}
 use Rattle.v6_frames.specs.Heard.{HeardMessage6, heard6_in}
+use Rattle.v6_frames.specs.Spelled.{Sent6}
 use Rattle.v6_client.specs.declared.states.Tell6.TheVariants.{Server}
+use Rattle.v6_client.specs.Saying.{SpokenContent}
 use Rattle.world.specs.declared.wakes.Event.{Event}
 use Rattle.world.specs.declared.wakes.Event.TheVariants as event
 use Rattle.settings.specs.declared.interfaces.Managed.{Managed}
@@ -13,6 +15,7 @@ use Rattle.client_model.specs.Dhcp6Steps.{tell6_of}
 use Rattle.client_model.specs.Interfaces.{iface_due, opened, told_at_stop}
 use Rattle.client_model.specs.IfaceTurns.{Turn}
 use Rattle.client_model.specs.KeptLeases.{Beginning}
+use Rattle.client_model.specs.Messages.{Said, Arp, Dhcp4, Dhcp6}
 use Rattle.client_model.specs.Runs.{iface_run}
 use Rattle.lease6_progress.specs.ClientTurns.{ClientTurn, Input6, Quiet, Hears, IsUsed, Rebinds, Drops, Releases, Start}
 use Rattle.lease6_progress.specs.GoingWell.{NotAfter}
@@ -60,6 +63,30 @@ begun up at salt b = (opened up at salt b).iface
 pub record RunsDhcp6 (up : ℕ) (b : Beginning) : Type 0 where
   pub carrier : is_up up b.managed.spec.index.number ≡ true
   pub runs : runs_dhcp6 b.managed.conf ≡ true
+
+-- ---- what is said
+
+-- the messages of DHCPv6 among those that an interface says
+abbrev pub messages6 : List Said → List Sent6
+messages6 [] = []
+messages6 (Dhcp4 say ∷ said) = messages6 said
+messages6 (Arp say ∷ said) = messages6 said
+messages6 (Dhcp6 sent ∷ said) = sent ∷ messages6 said
+
+-- a message of the client, with the hardware address and the DUID of who says it
+abbrev pub sent_from : Managed → (duid : List ℕ) → SpokenContent → Sent6
+sent_from managed duid spoken = record {
+  mac = managed.spec.mac;
+  said = record {
+    kind = spoken.kind;
+    xid = spoken.xid;
+    client = duid;
+    server = spoken.server;
+    elapsed = spoken.elapsed;
+    rapid = spoken.rapid;
+    ias = spoken.ias;
+  };
+}
 
 -- ---- woken in time
 

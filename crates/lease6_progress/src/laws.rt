@@ -1,7 +1,7 @@
 //! These functions do nothing: their contracts are the laws.
 
 ghost use Rattle.lease6_progress.specs.Acquiring.{Acquires, AcquiresAtOnce};
-ghost use Rattle.lease6_progress.specs.InterfaceHolds.{ClientsRun, InterfaceAcquires, InterfaceHolds, InterfaceStaysHeld};
+ghost use Rattle.lease6_progress.specs.InterfaceHolds.{ClientsRun, ClientsSpeak, InterfaceAcquires, InterfaceHolds, InterfaceStaysHeld};
 ghost use Rattle.lease6_progress.specs.OneLife.{OneLifeGoesWell, RapidLifeGoesWell, RenewedLifeGoesWell, ReboundLifeGoesWell};
 ghost use Rattle.lease6_progress.specs.Staying.{HoldsFromThenOn, StaysHeld};
 
@@ -36,6 +36,7 @@ pub fn held_items_stay()
 /// REQUEST and Reply, and what it holds stays held.
 pub fn interfaces_hold_items()
     ensures alone { ClientsRun }
+    ensures speaks { ClientsSpeak }
     ensures acquires { InterfaceAcquires }
     ensures stays { InterfaceStaysHeld }
     ensures from_then_on { InterfaceHolds }
