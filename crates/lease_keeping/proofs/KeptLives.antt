@@ -1,5 +1,5 @@
 -- The two lives that are written out go well.
-use Rattle.std.proofs.Common.{◌≡◌, ℕ, ◌+◌, ◌*◌, ◌<◌, ◌≤◌, ◌&&◌, ◌||◌, ◌==◌, not, Bool, true, false, List, [], ◌∷◌, ◌++◌, length, map, Option, Some, None, IfSome, nat_le, nat_lt, refl, sym, ap, subst, ◌∙◌, arith, lit<, lit≤}
+use Rattle.std.proofs.Common.{◌≡◌, ℕ, ◌+◌, ◌<◌, ◌≤◌, ◌&&◌, ◌||◌, ◌==◌, not, Bool, true, false, List, [], ◌∷◌, length, map, Option, Some, None, IfSome, nat_le, nat_lt, refl, sym, ap, subst, ◌∙◌, arith, lit<, lit≤}
 use Rattle.std.proofs.lemmas.Bool.Decides.{nat_tests}
 use Rattle.std.specs.List.{list_all, list_any}
 use Rattle.std.specs.Prelude.{option_map, option_and_then}
@@ -7,12 +7,11 @@ use lib.Count.{count_leading_zeros}
 use Rattle.machine.specs.Since.{Always}
 use Rattle.net_types.specs.Marks.{AreBytes}
 use Rattle.net_types.specs.NameText.{is_name, name_text}
-use Rattle.net_types.specs.declared.address.Mac.{Mac}
 use Rattle.frame_link.specs.declared.arp.ArpView.{ArpView}
 use Rattle.udp_frame.proofs.Cells.{AllSmall, all_bytes}
 use Rattle.udp_frame.proofs.Laws.{alone_is_heard, frame_is_heard}
 use Rattle.udp_frame.specs.declared.udp4.Ends4.{Ends4}
-use Rattle.udp_frame.specs.Udp4Frames.{Udp4, said4, udp4_text, udp4_frame_text, udp4_in}
+use Rattle.udp_frame.specs.Udp4Frames.{said4, udp4_text, udp4_frame_text, udp4_in}
 use Rattle.v4_message.specs.declared.kind.MessageKind.{MessageKind}
 use Rattle.v4_message.specs.declared.kind.MessageKind.TheVariants as kind
 use Rattle.v4_message.specs.Message.{message_instances, malformed_place}
@@ -52,12 +51,12 @@ use Rattle.lease_evidence.specs.PlainIface.{client_mac}
 use Rattle.lease_evidence.specs.Replies.{reply_at, reply_by}
 use Rattle.lease_evidence.specs.SevenTurns.{server_mac, server, granted, duid, opening, met}
 use Rattle.lease_evidence.proofs.Spoken.{message_said}
-use Rattle.lease_progress.specs.FairTurns.{Fair, GoesWell, probing}
+use Rattle.lease_progress.specs.FairTurns.{Fair}
 use Rattle.lease_progress.specs.LeaseStays.{IsBefore, Renewable, asked_at, needed_by}
 use Rattle.lease_progress.specs.Prompt.{IsPrompt, NotAfter}
-use Rattle.lease_progress.specs.Serving.{Answered, EachRequest, BroadcastAlone, Serves, asks, grants, is_answered, is_broadcast, is_discover, is_offer_by, is_request, offers, seeks}
-use Rattle.lease_keeping.specs.KeptLives.{unprobed, own_macs, beginning, reply_text, reply_frame, granted_terms, renews, rebinds, says, acked, quiet, three_turns, two_renewals, two_rebindings, RenewedLife, ReboundLife}
-use Rattle.lease_keeping.proofs.Chains.{Chain, IsNext, chain_serves, each_ack, no_nak, one_ack}
+use Rattle.lease_progress.specs.Serving.{Answered, EachRequest, BroadcastAlone, Serves, asks, grants, is_answered, is_discover, is_offer_by, is_request, offers, seeks}
+use Rattle.lease_keeping.specs.KeptLives.{unprobed, own_macs, beginning, reply_text, reply_frame, granted_terms, first_exchange, renews, rebinds, says, acked, quiet, three_turns, two_renewals, two_rebindings, RenewedLife, ReboundLife}
+use Rattle.lease_keeping.proofs.Chains.{Chain, IsNext, chain_serves, each_ack, no_nak}
 use Rattle.lease_keeping.proofs.Lives.{messages}
 
 -- ---- the server's messages
@@ -195,7 +194,8 @@ told_as : (at xid number : ℕ) (sort : MessageKind) → Hears sort xid number �
     → hearing at f (arp_heard (reply_frame xid number)) (heard4_in client_mac (reply_frame xid number)) (heard6_in client_mac (reply_frame xid number))
     ≡ told at (heard sort xid number) f
 told_as at xid number sort is f =
-    ap (λ (arp : Option ArpView). hearing at f arp (heard4_in client_mac (reply_frame xid number)) (heard6_in client_mac (reply_frame xid number))) (no_packet xid number)
+    ap (λ (arp : Option ArpView). hearing at f arp (heard4_in client_mac (reply_frame xid number)) (heard6_in client_mac (reply_frame xid number)))
+    (no_packet xid number)
     ∙ ap (λ (m : Option HeardMessage). hearing at f None m (heard6_in client_mac (reply_frame xid number))) is
 
 -- a turn of this interface in which such a frame comes
@@ -329,7 +329,8 @@ module _ (answered : Answered) where
     vain_next other vain = record {
       offered = λ xid said. absurd (and_first (is_discover sent.said.kind) (sent.said.xid == xid) other (sought xid said));
       granted = λ opened is said.
-          absurd (and_third (is_request sent.said.kind) (sent.said.xid == opened.exchange.xid) (is_answered answered sent) vain (asked opened.exchange.xid said));
+          absurd (and_third (is_request sent.said.kind) (sent.said.xid == opened.exchange.xid) (is_answered answered sent) vain
+          (asked opened.exchange.xid said));
     }
 
     -- a DISCOVER
@@ -339,7 +340,8 @@ module _ (answered : Answered) where
     discover_next other h = record {
       offered = λ xid said. h xid (sought xid said);
       granted = λ opened is said.
-          absurd (and_start (is_request sent.said.kind) (sent.said.xid == opened.exchange.xid) (is_answered answered sent) other (asked opened.exchange.xid said));
+          absurd (and_start (is_request sent.said.kind) (sent.said.xid == opened.exchange.xid) (is_answered answered sent) other
+          (asked opened.exchange.xid said));
     }
 
 -- ---- what is seen
@@ -353,11 +355,8 @@ seen_by e past ms s is before = ap (λ all. show e.moment all (seen_in site past
 abbrev m1 : Met
 m1 = quiet 1001 (says (Dhcp4 (discover (site_of unprobed) 1 0)))
 
-abbrev exchange1 : Exchange4
-exchange1 = record { xid = 1; address = granted; server = Some server; first = 2000 }
-
 abbrev m2 : Met
-m2 = met 2000 (Frame 1 316) (reply_frame 1 2) (says (Dhcp4 (request (site_of unprobed) exchange1 0)))
+m2 = met 2000 (Frame 1 316) (reply_frame 1 2) (says (Dhcp4 (request (site_of unprobed) first_exchange 0)))
 
 abbrev m3 : Met
 m3 = acked 2500 1
@@ -420,7 +419,7 @@ abbrev sent1 : Sent4
 sent1 = sent_of (discover (site_of unprobed) 1 0)
 
 abbrev sent2 : Sent4
-sent2 = sent_of (request (site_of unprobed) exchange1 0)
+sent2 = sent_of (request (site_of unprobed) first_exchange 0)
 
 msgs1 : messages_at site (entry_of m1) ≡ Some sent1 ∷ []
 unfolding count_leading_zeros tick_turned
@@ -454,14 +453,14 @@ none_open = record { count = 0; current = None }
 seen1 : seen_in site past1 ≡ none_open
 seen1 = seen_by (entry_of m1) (shown opening []) (Some sent1 ∷ []) none_open msgs1 refl
 
-seen2 : seen_in site past2 ≡ open_one 1 exchange1
+seen2 : seen_in site past2 ≡ open_one 1 first_exchange
 seen2 = seen_by (entry_of m2) past1 (Some sent2 ∷ []) none_open msgs2 seen1
 
-seen3 : seen_in site past3 ≡ open_one 1 exchange1
-seen3 = seen_by (entry_of m3) past2 [] (open_one 1 exchange1) msgs3 seen2
+seen3 : seen_in site past3 ≡ open_one 1 first_exchange
+seen3 = seen_by (entry_of m3) past2 [] (open_one 1 first_exchange) msgs3 seen2
 
 abbrev x1 : Numbered
-x1 = record { number = 1; exchange = exchange1 }
+x1 = record { number = 1; exchange = first_exchange }
 
 open2 : (seen_in site past2).current ≡ Some x1
 open2 = ap (λ (s : Seen). s.current) seen2
@@ -472,13 +471,13 @@ open3 = ap (λ (s : Seen). s.current) seen3
 abbrev replied : ℕ → Exchange4 → Option HeardMessage → Answer4
 replied at exchange came = reply_by (settings_of duid unprobed) exchange (option_map (arrival_at at) came)
 
-reply2 : reply_at site exchange1 (entry_of m2) ≡ answer.Nothing
+reply2 : reply_at site first_exchange (entry_of m2) ≡ answer.Nothing
 unfolding count_leading_zeros
-reply2 = ap (replied 2000 exchange1) offer_heard
+reply2 = ap (replied 2000 first_exchange) offer_heard
 
-reply3 : reply_at site exchange1 (entry_of m3) ≡ answer.Ack (granted_terms 2000 2500)
+reply3 : reply_at site first_exchange (entry_of m3) ≡ answer.Ack (granted_terms 2000 2500)
 unfolding count_leading_zeros
-reply3 = ap (replied 2500 exchange1) ack1_heard
+reply3 = ap (replied 2500 first_exchange) ack1_heard
 
 one_of : (a b : Terms4) → answer.Ack a ≡ answer.Ack b → a ≡ b
 one_of a b e = cc
@@ -713,7 +712,7 @@ abbrev y3 : Exchange4
 y3 = extending 1 3602000
 
 seen4 : seen_in site past4 ≡ open_one 2 y2
-seen4 = seen_by (entry_of m4) past3 (Some (renewal 2) ∷ []) (open_one 1 exchange1) msgs4 seen3
+seen4 = seen_by (entry_of m4) past3 (Some (renewal 2) ∷ []) (open_one 1 first_exchange) msgs4 seen3
 
 seen5 : seen_in site past5 ≡ open_one 2 y2
 seen5 = seen_by (entry_of m5) past4 [] (open_one 2 y2) msgs5 seen4
@@ -724,7 +723,8 @@ seen6 = seen_by (entry_of m6) past5 (Some (renewal 1) ∷ []) (open_one 2 y2) ms
 seen7 : seen_in site (shown opening two_renewals) ≡ open_one 3 y3
 seen7 = seen_by (entry_of m7) past6 [] (open_one 3 y3) msgs7 seen6
 
-open_in : (past : List Entry) (n : ℕ) (exchange : Exchange4) → seen_in site past ≡ open_one n exchange → (seen_in site past).current ≡ Some (numbered n exchange)
+open_in : (past : List Entry) (n : ℕ) (exchange : Exchange4) → seen_in site past ≡ open_one n exchange
+    → (seen_in site past).current ≡ Some (numbered n exchange)
 open_in past n exchange is = ap (λ (s : Seen). s.current) is
 
 reply5 : reply_at site y2 (entry_of m5) ≡ answer.Ack (granted_terms 1802000 1802500)
@@ -755,7 +755,8 @@ chain7 = (
 
 -- an answered turn
 ack_fair : (answered : Answered) (first at xid : ℕ) (past : List Entry) (x : Numbered) → at ≤ first + 1000
-    → (seen_in site (entry_of (acked at xid) ∷ past)).current ≡ Some x → reply_at site x.exchange (entry_of (acked at xid)) ≡ answer.Ack (granted_terms first at)
+    → (seen_in site (entry_of (acked at xid) ∷ past)).current ≡ Some x
+    → reply_at site x.exchange (entry_of (acked at xid)) ≡ answer.Ack (granted_terms first at)
     → Chain site answered 1000 (entry_of (acked at xid)) past
     → Fair site answered 1000 (entry_of (acked at xid)) past × Renewable site answered 1000 (entry_of (acked at xid)) past
 ack_fair answered first at xid past x le open_so is chain = (
