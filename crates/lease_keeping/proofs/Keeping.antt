@@ -152,7 +152,8 @@ module _ (own : List Mac) (b : Beginning) (o : Opening) (answered : Answered) (w
   -- no send failed in the turn before
   not_failed : is_in met.turn.unsent (index_of before) ≡ false
   not_failed =
-      ap (λ (n : ℕ). is_in met.turn.unsent n) (ap (λ (m : Managed). m.spec.index.number) k.managed) ∙ well.lived.2 ∙ none_failed site answered wait past well.fair.1
+      ap (λ (n : ℕ). is_in met.turn.unsent n) (ap (λ (m : Managed). m.spec.index.number) k.managed) ∙ well.lived.2
+      ∙ none_failed site answered wait past well.fair.1
 
   abbrev turned : Iface → IfaceStep
   turned g = then_step (ticked met.turn.at met.turn.salt g) (input_step own met.turn.at met.turn.salt met.turn.event met.turn.bytes)
@@ -212,7 +213,8 @@ module _ (own : List Mac) (b : Beginning) (o : Opening) (answered : Answered) (w
   parts : Renewable site answered wait e past → TurnParts own met.turn.at met.turn.salt arp message c (turned before)
   parts renewable =
       parts_of site well.fits.managed.mac.six met.turn.at met.turn.salt met.turn.bytes met.turn.event
-      (subst (λ (up : Bool). GoesOn up (index_at site) met.turn.event) (carried site answered wait well.up past well.fair.1) well.fair.0.stays) renewable.undisturbed before
+      (subst (λ (up : Bool). GoesOn up (index_at site) met.turn.event) (carried site answered wait well.up past well.fair.1) well.fair.0.stays)
+      renewable.undisturbed before
       k.managed k.up k.running
 
   abbrev KeptBy : Type 0 → ClientContent → Type 0
