@@ -35,7 +35,8 @@ use Rattle.lab_laws.proofs.FramesSaid.{IsIn, of_each, start, still_in}
 use Rattle.lab_laws.proofs.HeardBack.{acks_come_in_frames, acks_of_peer}
 use Rattle.lab_laws.proofs.LabFacts.{IsGiven, IsAsked, IsReply, LabSo, begin}
 use Rattle.lab_laws.proofs.Lived.{lived, mets, offer, opening, site, stands, starts_fit}
-use Rattle.lab_laws.proofs.OpenExchanges.{Rising, moment_in, open_after, typed}
+use Rattle.lab_laws.proofs.OpenExchanges.{Rising, moment_in, open_after}
+use Rattle.lab_laws.proofs.SaidTurns.{typed}
 use Rattle.lab_laws.proofs.Timed.{GoWell, NotBefore, OpenSo, Timed, timed_after, well_before}
 
 -- ---- clients by their hardware addresses

@@ -14,7 +14,6 @@ pub mod FramesHeard
 pub mod AcksHeard
 pub mod HeardBack
 pub mod ServerOctets
-pub mod OwnRows
 pub mod SaidTurns
 pub mod SaidFrames
 pub mod SaidRead

@@ -20,18 +20,16 @@ use Rattle.v4_frames.specs.Spelled.{if_spelled, seen_in, sent_in}
 use Rattle.v4_frames.proofs.OtherKinds.{others_spell_nothing}
 use Rattle.v6_frames.specs.Spelled.{Sent6, frame6_of}
 use Rattle.v4_client.specs.Saying.{sent_of}
-use Rattle.v4_client.specs.Settings.{SettingsContent}
 use Rattle.settings.specs.declared.interfaces.Managed.{Managed}
 use Rattle.client_model.specs.ClientSettings.{ask_of}
 use Rattle.client_model.specs.Clients.{frame_of}
-use Rattle.client_model.specs.IfaceSteps.{IfaceStep}
 use Rattle.client_model.specs.Messages.{Said, Dhcp4, Arp, Dhcp6}
+use Rattle.client_model.proofs.AskFitting as asking
 use Rattle.lab_peer.specs.ClientFrames.{ask_in, ask_fits, if_of_a_client, if_said, client_sent}
 use Rattle.lab_peer.proofs.ClientsRead.{each_client_is_read}
 use Rattle.lab_laws.specs.Messages.{step_after}
 use Rattle.lab_laws.specs.Reading.{IsReadAs, EachMessageIsRead}
-use Rattle.lab_laws.proofs.Apart.{same_after}
-use Rattle.lab_laws.proofs.SaidTurns.{FairOn, FairSaid, life_fair}
+use Rattle.lab_laws.proofs.SaidTurns.{FairSaid, life_fair}
 
 -- ---- other frames
 
@@ -106,12 +104,7 @@ module _ (spec : IfSpec) (ask : AskContent) (asks : AskFits ask) (six_long : Fit
 
 pub each_message_is_read : EachMessageIsRead
 each_message_is_read start turns fits all =
-    let step : IfaceStep = step_after start turns in
-    let mac : Mac = start.beginning.managed.spec.mac in
-    let fair : FairOn mac step = life_fair start turns fits all in
-    let same = same_after start turns in
-    subst (λ (spec : IfSpec). AllByRecursion (λ say. IsReadAs mac say (frame_of spec (ask_of start.beginning.duid start.beginning.managed) say)) step.said)
-    (ap (λ (m : Managed). m.spec) same.managed)
-    (subst (λ (ask : AskContent). AllByRecursion (λ say. IsReadAs mac say (frame_of step.iface.managed.spec ask say)) step.said)
-    (ap (λ (s : SettingsContent). s.ask) same.settings)
-    (all_read step.iface.managed.spec step.iface.dhcp4.settings.ask fair.0.1.sound.ask fair.0.0 mac step.said fair.1))
+    let one : Managed = start.beginning.managed in
+    all_read one.spec (ask_of start.beginning.duid one) (asking.ask_fits start.beginning.duid one fits.fits.duid fits.fits.managed)
+    fits.fits.managed.mac.six one.spec.mac
+    (step_after start turns).said (life_fair start turns fits all)

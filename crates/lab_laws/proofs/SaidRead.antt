@@ -34,4 +34,4 @@ pub each_is_read : (start : Start) (turns : List Turn) → FitsStart start → A
 each_is_read start turns fits all =
     all_both (FairSaid start.beginning.managed.spec.mac) (IsReadFrom start.beginning) (IsRead start.beginning.managed start.beginning.duid)
     (read_so start.beginning)
-    (step_after start turns).said (life_fair start turns fits all).1 (each_message_is_read start turns fits all)
+    (step_after start turns).said (life_fair start turns fits all) (each_message_is_read start turns fits all)

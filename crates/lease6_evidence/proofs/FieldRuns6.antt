@@ -1,8 +1,9 @@
 -- Over each call the numbers of a client stay in range, and what it says is.
-use Rattle.std.proofs.Common.{◌≡◌, ℕ, ◌≤◌, ◌⊎◌, inl, inr, Bool, true, false, not, ◌&&◌, List, [], ◌∷◌, length, Option, Some, None, IfSome, is_some, eqb}
+use Rattle.std.proofs.Common.{◌≡◌, ℕ, ◌≤◌, ◌⊎◌, inl, inr, Bool, true, false, not, ◌&&◌, List, [], ◌∷◌, length, Option, Some, None, IfSome, ap, bytes_eq, is_some, refl, eqb}
+use Rattle.std.proofs.lemmas.Bool.{and_parts}
 use Rattle.std.specs.List.{AllByRecursion}
 use Rattle.std.specs.Option.{option_and_then}
-use Rattle.std.specs.Prelude.{filter, option_map}
+use Rattle.std.specs.Prelude.{filter, if◌then◌else◌, option_map}
 use Rattle.machine.specs.Moment.{is_due}
 use Rattle.net_types.proofs.AllLaws.{all_join, all_map}
 use Rattle.net_types.proofs.CaseLaws.{gated}
@@ -21,6 +22,7 @@ use Rattle.lease6_text.specs.Bounds.{FitsIa, FitsLease6}
 use Rattle.lease6_text.specs.Leases.{IaLeaseContent, Lease6Content}
 use Rattle.lease6_text.proofs.Apart.{Apart, apart_from}
 use Rattle.v6_client.specs.declared.settings.IaAsk.{IaAsk}
+use Rattle.v6_client.specs.declared.states.Answer6.{Answer6}
 use Rattle.v6_client.specs.declared.states.Carrier6.{Carrier6}
 use Rattle.v6_client.specs.declared.states.Carrier6.TheVariants.{Up, Down}
 use Rattle.v6_client.specs.declared.states.Cause6.{Cause6}
@@ -31,14 +33,15 @@ use Rattle.v6_client.specs.declared.states.State6.{State6}
 use Rattle.v6_client.specs.declared.states.Step6.{Step6}
 use Rattle.v6_client.specs.declared.states.Tell6.{Tell6}
 use Rattle.v6_client.specs.declared.turn.Turn6.{Turn6}
-use Rattle.v6_client.specs.Answers.{advertise_answer, counts, granted, is_taken, meeting_of, plea_offered, server_of, sol_max_with}
+use Rattle.v6_client.specs.Answers.{advertise_answer, awaited, chosen, counts, granted, has_bytes, is_awaited, is_duid, is_from, is_taken, meeting_of, plea_offered, reply_answer, server_of, sol_max_with}
 use Rattle.v6_client.specs.Calls.{answer_in, dates_in, due_of, fresh_in, parting_begun, stands_at}
 use Rattle.v6_client.specs.Clients.{ClientContent, PleaContent, holds, is_at_end, is_declining, is_restarting, met_scope}
 use Rattle.v6_client.specs.Hearing.{heard_row, is_kept_offer}
 use Rattle.v6_client.specs.Inputs.{begin_row, duplicate_row}
 use Rattle.v6_client.specs.Items.{asked_at, ia_with, ias_of, is_nonempty, pruned_ia, pruned_ias, stays_in, staying, without}
-use Rattle.v6_client.specs.Moves.{kept_left, parting_at, plea_by, plea_lapsed, thinned_lease}
+use Rattle.v6_client.specs.Moves.{kept_left, parting_at, plea_by, plea_lapsed, plea_with, thinned_lease}
 use Rattle.v6_client.specs.Reading.{ia_for, is_unbound, saids_of}
+use Rattle.v6_client.specs.Saying.{lease_server, plea_server}
 use Rattle.v6_client.specs.Runs.{Turned6, answered, carrier_turned, contested_turned, hears_turned, rebind_turned, release_turned, rested, stepped, tick_turned}
 use Rattle.v6_client.specs.Taking.{carried, ia_granted, ias_granted, is_carried, item_from, taken_by}
 use Rattle.v6_client.specs.Ticks.{tick_row}
@@ -48,17 +51,19 @@ use Rattle.evidence_words.specs.Inputs.{Site}
 use Rattle.lease6_evidence.specs.Replies6.{asks_at}
 use Rattle.lease6_evidence.proofs.Basis6.{filter_all, with_some, without_all}
 use Rattle.lease6_evidence.proofs.ExchangeStates.{client_with, pruned_kept}
-use Rattle.lease6_evidence.proofs.FieldCalls6.{FitsState6, FitsStep6, begin_fits, duplicate_fits, heard_fits, kept_stays_fit, off_fits, plea_stays, rebind_fits, release_fits, say_fits, tick_fits}
+use Rattle.lease6_evidence.proofs.FieldCalls6.{FitsState6, FitsStep6, begin_fits, duplicate_fits, heard_fits, holding_fits, kept_stays_fit, off_fits, plea_stays, plea_stays_asked, rebind_fits, release_fits, say_fits, state_now, state_stays, step_now, tick_fits}
 use Rattle.lease6_evidence.proofs.Fields6.{FitsAsk6, FitsKept, FitsNets, FitsPlea, all_lapsed, all_offered, asked_plea, duid_short, nets_at, nets_heard}
 use Rattle.lease6_evidence.proofs.Granted6.{filter_apart}
+use Rattle.lease6_evidence.proofs.OwnSaid6.{IsAsked, lapsed_asked, offered_asked, pleaded_asked}
 use Rattle.lease6_evidence.proofs.Spoken6.{FitsOwn}
 use Rattle.lease6_evidence.proofs.Steps6.{message_in}
 use Rattle.lease6_evidence.proofs.Turns6.{Call6, Begins, Contests, Drops, Hears, Ignores, Rebinds, Releases, Rests, run6}
 use Rattle.lease6_evidence.proofs.TakenItems6.{Tidy, Unnamed, UnlikeNets, takes_all}
 
 pub record Fields6 (c : ClientContent) : Type 0 where
-  pub state : FitsState6 c.state
+  pub state : FitsState6 (is_some c.plea ≡ true) c.state
   pub plea : IfSome c.plea FitsPlea
+  pub asked : IfSome c.plea (IsAsked c.settings.asks)
   pub kept : IfSome c.kept FitsKept
 
 -- ---- leases without items
@@ -109,6 +114,33 @@ plea_lapses : (at : ℕ) (ias : List IaLeaseContent) (plea : Option PleaContent)
 plea_lapses at ias None fits = tt
 plea_lapses at ias (Some plea) fits = record { server = fits.server; ias = all_lapsed at ias plea.ias fits.ias }
 
+-- a choice, with what its test says
+either_way : {A : Type 0} (P : A → Type 0) (b : Bool) (x y : A) → (b ≡ true → P x) → (b ≡ false → P y) → P (if b then x else y)
+either_way P true x y p q = p refl
+either_way P false x y p q = q refl
+
+-- a message that counts is of a server
+named_by : (named server : Option (List ℕ)) → is_from named server ≡ true → is_some (option_and_then duid_in server) ≡ true
+named_by named None h = h
+named_by None (Some server) h = ap (λ b. is_some (if b then Some server else None)) h
+named_by (Some other) (Some server) h =
+    ap (λ b. is_some (if b then Some server else None)) (and_parts (is_duid server) (bytes_eq server other) h).0
+
+names_server : (c : ClientContent) (message : Content6) → counts c message ≡ true → is_some (server_of message) ≡ true
+names_server c message h =
+    let named : Option (List ℕ) = chosen c.state (lease_server c.kept) (plea_server c.plea) in
+    named_by named message.server
+    (and_parts (is_awaited (awaited c.last c.state) message.xid && has_bytes message.client c.settings.duid) (is_from named message.server) h).1
+
+-- a Reply offers nothing
+no_offer : (declining taken : Bool) (kept fresh : Option Lease6Content) (state : State6)
+    → is_kept_offer (reply_answer declining taken kept fresh) state ≡ true → ⊥
+no_offer true taken None fresh state h = absurd cc
+no_offer true taken (Some lease) fresh state h = absurd cc
+no_offer false true kept None state h = absurd cc
+no_offer false true kept (Some lease) state h = absurd cc
+no_offer false false kept fresh state h = absurd cc
+
 -- what a client has then is in range, and so is what it says
 pub record Result6 (site : Site) (turned : Turned6) : Type 0 where
   pub client : Fields6 turned.client
@@ -123,22 +155,28 @@ module _ (site : Site) (mac : FitsMac site.managed.spec.mac) (duid : length site
   turn = record { site = site6_of site.managed; last = last; sol_max = sol_max; at = at; salt = salt }
 
   step_fields : (step : Step6) (fresh : Option Lease6Content) (state : State6) (kept : Option Lease6Content)
-      (plea : Option PleaContent) → FitsStep6 step
-      → IfSome fresh FitsKept → IfSome kept FitsKept → IfSome plea FitsPlea
+      (plea : Option PleaContent) → FitsStep6 (is_some plea ≡ true) step
+      → IfSome fresh FitsKept → IfSome kept FitsKept → IfSome plea FitsPlea → IfSome plea (IsAsked (asks_at site))
       → Result6 site (stepped step fresh (here state kept plea))
-  step_fields step fresh state kept plea fits new old stood = record {
+  step_fields step fresh state kept plea fits new old stood asked = record {
     client = record {
-      state = fits.state;
+      state = state_stays step.state plea fits.state;
       plea = plea_stays step.state plea stood;
+      asked = plea_stays_asked (asks_at site) step.state plea asked;
       kept = kept_stays_fit step.keep fresh kept
           new old;
     };
-    says = say_fits site mac duid asks site.managed.conf.dhcp6.rapid _ kept plea step.say old stood fits.say;
+    says = say_fits site mac duid asks _ kept plea step.say old stood asked fits.say;
   }
 
   rested_fields : (state : State6) (kept : Option Lease6Content) (plea : Option PleaContent) → Fields6 (here state kept plea)
       → Result6 site (rested (here state kept plea))
   rested_fields state kept plea f = record { client = f; says = tt }
+
+  some_lapsed : (ias : List IaLeaseContent) (plea : Option PleaContent) → is_some plea ≡ true
+      → is_some (option_map (plea_lapsed at ias) plea) ≡ true
+  some_lapsed ias None h = h
+  some_lapsed ias (Some plea) h = refl
 
   pub tick_fields : (state : State6) (kept : Option Lease6Content) (plea : Option PleaContent) → Fields6 (here state kept plea)
       → Result6 site (tick_turned at salt (here state kept plea))
@@ -147,13 +185,14 @@ module _ (site : Site) (mac : FitsMac site.managed.spec.mac) (duid : length site
       let c : ClientContent = here state kept plea in
       let parting : Parting6 = parting_at (Lapse at) c in
       let step : Step6 = tick_row turn (dates_in c) parting state in
-      let fits : FitsStep6 step = tick_fits turn (dates_in c) parting state f.state in
+      let fits : FitsStep6 (is_some plea ≡ true) step = tick_fits (is_some plea ≡ true) turn (dates_in c) parting state f.state in
       gated (Result6 site) (is_due (due_of c) at) _ _
       (gated (λ (before : ClientContent). Result6 site (stepped step None before))
       (holds state && parting.goes && not (is_at_end at state)) _ _
-      (step_fields step None state _ _ fits tt (left_fits (Lapse at) parting kept f.kept)
-      (plea_lapses at (ias_of kept) plea f.plea))
-      (step_fields step None state kept plea fits tt f.kept f.plea))
+      (step_fields step None state _ _
+      (step_now (is_some plea ≡ true) (is_some (option_map (plea_lapsed at (ias_of kept)) plea) ≡ true) (some_lapsed (ias_of kept) plea) step fits) tt
+      (left_fits (Lapse at) parting kept f.kept) (plea_lapses at (ias_of kept) plea f.plea) (lapsed_asked at (ias_of kept) (asks_at site) plea f.asked))
+      (step_fields step None state kept plea fits tt f.kept f.plea f.asked))
       (rested_fields state kept plea f)
 
   carrier_fields : (carrier : Carrier6) (state : State6) (kept : Option Lease6Content) (plea : Option PleaContent)
@@ -164,25 +203,25 @@ module _ (site : Site) (mac : FitsMac site.managed.spec.mac) (duid : length site
       let c : ClientContent = here state kept plea in
       let stands : Bool = stands_at at c in
       let step : Step6 = begin_row turn stands (parting_begun at c) state in
-      let fits : FitsStep6 step = begin_fits turn stands (parting_begun at c) state f.state in
+      let fits : FitsStep6 (is_some plea ≡ true) step = begin_fits (is_some plea ≡ true) turn stands (parting_begun at c) state f.state in
       gated (λ (before : ClientContent). Result6 site (stepped step None before)) stands _ _
-      (step_fields step None state (pruned_kept at c.settings.asks kept) plea fits tt (pruned_fits at c.settings.asks kept f.kept) f.plea)
-      (step_fields step None state kept plea fits tt f.kept f.plea)
-  carrier_fields Down state kept plea f = step_fields _ None state kept plea (off_fits turn) tt f.kept f.plea
+      (step_fields step None state (pruned_kept at c.settings.asks kept) plea fits tt (pruned_fits at c.settings.asks kept f.kept) f.plea f.asked)
+      (step_fields step None state kept plea fits tt f.kept f.plea f.asked)
+  carrier_fields Down state kept plea f = step_fields _ None state kept plea (off_fits (is_some plea ≡ true) turn) tt f.kept f.plea f.asked
 
   release_fields : (tell : Tell6) (state : State6) (kept : Option Lease6Content) (plea : Option PleaContent)
       → Fields6 (here state kept plea)
       → Result6 site (release_turned tell at salt (here state kept plea))
   unfolding release_turned
-  release_fields tell state kept plea f = step_fields _ None state kept plea (release_fits turn tell (is_some kept) state) tt
-      f.kept f.plea
+  release_fields tell state kept plea f =
+      step_fields _ None state kept plea (release_fits (is_some plea ≡ true) turn tell (is_some kept) state) tt f.kept f.plea f.asked
 
   rebind_fields : (state : State6) (kept : Option Lease6Content) (plea : Option PleaContent) → Fields6 (here state kept plea)
       → Result6 site (rebind_turned at salt (here state kept plea))
   unfolding rebind_turned
   rebind_fields state kept plea f =
-      step_fields _ None state kept plea (rebind_fits turn (parting_begun at (here state kept plea)) state f.state) tt f.kept
-      f.plea
+      step_fields _ None state kept plea (rebind_fits (is_some plea ≡ true) turn (parting_begun at (here state kept plea)) state f.state) tt
+      f.kept f.plea f.asked
 
   pleaded : (kept : Option Lease6Content) → IfSome kept FitsKept → IfSome (option_map (plea_by (asks_at site)) kept) FitsPlea
   pleaded None fits = tt
@@ -195,13 +234,18 @@ module _ (site : Site) (mac : FitsMac site.managed.spec.mac) (duid : length site
   contested_fields address state kept plea f =
       let parting : Parting6 = parting_at (Duplicate address) (here state kept plea) in
       let step : Step6 = duplicate_row turn parting state in
-      let fits : FitsStep6 step = duplicate_fits turn parting state f.state in
-      gated (λ (before : ClientContent). Result6 site (stepped step None before)) (holds state && parting.goes) _ _
-      (gated (λ (before : ClientContent). Result6 site (stepped step None before)) (is_restarting state) _ _
-      (step_fields step None state _ plea fits tt (left_fits (Duplicate address) parting kept f.kept) f.plea)
-      (step_fields step None state _ _ fits tt (thin_fits (Duplicate address) kept f.kept)
-      (gated (λ (p : Option PleaContent). IfSome p FitsPlea) (is_declining state) _ _ f.plea (pleaded kept f.kept))))
-      (step_fields step None state kept plea fits tt f.kept f.plea)
+      let fits : FitsStep6 (is_some plea ≡ true) step = duplicate_fits (is_some plea ≡ true) turn parting state f.state in
+      either_way (λ (before : ClientContent). Result6 site (stepped step None before)) (holds state && parting.goes) _ _
+      (λ held. gated (λ (before : ClientContent). Result6 site (stepped step None before)) (is_restarting state) _ _
+      (step_fields step None state _ plea fits tt (left_fits (Duplicate address) parting kept f.kept) f.plea f.asked)
+      (step_fields step None state _ (plea_with (is_declining state) (asks_at site) kept plea)
+      (duplicate_fits (is_some (plea_with (is_declining state) (asks_at site) kept plea) ≡ true) turn parting state
+      (holding_fits (is_some plea ≡ true) (is_some (plea_with (is_declining state) (asks_at site) kept plea) ≡ true) state
+      (and_parts (holds state) parting.goes held).0 f.state)) tt
+      (thin_fits (Duplicate address) kept f.kept)
+      (gated (λ (p : Option PleaContent). IfSome p FitsPlea) (is_declining state) _ _ f.plea (pleaded kept f.kept))
+      (gated (λ (p : Option PleaContent). IfSome p (IsAsked (asks_at site))) (is_declining state) _ _ f.asked (pleaded_asked (asks_at site) kept))))
+      (λ other. step_fields step None state kept plea fits tt f.kept f.plea f.asked)
 
   -- ---- messages
 
@@ -218,16 +262,31 @@ module _ (site : Site) (mac : FitsMac site.managed.spec.mac) (duid : length site
     offers_plea None short = tt
     offers_plea (Some server) short = record { server = short; ias = all_offered message.options octets (asks_at site) asks }
 
-    advertise_fields : (state : State6) (kept : Option Lease6Content) (plea : Option PleaContent)
+    offers_asked : (server : Option (List ℕ)) → IfSome (option_map (plea_offered (asks_at site) message) server) (IsAsked (asks_at site))
+    offers_asked None = tt
+    offers_asked (Some server) = offered_asked (ias_in message.options) (asks_at site)
+
+    offers_some : (server : Option (List ℕ)) → is_some server ≡ true → is_some (option_map (plea_offered (asks_at site) message) server) ≡ true
+    offers_some None h = h
+    offers_some (Some server) h = refl
+
+    advertise_fields : is_some (server_of message) ≡ true → (state : State6) (kept : Option Lease6Content) (plea : Option PleaContent)
         → Fields6 (here state kept plea)
         → Result6 site (answered at salt message Advertise (here state kept plea))
-    advertise_fields state kept plea f =
-        let step : Step6 = heard_row turn (advertise_answer (here state kept plea) message) state in
-        let fits : FitsStep6 step = heard_fits turn (advertise_answer (here state kept plea) message) state f.state in
-        gated (λ (before : ClientContent). Result6 site (stepped step None before))
-        (is_kept_offer (advertise_answer (here state kept plea) message) state) _ _
-        (step_fields step None state kept _ fits tt f.kept (offers_plea (server_of message) server_fits))
-        (step_fields step None state kept plea fits tt f.kept f.plea)
+    advertise_fields named state kept plea f =
+        let told : Answer6 = advertise_answer (here state kept plea) message in
+        let step : Step6 = heard_row turn told state in
+        let offer : Option PleaContent = option_map (plea_offered (asks_at site) message) (server_of message) in
+        either_way (λ (before : ClientContent). Result6 site (stepped step None before)) (is_kept_offer told state) _ _
+        (λ keeps. step_fields step None state kept offer
+        (heard_fits (is_some offer ≡ true) turn told state (λ taken. offers_some (server_of message) named)
+        (state_now (is_some plea ≡ true) (is_some offer ≡ true) (λ had. offers_some (server_of message) named) state f.state)) tt f.kept
+        (offers_plea (server_of message) server_fits) (offers_asked (server_of message)))
+        (λ leaves. step_fields step None state kept plea (heard_fits (is_some plea ≡ true) turn told state (λ taken. absurd (unlike taken leaves)) f.state) tt
+        f.kept f.plea f.asked)
+      where
+        unlike : {b : Bool} → b ≡ true → b ≡ false → ⊥
+        unlike h k = cc
 
     -- the items of a lease that it grants
     module _ (ask : IaAsk) where
@@ -325,14 +384,17 @@ module _ (site : Site) (mac : FitsMac site.managed.spec.mac) (duid : length site
         → Result6 site (answered at salt message Reply (here state kept plea))
     reply_fields state kept plea within f =
         step_fields _ (fresh_in at (here state kept plea) message) state kept plea
-        (heard_fits turn (answer_in at (here state kept plea) message) state f.state)
-        (fresh_fits state kept plea within f.kept) f.kept f.plea
+        (heard_fits (is_some plea ≡ true) turn (answer_in at (here state kept plea) message) state
+        (λ offered. absurd (no_offer (is_declining state) (is_taken (here state kept plea) message) kept
+        (fresh_in at (here state kept plea) message) state offered))
+        f.state)
+        (fresh_fits state kept plea within f.kept) f.kept f.plea f.asked
 
-    kind_fields : (kind : ServerKind6) (state : State6) (kept : Option Lease6Content) (plea : Option PleaContent)
+    kind_fields : is_some (server_of message) ≡ true → (kind : ServerKind6) (state : State6) (kept : Option Lease6Content) (plea : Option PleaContent)
         → IfSome kept FitsLease6 → Fields6 (here state kept plea)
         → Result6 site (answered at salt message kind (here state kept plea))
-    kind_fields Advertise state kept plea within f = advertise_fields state kept plea f
-    kind_fields Reply state kept plea within f = reply_fields state kept plea within f
+    kind_fields named Advertise state kept plea within f = advertise_fields named state kept plea f
+    kind_fields named Reply state kept plea within f = reply_fields state kept plea within f
 
 -- ---- any call
 
@@ -349,11 +411,12 @@ module _ (site : Site) (mac : FitsMac site.managed.spec.mac) (duid : length site
       → Result6 site (hears_turned at salt message (client_with site unspent last sol_max state kept plea))
   unfolding hears_turned
   hears_fields message octets state kept plea within f =
-      gated (Result6 site) (counts (client_with site unspent last sol_max state kept plea) message) _ _
-      (kind_fields site mac duid asks unspent last (sol_max_with message.sol_max sol_max) at salt message octets message.kind state
-      kept plea within
-      (record { state = f.state; plea = f.plea; kept = f.kept }))
-      (rested_fields site mac duid asks unspent last sol_max at salt state kept plea f)
+      let c : ClientContent = client_with site unspent last sol_max state kept plea in
+      either_way (Result6 site) (counts c message) _ _
+      (λ counted. kind_fields site mac duid asks unspent last (sol_max_with message.sol_max sol_max) at salt message octets
+      (names_server c message counted) message.kind state kept plea within
+      (record { state = f.state; plea = f.plea; asked = f.asked; kept = f.kept }))
+      (λ other. rested_fields site mac duid asks unspent last sol_max at salt state kept plea f)
 
   pub run_fields : (call : Call6) → BytesFor call → (state : State6) (kept : Option Lease6Content) (plea : Option PleaContent)
       → IfSome kept FitsLease6

@@ -121,7 +121,7 @@ module _ (own : List Mac) (beginning : Beginning) (fits : FitsBeginning beginnin
       follows = record { counted = record { latest = tt; above = λ n less. tt }; last_is = tt; on = tt };
     };
     sound = record { name = fits.managed.name; asks = asks_fit; day = lit≤ tt; kept = kept_fits beginning.kept6 fits.kept6 };
-    fields = record { state = tt; plea = tt; kept = kept_typed beginning.kept6 fits.kept6 };
+    fields = record { state = tt; plea = tt; asked = tt; kept = kept_typed beginning.kept6 fits.kept6 };
     holds = λ h. absurd cc;
   }
 

@@ -19,6 +19,8 @@ pub mod Basis6
 pub mod Granted6
 pub mod ItemCalls6
 pub mod HeardItems6
+pub mod OwnSaid6
+pub mod OwnProofs6
 pub mod Fields6
 pub mod FieldCalls6
 pub mod FieldRuns6

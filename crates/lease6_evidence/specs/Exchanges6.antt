@@ -7,15 +7,18 @@ use Rattle.v6_message.specs.Requests.{SaidContent}
 use Rattle.v6_frames.specs.Spelled.{Sent6, sent6_in}
 use Rattle.evidence_words.specs.Entries.{Entry, Offer}
 use Rattle.evidence_words.specs.Inputs.{Site, offers_at}
+use Rattle.lease6_evidence.specs.OwnMessages6.{is_own_said}
 
--- whether a message is of this interface and this host
+-- whether a message is of this interface and this host, and as they are configured
 abbrev pub is_own : Site → Sent6 → Bool
-is_own site sent = bytes_eq sent.mac.bytes site.managed.spec.mac.bytes && bytes_eq sent.said.client site.duid
+is_own site sent =
+    bytes_eq sent.mac.bytes site.managed.spec.mac.bytes && bytes_eq sent.said.client site.duid
+    && is_own_said site.managed sent.said
 
 abbrev pub if_own : Site → Sent6 → Option Sent6
 if_own site sent = if is_own site sent then Some sent else None
 
--- the DHCPv6 message that a frame spells, where it spells one of the interface
+-- the DHCPv6 message that a frame spells, where it spells one of the client's own
 abbrev pub message6_of : Site → Offer → Option Sent6
 message6_of site o = option_and_then (if_own site) (sent6_in o.bytes)
 

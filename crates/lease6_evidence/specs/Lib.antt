@@ -1,5 +1,7 @@
+pub mod OwnMessages6
 pub mod Exchanges6
 pub mod Replies6
+pub mod OwnFrames6
 pub mod ItemBasis
 pub mod KeptBasis6
 pub mod HeldItems

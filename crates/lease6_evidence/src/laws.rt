@@ -11,6 +11,7 @@ ghost use Rattle.lease6_evidence.specs.HeldItems.{BeginsWithKeptItems, BeginsWit
 ghost use Rattle.lease6_evidence.specs.ItemBasis.{AddressBasis, ItemBasis};
 ghost use Rattle.lease6_evidence.specs.KeptNeeds6.{EndsKeptBy, IsAnswered6, NeedsFlag6, NeedsItsTime, NeedsKeptItem, NeedsLiveItem, NeedsMessage6, NeedsOneExchange, NeedsOrigin6, NeedsRebind6};
 ghost use Rattle.lease6_evidence.specs.Laws6.{EndsWithValid, ForeignGivesNothing6, NeedsReply};
+ghost use Rattle.lease6_evidence.specs.OwnFrames6.{OwnFrames6Alone};
 ghost use Rattle.lease6_evidence.specs.Wanting6.{AddressesAreAsked, FirstAloneGives, GivesNothing, HearsIdle6, HeldItemsAreAsked, IsSilent6, NeedsItsName};
 
 /// Law: each item that an interface holds after its opening and some turns, with any outcomes of its frames, has its basis in
@@ -181,4 +182,12 @@ pub fn four_messages_give_a_lease()
     ensures held { held_of (iface_after (client_mac ∷ []) beginning opening three_turns).dhcp6 ≡ Some lease }
     ensures address { AddressBasis (site_of (client_mac ∷ []) beginning opening) (V6 granted) 2000 (shown opening three_turns) }
     ensures prefix { HasItemBasis ItemBasis (site_of (client_mac ∷ []) beginning opening) prefixes prefix (shown opening three_turns) }
+{}
+
+/// Law: what is read as the client's own message is a frame that it may say, byte for byte: with the hardware address of
+/// its interface, the DUID of its host, the option for a Reply at once where that is configured, and, but where items
+/// are given back or declined, the configured IAs in their order, those of a SOLICIT with the prefix that is wished for
+/// (RFC 8415, sections 18.2 and 21.14).
+pub fn own_dhcp6_messages_alone_are_read()
+    ensures { OwnFrames6Alone }
 {}

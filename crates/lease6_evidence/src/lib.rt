@@ -13,6 +13,6 @@ pub use laws::{
     kept_items_are_of_the_lease, kept_items_are_rebound, kept_items_end,
     kept_items_end_with_a_release, kept_items_end_with_a_reply, kept_items_end_with_a_stop,
     kept_items_end_with_the_carrier, kept_items_have_one_exchange, kept_items_have_ten_seconds,
-    kept_items_need_an_origin, kept_items_need_the_flag, plain_items_are_given,
-    unasked_replies_give_no_items,
+    kept_items_need_an_origin, kept_items_need_the_flag, own_dhcp6_messages_alone_are_read,
+    plain_items_are_given, unasked_replies_give_no_items,
 };

@@ -38,6 +38,7 @@ use Rattle.evidence_words.proofs.Offers.{Offered}
 use Rattle.lease_evidence.specs.Exchanges.{Numbered, Seen, messages_at, shows, show, seen_in}
 use Rattle.lease_evidence.specs.KeptBasis4.{AsksAgain}
 use Rattle.lease_evidence.specs.LeaseBasis.{tells_end, Calm}
+use Rattle.lease_evidence.specs.OwnMessages.{speaker_of}
 use Rattle.lease_evidence.specs.Replies.{reply_at}
 use Rattle.lease_evidence.proofs.Observer.{Grant, Kept, kept, unless_ended, if_calm, hears, ended_at, stays_on, stays_at, kept_in, answered_in, Opens, shown_opens}
 use Rattle.lease_evidence.proofs.Observed.{observes, goes_on}
@@ -46,15 +47,17 @@ use Rattle.lease_evidence.proofs.WatchTicks.{not_due, tick_watched}
 use Rattle.lease_evidence.proofs.WatchInputs.{HeardAfter, nothing_said, unsent_watched, any_terms}
 use Rattle.lease_evidence.proofs.ProbeTicks.{Bears, BearsAmid, AfterTick, rested_amid, tick_amid}
 use Rattle.lease_evidence.proofs.ProbeInputs.{unsent_bears, clean_bears}
+use Rattle.lease_evidence.proofs.OwnRows.{HasServer, IsOwn, OwnStepOf, rests_own, speaker_at, tick_own, unsent_names}
 use Rattle.lease_evidence.proofs.SayFits as fields
 use Rattle.lease_evidence.proofs.SayFits.{FitsFields, FitsStep}
-use Rattle.lease_evidence.proofs.Spoken.{message_said, FitsSaid, AreOther, said_all, messages_are, shows_all, ends_all, asks_all, speaks_all, all_fit}
+use Rattle.lease_evidence.proofs.Spoken.{message_said, FitsSaid, OwnSaid, AreOther, said_all, messages_are, shows_all, ends_all, asks_all, speaks_all, all_fit, all_own}
 use Rattle.lease_evidence.proofs.Standing.{ShowsBoth, StandsSo, StandsAmidSo, still_up, tick_stands, unsent_stands}
 
 pub record Carries (K : Terms4 → Type 0) (site : Site) (clean : Type 0) (c : ClientContent) (past : List Entry) : Type 0 where
   pub settings : c.settings ≡ settings_of site.duid site.managed
   pub sound : IsSound c
   pub fields : FitsFields c.state
+  pub names : HasServer c.state
   pub watched : Watched K c.last c.state (seen_in site past) (kept_in site past)
   pub bears : Bears site clean c.state past
   pub stands : StandsSo site past c
@@ -63,6 +66,7 @@ pub record Carries (K : Terms4 → Type 0) (site : Site) (clean : Type 0) (c : C
 pub record Ended (site : Site) (clean : Type 0) (at : ℕ) (said : List Said) (c : ClientContent) (past : List Entry) : Type 0 where
   pub carries : Carries (Lasts at) site clean c past
   pub fit : AllByRecursion FitsSaid said
+  pub own : AllByRecursion (OwnSaid (speaker_of site.managed)) said
 
 -- ---- a failed send of the turn before
 
@@ -74,6 +78,7 @@ unsent_carries K site clean c past at salt h =
       settings = h.settings;
       sound = moved_sound c (rests turn (unsent_row turn c.state)) h.sound (unsent_sound (kept_terms c) turn c.state h.sound.state);
       fields = fields.unsent_fits turn c.state h.fields;
+      names = unsent_names turn c.state h.names;
       watched = record {
         xid = h.watched.xid;
         on = unsent_watched AnyTerms turn (seen_in site past).current (kept_in site past).answered (kept_in site past).grant c.state
@@ -89,6 +94,7 @@ clean_carries K site clean c past k h = record {
   settings = h.settings;
   sound = h.sound;
   fields = h.fields;
+  names = h.names;
   watched = record {
     xid = h.watched.xid;
     on = any_terms K (turn_of 0 0 c) (seen_in site past).current (kept_in site past).answered (kept_in site past).grant c.state h.watched.on;
@@ -103,7 +109,9 @@ pub record Amid (site : Site) (clean : Type 0) (e : Entry) (past : List Entry) (
   pub settings : c.settings ≡ settings_of site.duid site.managed
   pub sound : IsSound c
   pub fields : FitsFields c.state
+  pub names : HasServer c.state
   pub say : IfSome one.say (λ say. FitsSent (sent_of say))
+  pub own : IfSome one.say (IsOwn c.settings.site)
   pub watched : Watched (Lasts e.moment) c.last c.state (shows e.moment (message_in one) (seen_in site past)) (ended_by one (kept_in site past))
   pub bears : BearsAmid site (ask_of site.duid site.managed) clean e past (said_in one) (tells_end (message_in one)) c.state
   pub stands : StandsAmidSo site past (message_in one) c
@@ -131,13 +139,18 @@ tick_carries site clean e past salt c mac early h =
     let fits : FitsStep (tick_step e.moment salt c) =
     gated FitsStep due (tick_row turn c.state) (rests turn c.state) (fields.tick_fits turn (turn_mac site mac c h.settings) c.state h.fields)
     (record { state = h.fields; say = tt }) in
+    let own : OwnStepOf c.settings.site (tick_step e.moment salt c) =
+    gated (OwnStepOf c.settings.site) due (tick_row turn c.state) (rests turn c.state) (tick_own turn c.state h.sound.state h.names)
+    (rests_own turn c.state h.names) in
     let After : Step4 → Type 0 = λ (step : Step4). WatchedAfter (Lasts e.moment) e.moment (seen_in site past) (kept_in site past) step in
     record {
       settings = h.settings;
       sound = moved_sound c (tick_step e.moment salt c) h.sound
           (gated (IsSoundStep (kept_terms c) c.state) due _ _ (tick_sound (kept_terms c) turn c.state early h.sound.state) (rests_sound (kept_terms c) turn c.state h.sound.state));
       fields = fits.state;
+      names = own.names;
       say = fits.say;
+      own = own.own;
       watched = split (is_due (due_of c.state) e.moment)
           (λ come. subst After (sym (choice_true (tick_row turn c.state) (rests turn c.state) come))
           (tick_watched turn (seen_in site past).count (seen_in site past).current (kept_in site past) (within site past) h.watched.xid c.state h.watched.on))
@@ -199,11 +212,16 @@ module _ (site : Site) (clean : Type 0) (e : Entry) (past : List Entry) (one : S
   OfferedAll two after = Offered site.managed.spec (ask_of site.duid site.managed) clean (said_all one between two after) (offers_at site e)
 
   module _ (two : Step4) (before : ClientContent) (after : List Said) (more_others : AreOther after) (settings : before.settings ≡ settings_of site.duid site.managed)
-      (sound : IsSound (moved two before)) (fits : FitsStep two) (offers : OfferedAll two after) where
+      (sound : IsSound (moved two before)) (fits : FitsStep two) (own : OwnStepOf c.settings.site two) (offers : OfferedAll two after) where
+    own_so : AllByRecursion (OwnSaid (speaker_of site.managed)) (said_all one between two after)
+    own_so =
+        subst (λ (s : SettingsContent). AllByRecursion (OwnSaid (speaker_at s.site)) (said_all one between two after)) amid.settings
+        (all_own e.moment one two between after others more_others (speaker_at c.settings.site) amid.own own.own)
+
     messages : messages_at site e ≡ map message_said (said_all one between two after)
     messages =
         messages_are site (subst (λ (s : SettingsContent). AskFits s.ask) amid.settings amid.sound.ask) mac clean (said_all one between two after) (offers_at site e) offers
-        (all_fit e.moment one two between after others more_others amid.say fits.say)
+        (all_fit e.moment one two between after others more_others amid.say fits.say) own_so
 
     seen_now : seen_in site (e ∷ past) ≡ shows e.moment (message_in two) seen_amid
     seen_now =
@@ -232,8 +250,9 @@ module _ (site : Site) (clean : Type 0) (e : Entry) (past : List Entry) (one : S
     finish : Watched (Lasts e.moment) two.last two.state (seen_in site (e ∷ past)) (kept_in site (e ∷ past)) → Bears site clean two.state (e ∷ past)
         → StandsSo site (e ∷ past) (moved two before) → EndsSo
     finish w b s = record {
-      carries = record { settings = settings; sound = sound; fields = fits.state; watched = w; bears = b; stands = s };
+      carries = record { settings = settings; sound = sound; fields = fits.state; names = own.names; watched = w; bears = b; stands = s };
       fit = all_fit e.moment one two between after others more_others amid.say fits.say;
+      own = own_so;
     }
 
     abbrev WatchedBy : Seen → (stays ended : Bool) → Type 0

@@ -23,9 +23,10 @@ use Rattle.evidence_words.specs.Inputs.{Site, offers_at}
 use Rattle.evidence_words.proofs.Offers.{Offered}
 use Rattle.evidence_words.specs.IfaceLives.{Opening, Met, site_of, opening_entry, entry_of, shown, opens, iface_after, failed_last, IsLived}
 use Rattle.lease_evidence.specs.HeldLeases.{HeldLeasesHaveBasis, KeepsTyped}
+use Rattle.lease_evidence.specs.OwnMessages.{speaker_of}
 use Rattle.lease_evidence.proofs.LeasedInputs.{Leased, Turned}
 use Rattle.lease_evidence.proofs.LeasedTurns.{opens_leased, turn_leased}
-use Rattle.lease_evidence.proofs.Spoken.{FitsSaid}
+use Rattle.lease_evidence.proofs.Spoken.{FitsSaid, OwnSaid}
 use Rattle.lease_evidence.proofs.Leases.{Rests, lease_has_basis, lease_rests}
 
 module _ (spec : IfSpec) (ask : AskContent) (clean : Type 0) where
@@ -103,6 +104,16 @@ opening_said_fits own beginning opening fits typed lived = (turned own beginning
 pub turn_said_fits : (own : List Mac) (beginning : Beginning) (opening : Opening) (met : Met) (mets : List Met) → FitsBeginning beginning → KeepsTyped beginning
     → IsLived own beginning opening (met ∷ mets) → AllByRecursion FitsSaid (iface_turned own met.turn (iface_after own beginning opening mets)).said
 turn_said_fits own beginning opening met mets fits typed lived = (turned own beginning fits typed opening (met ∷ mets) lived).fit
+
+-- And each is the client's own.
+pub opening_said_own : (own : List Mac) (beginning : Beginning) (opening : Opening) → FitsBeginning beginning → KeepsTyped beginning
+    → IsLived own beginning opening [] → AllByRecursion (OwnSaid (speaker_of beginning.managed)) (opens beginning opening).said
+opening_said_own own beginning opening fits typed lived = (turned own beginning fits typed opening [] lived).own
+
+pub turn_said_own : (own : List Mac) (beginning : Beginning) (opening : Opening) (met : Met) (mets : List Met) → FitsBeginning beginning → KeepsTyped beginning
+    → IsLived own beginning opening (met ∷ mets)
+    → AllByRecursion (OwnSaid (speaker_of beginning.managed)) (iface_turned own met.turn (iface_after own beginning opening mets)).said
+turn_said_own own beginning opening met mets fits typed lived = (turned own beginning fits typed opening (met ∷ mets) lived).own
 
 pub held_leases_have_basis : HeldLeasesHaveBasis
 held_leases_have_basis own beginning opening mets lease fits typed lived held =

@@ -60,14 +60,16 @@ use Rattle.evidence_words.proofs.Offers.{Offered}
 use Rattle.lease_evidence.specs.Exchanges.{Numbered, Seen}
 use Rattle.evidence_words.specs.IfaceLives.{now_in}
 use Rattle.lease_evidence.specs.LeaseBasis.{GoodNak, tells_end}
+use Rattle.lease_evidence.specs.OwnMessages.{speaker_of}
 use Rattle.lease_evidence.specs.Replies.{message_on, reply_by, reply_at}
 use Rattle.lease_evidence.proofs.ArrivalFits as heard
 use Rattle.lease_evidence.proofs.Carrying.{Carries, Ended, Amid, turn_mac, turn_noarp, turn_flag, seen_amid, kept_amid, within_amid, silent_heard, calm_finish, off_finish}
 use Rattle.lease_evidence.proofs.Observer.{Kept, stays_on, stays_at}
+use Rattle.lease_evidence.proofs.OwnRows.{rests_own, heard_own, arp_own, begin_own, rebind_own, off_own, release_own}
 use Rattle.lease_evidence.proofs.ProbeInputs as probes
 use Rattle.lease_evidence.proofs.SayFits as fields
 use Rattle.lease_evidence.proofs.SayFits.{FitsGrant, FitsStep}
-use Rattle.lease_evidence.proofs.Spoken.{FitsSaid, AreOther, are_arp, are_dhcp6}
+use Rattle.lease_evidence.proofs.Spoken.{FitsSaid, OwnSaid, AreOther, are_arp, are_dhcp6}
 use Rattle.lease_evidence.proofs.Standing as standing
 use Rattle.lease_evidence.proofs.Standing.{ShowsBoth, StandsIn, StandsSo, stopped_stands}
 use Rattle.lease_evidence.proofs.Watching.{Lasts, message_in}
@@ -83,6 +85,7 @@ pub record Leased (site : Site) (clean : Type 0) (f : Iface) (past : List Entry)
 pub record Turned (site : Site) (clean : Type 0) (f : Iface) (said : List Said) (past : List Entry) : Type 0 where
   pub leased : Leased site clean f past
   pub fit : AllByRecursion FitsSaid said
+  pub own : AllByRecursion (OwnSaid (speaker_of site.managed)) said
 
 -- ---- a frame is an ARP packet or a message
 
@@ -225,7 +228,7 @@ module _ (site : Site) (mac : sent.FitsMac site.managed.spec.mac) (clean : Type 
     pub passed : (after : List Said) → AreOther after → stays_at site e past ≡ true → Silent → arp_on (index_at site) event bytes ≡ None → Goes after c
     passed after more_others stays none no_arp h =
         calm_finish site clean e past one c amid mac between others (rests turn c.state) c after more_others amid.settings amid.sound
-        (record { state = amid.fields; say = tt }) h stays
+        (record { state = amid.fields; say = tt }) (rests_own turn c.state amid.names) h stays
         (silent_heard site clean e past one c amid mac between others (rests turn c.state) (silent_reply none) amid.watched)
         (probes.rests_bears site (ask_of site.duid site.managed) clean e past (said_in one) (between ++ after) (tells_end (message_in one)) (bracket after h) turn no_arp c.state amid.bears)
         (stands_by (rests turn) refl
@@ -238,7 +241,7 @@ module _ (site : Site) (mac : sent.FitsMac site.managed.spec.mac) (clean : Type 
         let two : Step4 = arp_step site.own at salt arp c in
         calm_finish site clean e past one c amid mac between others two c after more_others amid.settings
         (moved_sound c two amid.sound (arp_sound (kept_terms c) site.own turn arp c.state amid.sound.state))
-        (fields.arp_fits turn (turn_mac site mac c amid.settings) site.own arp c.state amid.fields) h stays
+        (fields.arp_fits turn (turn_mac site mac c amid.settings) site.own arp c.state amid.fields) (arp_own turn site.own arp c.state amid.names) h stays
         (silent_heard site clean e past one c amid mac between others two (silent_reply none)
         (arp_watched turn seen_so.count seen_so.current kept_so within_so amid.watched.xid site.own arp c.state amid.watched.on))
         (probes.arp_bears site (ask_of site.duid site.managed) clean e past (said_in one) (between ++ (said_in two ++ after)) (tells_end (message_in one))
@@ -265,7 +268,8 @@ module _ (site : Site) (mac : sent.FitsMac site.managed.spec.mac) (clean : Type 
         (moved_sound (brought arrival c) two
         (brought_sound c (answer_to arrival c) (kept_values c.settings.refused arrival.message.instances) amid.sound (values_fit c.settings.refused arrival.message.instances))
         (heard_sound (kept_terms c) turn (answer_to arrival c) c.state early amid.sound.state answers))
-        (fields.heard_fits turn (turn_mac site mac c amid.settings) c.settings arrival (good.message _) good.source c.state answers amid.fields) h stays
+        (fields.heard_fits turn (turn_mac site mac c amid.settings) c.settings arrival (good.message _) good.source c.state answers amid.fields)
+        (heard_own turn (answer_to arrival c) c.state amid.names) h stays
         (subst (λ (came : Option HeardMessage). HeardAfter at (λ exchange. reply_by (settings_of site.duid site.managed) exchange (option_map (arrival_at at) came)) seen_so kept_so two) (sym is)
         (subst (λ (s : SettingsContent). HeardAfter at (λ exchange. reply_in s arrival exchange) seen_so kept_so two) amid.settings
         (heard_watched c.settings arrival turn refl seen_so.count kept_so within_so seen_so.current c.state amid.watched.xid amid.watched.on)))
@@ -291,7 +295,8 @@ module _ (site : Site) (mac : sent.FitsMac site.managed.spec.mac) (clean : Type 
         calm_finish site clean e past one c amid mac between others two c after more_others amid.settings
         (moved_sound c two amid.sound (begin_sound (kept_terms c) turn c.may_stand c.state early (begin_fits c.kept amid.sound.kept) amid.sound.state))
         (fields.begin_fits turn (turn_mac site mac c amid.settings) c.may_stand (kept_terms c) c.state
-        (kept_fits c.may_stand c.kept amid.sound.kept (λ is. (amid.stands.may_stand is).0.typed)) amid.fields) h stays
+        (kept_fits c.may_stand c.kept amid.sound.kept (λ is. (amid.stands.may_stand is).0.typed)) amid.fields)
+        (begin_own turn c.may_stand (kept_terms c) c.state amid.names) h stays
         (silent_heard site clean e past one c amid mac between others two (silent_reply none)
         (begin_watched turn seen_so.count seen_so.current kept_so within_so amid.watched.xid c.may_stand (kept_terms c) c.state amid.watched.on))
         (probes.begin_bears site (ask_of site.duid site.managed) clean e past (said_in one) (between ++ (said_in two ++ after)) (tells_end (message_in one))
@@ -307,7 +312,8 @@ module _ (site : Site) (mac : sent.FitsMac site.managed.spec.mac) (clean : Type 
         let two : Step4 = rebind_step at salt c in
         calm_finish site clean e past one c amid mac between others two c after more_others amid.settings
         (moved_sound c two amid.sound (rebind_sound (kept_terms c) turn c.state early (begin_fits c.kept amid.sound.kept) amid.sound.state))
-        (fields.rebind_fits turn (turn_mac site mac c amid.settings) (kept_terms c) c.state (kept_fits false c.kept amid.sound.kept (λ bad. cc)) amid.fields) h stays
+        (fields.rebind_fits turn (turn_mac site mac c amid.settings) (kept_terms c) c.state (kept_fits false c.kept amid.sound.kept (λ bad. cc)) amid.fields)
+        (rebind_own turn (kept_terms c) c.state amid.sound.state amid.names) h stays
         (silent_heard site clean e past one c amid mac between others two (silent_reply none)
         (rebind_watched turn seen_so.count seen_so.current kept_so within_so amid.watched.xid (kept_terms c) c.state amid.watched.on))
         (probes.rebind_bears site (ask_of site.duid site.managed) clean e past (said_in one) (between ++ (said_in two ++ after)) (tells_end (message_in one))
@@ -320,7 +326,7 @@ module _ (site : Site) (mac : sent.FitsMac site.managed.spec.mac) (clean : Type 
     dropped after more_others h =
         let two : Step4 = carrier_step Down at salt c in
         off_finish site clean e past one c amid mac between others two c after more_others amid.settings
-        (moved_sound c two amid.sound (off_sound (kept_terms c) turn c.state)) (fields.off_fits turn (turn_mac site mac c amid.settings)) h refl
+        (moved_sound c two amid.sound (off_sound (kept_terms c) turn c.state)) (fields.off_fits turn (turn_mac site mac c amid.settings)) (off_own turn) h refl
         (off_watched turn seen_so.count seen_so.current kept_so within_so amid.watched.xid)
         (standing.spent_stands site e past (message_in one) c.settings.site.iface.name c.fresh c.kept two c.may_stand refl tt)
 
@@ -328,7 +334,8 @@ module _ (site : Site) (mac : sent.FitsMac site.managed.spec.mac) (clean : Type 
     stopped_by tell after more_others h =
         let two : Step4 = release_step tell at salt c in
         off_finish site clean e past one c amid mac between others two c after more_others amid.settings
-        (moved_sound c two amid.sound (release_sound (kept_terms c) turn tell c.state)) (fields.release_fits turn (turn_mac site mac c amid.settings) tell c.state amid.fields) h
+        (moved_sound c two amid.sound (release_sound (kept_terms c) turn tell c.state)) (fields.release_fits turn (turn_mac site mac c amid.settings) tell c.state amid.fields)
+        (release_own turn tell c.state amid.sound.state) h
         (probes.stops turn tell c.state)
         (release_watched turn seen_so.count seen_so.current kept_so within_so amid.watched.xid tell c.state)
         (standing.spent_stands site e past (message_in one) c.settings.site.iface.name c.fresh c.kept two c.may_stand (probes.stops_spend turn tell c.state)
@@ -338,7 +345,7 @@ module _ (site : Site) (mac : sent.FitsMac site.managed.spec.mac) (clean : Type 
     rests_off : c.state ≡ Off → is_stopped past ≡ true → Goes [] c
     rests_off off ended h =
         off_finish site clean e past one c amid mac between others (rests turn c.state) c [] tt amid.settings amid.sound
-        (record { state = amid.fields; say = tt }) h off amid.watched
+        (record { state = amid.fields; say = tt }) (rests_own turn c.state amid.names) h off amid.watched
         (stopped_stands site e past (message_in one) c.may_stand c.state c.kept amid.stands off ended)
 
     -- ---- steps of the interface
@@ -482,6 +489,7 @@ module _ (site : Site) (mac : sent.FitsMac site.managed.spec.mac) (clean : Type 
             client = ended.carries;
           };
           fit = ended.fit;
+          own = ended.own;
         }
       where
         stays : (s t : Bool) → true ≡ t → true ≡ (s || t)
@@ -506,6 +514,7 @@ module _ (site : Site) (mac : sent.FitsMac site.managed.spec.mac) (clean : Type 
         client = ended.carries;
       };
       fit = ended.fit;
+      own = ended.own;
     }
 
     stays_so : (event : Event) (up : Bool) → Before event one up false c → stays_on up (index_at site) event ≡ true → stays_at site (entry event) past ≡ true
@@ -576,6 +585,7 @@ module _ (site : Site) (mac : sent.FitsMac site.managed.spec.mac) (clean : Type 
             client = ended.carries;
           };
           fit = ended.fit;
+          own = ended.own;
         }
 
     duplicate_leased : (index : ℕ) (addr : Ip6) (up : Bool) → (index_at site == index) ≡ true → Before (Duplicate index addr) one up false c

@@ -179,7 +179,9 @@ module _ (own : List Mac) (clean : Type 0) (at salt : ℕ) (early : at < 10 ^ 15
     settings = refl;
     sound = made_sound b.duid m b.kept4 is fits (lease_fits b.kept4 within);
     fields = tt;
+    names = tt;
     say = tt;
+    own = tt;
     watched = record { xid = tt; on = tt };
     bears = tt;
     stands = record {
@@ -208,7 +210,8 @@ module _ (own : List Mac) (clean : Type 0) (at salt : ℕ) (early : at < 10 ^ 15
           client = ended.carries;
         };
         fit = ended.fit;
+        own = ended.own;
       }
   opens_leased false h =
       let ended = passed (site_at false) fits.mac.six clean at salt early [] no_bytes offers [] Quiet first [] tt made (made_amid false) [] tt refl refl refl h in
-      record { leased = record { stopped = refl; carrier = λ k. refl; off = λ k. refl; client = ended.carries }; fit = ended.fit }
+      record { leased = record { stopped = refl; carrier = λ k. refl; off = λ k. refl; client = ended.carries }; fit = ended.fit; own = ended.own }

@@ -7,6 +7,7 @@ pub mod WatchTicks
 pub mod WatchInputs
 pub mod ProbeTicks
 pub mod ProbeInputs
+pub mod OwnRows
 pub mod SayFits
 pub mod ArrivalFits
 pub mod Spoken
@@ -17,6 +18,7 @@ pub mod LeasedTurns
 pub mod Leases
 pub mod HeldRuns
 pub mod SevenTurnsHeard
+pub mod OwnProofs
 pub mod Joining
 pub mod Beginnings
 pub mod Cutting

@@ -1,7 +1,7 @@
 -- The messages that the frames of an interface spell are those that it said.
 use Rattle.std.proofs.Common.{◌≡◌, ℕ, Bool, true, false, ◌||◌, List, [], ◌∷◌, ◌++◌, map, length, take, drop, ◌≤◌, Option, Some, None, IfSome, refl, sym, ap, subst, ◌∙◌, arith, append_assoc, lit≤}
 use Rattle.std.proofs.lemmas.List.{length-append}
-use Rattle.std.specs.Prelude.{option_to_list, option_map}
+use Rattle.std.specs.Prelude.{option_to_list, option_map, option_and_then, if◌then◌else◌}
 use Rattle.std.specs.List.{AllByRecursion, list_any}
 use Rattle.std.specs.Option.{is_some}
 use Rattle.net_types.proofs.AllLaws.{all_join, all_map}
@@ -16,7 +16,9 @@ use Rattle.udp_frame.specs.declared.udp4.TheConstants.{KIND_IPV4}
 use Rattle.udp_frame.specs.Udp6Frames.{udp6_frame_text}
 use Rattle.v4_message.specs.Requests.{AskContent, AskFits}
 use Rattle.v4_frames.specs.declared.sent.Sent4.{Sent4}
+use Rattle.v4_frames.specs.declared.speaker.Speaker.{Speaker}
 use Rattle.v4_frames.specs.InRange.{FitsMac, FitsSent}
+use Rattle.v4_frames.specs.Ours.{is_ours}
 use Rattle.v4_frames.specs.Spelled.{sent_in}
 use Rattle.v4_frames.proofs.FramesBack.{reads_back}
 use Rattle.v4_frames.proofs.OtherKinds.{others_spell_nothing}
@@ -36,6 +38,7 @@ use Rattle.evidence_words.specs.Entries.{Offer}
 use Rattle.evidence_words.specs.Inputs.{Site}
 use Rattle.evidence_words.proofs.Offers.{Offered}
 use Rattle.lease_evidence.specs.Exchanges.{Seen, message_of, shows, show}
+use Rattle.lease_evidence.specs.OwnMessages.{if_ours, own_in, speaker_of}
 use Rattle.lease_evidence.specs.KeptBasis4.{AsksAgain}
 use Rattle.lease_evidence.specs.LeaseBasis.{tells_end}
 use Rattle.lease_evidence.proofs.Watching.{message_in}
@@ -52,6 +55,12 @@ abbrev pub FitsSaid : Said → Type 0
 FitsSaid (Dhcp4 say) = FitsSent (sent_of say)
 FitsSaid (Arp say) = Unit {0}
 FitsSaid (Dhcp6 sent) = FitsMac sent.mac
+
+-- A message of DHCPv4 is the client's own.
+abbrev pub OwnSaid : Speaker → Said → Type 0
+OwnSaid speaker (Dhcp4 say) = is_ours speaker (sent_of say) ≡ true
+OwnSaid speaker (Arp say) = Unit {0}
+OwnSaid speaker (Dhcp6 sent) = Unit {0}
 
 -- a message that isn't one of DHCPv4
 abbrev pub IsOther : Said → Type 0
@@ -82,15 +91,28 @@ are_dhcp6 iface out fits = by_say out.say
 pub others_fit : (said : List Said) → AreOther said → AllByRecursion FitsSaid said
 others_fit said h = all_map IsOther FitsSaid other_fits said h
 
-pub step_fits : (step : Step4) → IfSome step.say (λ say. FitsSent (sent_of say)) → AllByRecursion FitsSaid (said_in step)
-step_fits step h = by_parts step.say step.arp h
+others_own : (speaker : Speaker) (said : List Said) → AreOther said → AllByRecursion (OwnSaid speaker) said
+others_own speaker said h = all_map IsOther (OwnSaid speaker) other_own said h
   where
-    by_parts : (say : Option Say4) (arp : Option ArpSay) → IfSome say (λ say. FitsSent (sent_of say))
-        → AllByRecursion FitsSaid (map Dhcp4 (option_to_list say) ++ map Arp (option_to_list arp))
-    by_parts None None h = tt
-    by_parts None (Some arp) h = (tt, tt)
-    by_parts (Some say) None h = (h, tt)
-    by_parts (Some say) (Some arp) h = (h, (tt, tt))
+    other_own : (say : Said) → IsOther say → OwnSaid speaker say
+    other_own (Dhcp4 say) h = absurd h
+    other_own (Arp say) h = tt
+    other_own (Dhcp6 sent) h = tt
+
+-- what a step says, whatever is asked of messages of DHCPv4 alone
+module _ (Asked : Said → Type 0) (arps : (arp : ArpSay) → Asked (Arp arp)) where
+  step_all : (say : Option Say4) (arp : Option ArpSay) → IfSome say (λ say. Asked (Dhcp4 say))
+      → AllByRecursion Asked (map Dhcp4 (option_to_list say) ++ map Arp (option_to_list arp))
+  step_all None None h = tt
+  step_all None (Some arp) h = (arps arp, tt)
+  step_all (Some say) None h = (h, tt)
+  step_all (Some say) (Some arp) h = (h, (arps arp, tt))
+
+pub step_fits : (step : Step4) → IfSome step.say (λ say. FitsSent (sent_of say)) → AllByRecursion FitsSaid (said_in step)
+step_fits step h = step_all FitsSaid (λ arp. tt) step.say step.arp h
+
+step_own : (speaker : Speaker) (step : Step4) → IfSome step.say (λ say. is_ours speaker (sent_of say) ≡ true) → AllByRecursion (OwnSaid speaker) (said_in step)
+step_own speaker step h = step_all (OwnSaid speaker) (λ arp. tt) step.say step.arp h
 
 -- ---- frames
 
@@ -138,19 +160,32 @@ module _ (site : Site) (ask_fits : AskFits (ask_of site.duid site.managed)) (mac
   abbrev ask : AskContent
   ask = ask_of site.duid site.managed
 
+  abbrev speaker : Speaker
+  speaker = speaker_of site.managed
+
   spells : (say : Said) → FitsSaid say → sent_in ask (spelled site.managed.spec ask say).bytes ≡ message_said say
   spells (Dhcp4 say) fits = reads_back ask (sent_of say) ask_fits fits
   spells (Arp (Probe addr)) fits = arp_spells ask ask_fits (record { number = 0 }) addr site.managed.spec.mac mac_fits
   spells (Arp (Announce addr)) fits = arp_spells ask ask_fits addr addr site.managed.spec.mac mac_fits
   spells (Dhcp6 sent) fits = dhcp6_spells ask sent fits
 
+  -- what is said is the client's own
+  taken : (say : Said) → OwnSaid speaker say → option_and_then (if_ours speaker) (message_said say) ≡ message_said say
+  taken (Dhcp4 say) own = ap (λ (ours : Bool). if ours then Some (sent_of say) else None) own
+  taken (Arp say) own = refl
+  taken (Dhcp6 sent) own = refl
+
+  pub spells_own : (say : Said) → FitsSaid say → OwnSaid speaker say → own_in speaker ask (spelled site.managed.spec ask say).bytes ≡ message_said say
+  unfolding own_in
+  spells_own say fits own = ap (option_and_then (if_ours speaker)) (spells say fits) ∙ taken say own
+
   pub messages_are : (said : List Said) (offers : List Offer) → Offered site.managed.spec ask clean said offers → AllByRecursion FitsSaid said
-      → map (message_of site) offers ≡ map message_said said
-  messages_are [] [] h fits = refl
-  messages_are [] (o ∷ offers) h fits = absurd h
-  messages_are (say ∷ said) [] h fits = absurd h
-  messages_are (say ∷ said) (o ∷ offers) h fits = λ i.
-      (ap (sent_in ask) h.0 ∙ spells say fits.0) i ∷ messages_are said offers h.2 fits.1 i
+      → AllByRecursion (OwnSaid speaker) said → map (message_of site) offers ≡ map message_said said
+  messages_are [] [] h fits own = refl
+  messages_are [] (o ∷ offers) h fits own = absurd h
+  messages_are (say ∷ said) [] h fits own = absurd h
+  messages_are (say ∷ said) (o ∷ offers) h fits own = λ i.
+      (ap (own_in speaker ask) h.0 ∙ spells_own say fits.0 own.0) i ∷ messages_are said offers h.2 fits.1 own.1 i
 
 -- ---- what they show
 
@@ -283,3 +318,11 @@ module _ (at : ℕ) (one two : Step4) (between after : List Said) (others : AreO
       all_join FitsSaid (said_in one ++ between) (said_in two ++ after)
       (all_join FitsSaid (said_in one) between (step_fits one first) (others_fit between others))
       (all_join FitsSaid (said_in two) after (step_fits two second) (others_fit after more_others))
+
+  pub all_own : (speaker : Speaker) → IfSome one.say (λ say. is_ours speaker (sent_of say) ≡ true)
+      → IfSome two.say (λ say. is_ours speaker (sent_of say) ≡ true)
+      → AllByRecursion (OwnSaid speaker) (said_all one between two after)
+  all_own speaker first second =
+      all_join (OwnSaid speaker) (said_in one ++ between) (said_in two ++ after)
+      (all_join (OwnSaid speaker) (said_in one) between (step_own speaker one first) (others_own speaker between others))
+      (all_join (OwnSaid speaker) (said_in two) after (step_own speaker two second) (others_own speaker after more_others))

@@ -5,15 +5,15 @@ use Rattle.v4_message.specs.declared.writing.Kind4.{Kind4}
 use Rattle.v4_message.specs.declared.writing.Kind4.TheVariants.{Discover, Request, Decline, Release}
 use Rattle.v4_message.specs.declared.writing.Said4.{Said4}
 use Rattle.v4_frames.specs.declared.sent.Sent4.{Sent4}
-use Rattle.v4_frames.specs.Spelled.{sent_in}
 use Rattle.v4_client.specs.declared.states.Exchange4.{Exchange4}
 use Rattle.client_model.specs.ClientSettings.{ask_of}
 use Rattle.evidence_words.specs.Entries.{Entry, Offer}
 use Rattle.evidence_words.specs.Inputs.{Site, offers_at}
+use Rattle.lease_evidence.specs.OwnMessages.{own_in, speaker_of}
 
--- the DHCPv4 message that a frame spells, where it spells one
+-- the DHCPv4 message that a frame spells, where it spells one of the client's own
 abbrev pub message_of : Site → Offer → Option Sent4
-message_of site o = sent_in (ask_of site.duid site.managed) o.bytes
+message_of site o = own_in (speaker_of site.managed) (ask_of site.duid site.managed) o.bytes
 
 -- what the frames of a turn spell, in order
 abbrev pub messages_at : Site → Entry → List (Option Sent4)

@@ -1,4 +1,5 @@
 pub mod Replies
+pub mod OwnMessages
 pub mod Exchanges
 pub mod LeaseBasis
 pub mod Laws
@@ -8,5 +9,6 @@ pub mod KeptNeeds
 pub mod HeldLeases
 pub mod PlainIface
 pub mod SevenTurns
+pub mod OwnFrames
 pub mod ProbedFirst
 pub mod AskedFirst

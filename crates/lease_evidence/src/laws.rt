@@ -1,8 +1,9 @@
 //! What is true of the evidence for leases. These functions do nothing: their contracts are the laws.
 
-ghost use Rattle.std.specs.Prelude.{◌≡◌, ◌∷◌, [], Some};
+ghost use Rattle.std.specs.Prelude.{◌≡◌, ◌∷◌, [], None, Some};
 ghost use Rattle.net_types.specs.declared.address.Net.TheVariants.{V4};
 ghost use Rattle.v4_client.specs.Clients.{held_of};
+ghost use Rattle.v4_frames.specs.declared.speaker.TheConstants.{BROADCAST_FLAG};
 ghost use Rattle.v4_message.specs.declared.writing.Kind4.TheVariants.{Decline, Discover, Release};
 ghost use Rattle.evidence_words.specs.IfaceLives.{IsLived, iface_after, shown, site_of};
 ghost use Rattle.lease_evidence.specs.AskedFirst.{LastsFromRequest, NeedsFrameHere, NeedsNewRequest, NeedsRequest};
@@ -11,9 +12,10 @@ ghost use Rattle.lease_evidence.specs.HeldLeases.{BeginsWithKept, BeginsWithStat
 ghost use Rattle.lease_evidence.specs.KeptNeeds.{EndsWithKept, KeptEndsBy, NamesServer, NeedsAsking, NeedsFlag, NeedsItsAddress, NeedsOneExchange, NeedsOrigin, SaysElse};
 ghost use Rattle.lease_evidence.specs.LeaseBasis.{LeaseBasis};
 ghost use Rattle.lease_evidence.specs.Laws.{EndsWithLease, ForeignGivesNothing, NeedsAck};
+ghost use Rattle.lease_evidence.specs.OwnFrames.{EachMessageIsOwn, OwnFramesAlone, configured, discover_from, discover_with, first_discover, own_read, without_list};
 ghost use Rattle.lease_evidence.specs.PlainIface.{client_mac};
 ghost use Rattle.lease_evidence.specs.ProbedFirst.{ContestsPartProbes, NeedsThreeProbes, ProbesBeginAnew, ProbesTakeFourSeconds};
-ghost use Rattle.lease_evidence.specs.SevenTurns.{beginning, lease, opening, seven_turns};
+ghost use Rattle.lease_evidence.specs.SevenTurns.{beginning, lease, opening, server_mac, seven_turns};
 
 /// Law: each lease that an interface holds after its opening and some turns, with any outcomes of its frames, has its basis
 /// in what they showed: an ACK in its own exchange, unexpired, probed and not given up since (RFC 2131, section 4.4); or,
@@ -139,4 +141,22 @@ pub fn seven_turns_grant_a_lease()
     ensures lived { IsLived (client_mac ∷ []) beginning opening seven_turns }
     ensures held { held_of (iface_after (client_mac ∷ []) beginning opening seven_turns).dhcp4 ≡ Some lease }
     ensures basis { LeaseBasis (site_of (client_mac ∷ []) beginning opening) (V4 lease.net) 6503 (shown opening seven_turns) }
+{}
+
+/// Law: over every life of an interface each message of DHCPv4 that it says is read in its frame as it is, as the
+/// client's own, and none is read in its other frames (RFC 2131, section 4.4.1 and table 5).
+pub fn each_message_is_own()
+    ensures { EachMessageIsOwn }
+{}
+
+/// Law: what is read as the client's own is a frame that it may say, byte for byte: with the hardware address of its
+/// interface, the options and flags that are configured, its own address or none, and no seconds but in a DISCOVER and
+/// the REQUEST for an offer. Of an example's DISCOVER, which is read, none is with another hardware address, with flags
+/// that aren't configured, or without the list of options that it asks for.
+pub fn own_messages_alone_are_read()
+    ensures alone { OwnFramesAlone }
+    ensures own { own_read configured first_discover ≡ Some first_discover }
+    ensures other_mac { own_read configured (discover_from server_mac) ≡ None }
+    ensures other_flags { own_read configured (discover_with BROADCAST_FLAG) ≡ None }
+    ensures no_list { own_read without_list first_discover ≡ None }
 {}

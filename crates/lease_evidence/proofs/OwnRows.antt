@@ -1,4 +1,4 @@
--- Each message of DHCPv4 that a row of the table says is one that some client may say.
+-- Each message of DHCPv4 that a row of the table says is the client's own.
 use Rattle.std.proofs.Common.{◌≡◌, ℕ, ◌+◌, ◌*◌, ◌≤◌, ◌||◌, ◌&&◌, not, Bool, true, false, List, Option, Some, None, IfSome, refl, nat_le, arith}
 use Rattle.std.specs.Prelude.{if◌then◌else◌, ◌==◌}
 use Rattle.std.specs.Option.{is_some}
@@ -21,12 +21,14 @@ use Rattle.v4_message.specs.declared.writing.Kind4.{Kind4}
 use Rattle.v4_message.specs.declared.writing.Kind4.TheVariants.{Discover, Request, Decline, Release}
 use Rattle.v4_frames.specs.declared.sent.Sent4.{Sent4}
 use Rattle.v4_frames.specs.declared.sent.TheConstants.{EVERY_MAC}
+use Rattle.v4_frames.specs.declared.speaker.Speaker.{Speaker}
 use Rattle.v4_frames.specs.declared.speaker.TheConstants.{BROADCAST_FLAG}
 use Rattle.v4_frames.specs.Heard.{same_mac}
 use Rattle.v4_frames.specs.Ours.{is_ours}
 use Rattle.v4_client.specs.declared.moments.Backoff.{Backoff}
 use Rattle.v4_client.specs.declared.moments.Backoff.TheVariants.{Four, Eight, Sixteen, ThirtyTwo, SixtyFour}
 use Rattle.v4_client.specs.declared.moments.TheConstants.{SECOND}
+use Rattle.v4_client.specs.declared.settings.Site4.{Site4}
 use Rattle.v4_client.specs.declared.states.Answer4.{Answer4}
 use Rattle.v4_client.specs.declared.states.Answer4.TheVariants as answer
 use Rattle.v4_client.specs.declared.states.Exchange4.{Exchange4}
@@ -44,22 +46,13 @@ use Rattle.v4_client.specs.declared.states.Turn4.{Turn4}
 use Rattle.v4_client.specs.Detection.{checked, defended, with_acd}
 use Rattle.v4_client.specs.Hearing.{offered, granted, answered, renewed, heard_row, contested, arp_row}
 use Rattle.v4_client.specs.Inputs.{stood, entered, begins, begin_row, off_row, released, released_standing, release_row, rebind_row, unsent_row}
-use Rattle.v4_client.specs.Moments.{expiry, renewal_at, rebinding_at, standing_until, doubled}
+use Rattle.v4_client.specs.Moments.{expiry, renewal_at, rebinding_at, secs_since, standing_until, doubled}
 use Rattle.v4_client.specs.Saying.{no_address, every_address, sent_of}
 use Rattle.v4_client.specs.Sound.{FitsState}
 use Rattle.v4_client.specs.Steps.{rests, to_init, expires, selecting, discovers, new_xid, requesting, rebooting, new_exchange, renewing, rebinding, declines, standing_news}
 use Rattle.v4_client.specs.Ticks.{detects, tick_row}
-use Rattle.lab_peer.specs.ClientFrames.{is_of_a_client, speaker}
 
 -- ---- tests
-
-or_first : (a b : Bool) → a ≡ true → (a || b) ≡ true
-or_first true b h = refl
-or_first false b h = absurd cc
-
-or_second : (a b : Bool) → b ≡ true → (a || b) ≡ true
-or_second true b h = refl
-or_second false b h = h
 
 first_of : (a b : Bool) → (a && b) ≡ true → a ≡ true
 first_of true b h = refl
@@ -83,10 +76,12 @@ some_address address h =
 
 -- ---- messages
 
-by_flag : (sent : Sent4) (broadcast : Bool) → is_ours (speaker sent broadcast) sent ≡ true → is_of_a_client sent ≡ true
-unfolding is_of_a_client
-by_flag sent false h = or_first (is_ours (speaker sent false) sent) (is_ours (speaker sent true) sent) h
-by_flag sent true h = or_second (is_ours (speaker sent false) sent) (is_ours (speaker sent true) sent) h
+abbrev pub speaker_by : Mac → (broadcast : Bool) → Speaker
+speaker_by mac broadcast = record { mac = mac; broadcast = broadcast }
+
+-- servers are asked to answer by broadcast where that is set
+abbrev flags_by : (broadcast : Bool) → ℕ
+flags_by broadcast = if broadcast then BROADCAST_FLAG else 0
 
 module _ (mac : Mac) where
   ours : (kind : Bool) → kind ≡ true → (same_mac mac mac && same_mac mac mac && kind) ≡ true
@@ -106,64 +101,66 @@ module _ (mac : Mac) where
     said = record { kind = kind; xid = xid; secs = 0; flags = 0; ciaddr = from; mac = mac; asked = None; server = server };
   }
 
-  abbrev flags_by : (broadcast : Bool) → ℕ
-  flags_by broadcast = if broadcast then BROADCAST_FLAG else 0
-
-  discover_own : (xid secs : ℕ) (broadcast : Bool) → is_of_a_client (unaddressed Discover xid secs (flags_by broadcast) None None) ≡ true
-  discover_own xid secs true = by_flag (unaddressed Discover xid secs BROADCAST_FLAG None None) true (ours true refl)
-  discover_own xid secs false = by_flag (unaddressed Discover xid secs 0 None None) false (ours true refl)
+  discover_own : (xid secs : ℕ) (broadcast : Bool)
+      → is_ours (speaker_by mac broadcast) (unaddressed Discover xid secs (flags_by broadcast) None None) ≡ true
+  discover_own xid secs true = ours true refl
+  discover_own xid secs false = ours true refl
 
   selecting_own : (xid secs : ℕ) (broadcast : Bool) (asked server : Ip4)
-      → is_of_a_client (unaddressed Request xid secs (flags_by broadcast) (Some asked) (Some server)) ≡ true
-  selecting_own xid secs true asked server = by_flag (unaddressed Request xid secs BROADCAST_FLAG (Some asked) (Some server)) true (ours true refl)
-  selecting_own xid secs false asked server = by_flag (unaddressed Request xid secs 0 (Some asked) (Some server)) false (ours true refl)
+      → is_ours (speaker_by mac broadcast) (unaddressed Request xid secs (flags_by broadcast) (Some asked) (Some server)) ≡ true
+  selecting_own xid secs true asked server = ours true refl
+  selecting_own xid secs false asked server = ours true refl
 
   rebooting_own : (xid : ℕ) (broadcast : Bool) (asked : Ip4) (server : Option Ip4)
-      → is_of_a_client (unaddressed Request xid 0 (flags_by broadcast) (Some asked) server) ≡ true
-  rebooting_own xid true asked None = by_flag (unaddressed Request xid 0 BROADCAST_FLAG (Some asked) None) true (ours true refl)
-  rebooting_own xid false asked None = by_flag (unaddressed Request xid 0 0 (Some asked) None) false (ours true refl)
+      → is_ours (speaker_by mac broadcast) (unaddressed Request xid 0 (flags_by broadcast) (Some asked) server) ≡ true
+  rebooting_own xid true asked None = ours true refl
+  rebooting_own xid false asked None = ours true refl
   rebooting_own xid broadcast asked (Some server) = selecting_own xid 0 broadcast asked server
 
-  decline_own : (xid : ℕ) (asked server : Ip4) → is_of_a_client (unaddressed Decline xid 0 0 (Some asked) (Some server)) ≡ true
-  decline_own xid asked server = by_flag (unaddressed Decline xid 0 0 (Some asked) (Some server)) false (ours true refl)
+  decline_own : (xid : ℕ) (broadcast : Bool) (asked server : Ip4)
+      → is_ours (speaker_by mac broadcast) (unaddressed Decline xid 0 0 (Some asked) (Some server)) ≡ true
+  decline_own xid broadcast asked server = ours true refl
 
-  held_own : (xid : ℕ) (from : Ip4) (to_mac : Mac) (to : Ip4) → (from.number == 0) ≡ false → is_of_a_client (addressed Request xid from to_mac to None) ≡ true
-  held_own xid from to_mac to some =
-      by_flag (addressed Request xid from to_mac to None) false
-      (ours ((not (from.number == 0) && (from.number == from.number)) && true) (rw (some, same_number from.number) refl))
+  held_own : (xid : ℕ) (broadcast : Bool) (from : Ip4) (to_mac : Mac) (to : Ip4) → (from.number == 0) ≡ false
+      → is_ours (speaker_by mac broadcast) (addressed Request xid from to_mac to None) ≡ true
+  held_own xid broadcast from to_mac to some =
+      ours ((not (from.number == 0) && (from.number == from.number)) && true) (rw (some, same_number from.number) refl)
 
-  releasing_own : (xid : ℕ) (from : Ip4) (to_mac : Mac) (to : Ip4) → (from.number == 0) ≡ false
-      → is_of_a_client (addressed Release xid from to_mac to (Some to)) ≡ true
-  releasing_own xid from to_mac to some =
-      by_flag (addressed Release xid from to_mac to (Some to)) false
-      (ours ((not (from.number == 0) && (from.number == from.number)) && true && true && (to.number == to.number))
-      (rw (some, same_number from.number, same_number to.number) refl))
+  releasing_own : (xid : ℕ) (broadcast : Bool) (from : Ip4) (to_mac : Mac) (to : Ip4) → (from.number == 0) ≡ false
+      → is_ours (speaker_by mac broadcast) (addressed Release xid from to_mac to (Some to)) ≡ true
+  releasing_own xid broadcast from to_mac to some =
+      ours ((not (from.number == 0) && (from.number == from.number)) && true && true && (to.number == to.number))
+      (rw (some, same_number from.number, same_number to.number) refl)
 
 -- ---- what a step says
 
--- some client at this hardware address may say it
-abbrev pub IsOwn : Mac → Say4 → Type 0
-IsOwn mac say = (is_of_a_client (sent_of say) ≡ true) × (say.said.mac ≡ mac)
+-- a client as its settings make it
+abbrev pub speaker_at : Site4 → Speaker
+speaker_at site = speaker_by site.iface.mac site.broadcast
+
+-- such a client may say it
+abbrev pub IsOwn : Site4 → Say4 → Type 0
+IsOwn site say = is_ours (speaker_at site) (sent_of say) ≡ true
 
 -- the REQUEST that takes an offer names its server
-abbrev pub NamesServer : State4 → Type 0
-NamesServer (Requesting exchange secs backoff due) = is_some exchange.server ≡ true
-NamesServer Off = Unit {0}
-NamesServer (Init due) = Unit {0}
-NamesServer (Selecting xid began secs backoff due) = Unit {0}
-NamesServer (Rebooting exchange backoff end due stands) = Unit {0}
-NamesServer (Checking xid terms origin acd stands) = Unit {0}
-NamesServer (Waiting due) = Unit {0}
-NamesServer (Bound xid terms acd) = Unit {0}
-NamesServer (Renewing exchange terms acd due) = Unit {0}
-NamesServer (Rebinding exchange terms acd due) = Unit {0}
+abbrev pub HasServer : State4 → Type 0
+HasServer (Requesting exchange secs backoff due) = is_some exchange.server ≡ true
+HasServer Off = Unit {0}
+HasServer (Init due) = Unit {0}
+HasServer (Selecting xid began secs backoff due) = Unit {0}
+HasServer (Rebooting exchange backoff end due stands) = Unit {0}
+HasServer (Checking xid terms origin acd stands) = Unit {0}
+HasServer (Waiting due) = Unit {0}
+HasServer (Bound xid terms acd) = Unit {0}
+HasServer (Renewing exchange terms acd due) = Unit {0}
+HasServer (Rebinding exchange terms acd due) = Unit {0}
 
-pub record OwnStepOf (mac : Mac) (step : Step4) : Type 0 where
-  pub names : NamesServer step.state
-  pub own : IfSome step.say (IsOwn mac)
+pub record OwnStepOf (site : Site4) (step : Step4) : Type 0 where
+  pub names : HasServer step.state
+  pub own : IfSome step.say (IsOwn site)
 
 -- conflict detection leaves the server named
-with_names : (state : State4) (acd : Acd) → NamesServer state → NamesServer (with_acd state acd)
+with_names : (state : State4) (acd : Acd) → HasServer state → HasServer (with_acd state acd)
 with_names Off acd n = n
 with_names (Init due) acd n = n
 with_names (Selecting xid began secs backoff due) acd n = n
@@ -180,12 +177,12 @@ module _ (turn : Turn4) where
   mac = turn.site.iface.mac
 
   abbrev OwnStep : Step4 → Type 0
-  OwnStep step = OwnStepOf mac step
+  OwnStep step = OwnStepOf turn.site step
 
   abbrev IsHost : Terms4 → Type 0
   IsHost terms = is_host_address terms.net.ip ≡ true
 
-  pub rests_own : (state : State4) → NamesServer state → OwnStep (rests turn state)
+  pub rests_own : (state : State4) → HasServer state → OwnStep (rests turn state)
   rests_own state n = record { names = n; own = tt }
 
   inits : OwnStep (to_init turn)
@@ -195,31 +192,31 @@ module _ (turn : Turn4) where
   ends = record { names = tt; own = tt }
 
   selects : (xid began : ℕ) (backoff : Backoff) → OwnStep (selecting turn xid began backoff)
-  selects xid began backoff = record { names = tt; own = (discover_own mac xid _ turn.site.broadcast, refl) }
+  selects xid began backoff = record { names = tt; own = discover_own mac xid (secs_since began turn.at) turn.site.broadcast }
 
   requests : (exchange : Exchange4) (secs : ℕ) (backoff : Backoff) → is_some exchange.server ≡ true → OwnStep (requesting turn exchange secs backoff)
-  requests exchange secs backoff n = record { names = n; own = (by_server exchange.server n, refl) }
+  requests exchange secs backoff n = record { names = n; own = by_server exchange.server n }
     where
       by_server : (server : Option Ip4) → is_some server ≡ true
-          → is_of_a_client (unaddressed mac Request exchange.xid secs (flags_by mac turn.site.broadcast) (Some exchange.address) server) ≡ true
+          → is_ours (speaker_at turn.site) (unaddressed mac Request exchange.xid secs (flags_by turn.site.broadcast) (Some exchange.address) server) ≡ true
       by_server None h = absurd cc
       by_server (Some server) h = selecting_own mac exchange.xid secs turn.site.broadcast exchange.address server
 
   reboots : (exchange : Exchange4) (backoff : Backoff) (end : ℕ) (stands : Option Terms4) → OwnStep (rebooting turn exchange backoff end stands)
-  reboots exchange backoff end stands = record { names = tt; own = (rebooting_own mac exchange.xid turn.site.broadcast exchange.address exchange.server, refl) }
+  reboots exchange backoff end stands = record { names = tt; own = rebooting_own mac exchange.xid turn.site.broadcast exchange.address exchange.server }
 
   renews : (exchange : Exchange4) (terms : Terms4) (acd : Option Acd) → IsHost terms → OwnStep (renewing turn exchange terms acd)
   renews exchange terms acd host =
-      record { names = tt; own = (held_own mac exchange.xid terms.net.ip terms.server_mac terms.server (some_address terms.net.ip host), refl) }
+      record { names = tt; own = held_own mac exchange.xid turn.site.broadcast terms.net.ip terms.server_mac terms.server (some_address terms.net.ip host) }
 
   rebinds : (exchange : Exchange4) (terms : Terms4) (acd : Option Acd) → IsHost terms → OwnStep (rebinding turn exchange terms acd)
   rebinds exchange terms acd host =
-      record { names = tt; own = (held_own mac exchange.xid terms.net.ip EVERY_MAC every_address (some_address terms.net.ip host), refl) }
+      record { names = tt; own = held_own mac exchange.xid turn.site.broadcast terms.net.ip EVERY_MAC every_address (some_address terms.net.ip host) }
 
   refuses : (xid : ℕ) (terms : Terms4) (news : News4) → OwnStep (declines turn xid terms news)
-  refuses xid terms news = record { names = tt; own = (decline_own mac xid terms.net.ip terms.server, refl) }
+  refuses xid terms news = record { names = tt; own = decline_own mac xid turn.site.broadcast terms.net.ip terms.server }
 
-  defends : (xid : ℕ) (terms : Terms4) (state : State4) (says : AcdSays) → NamesServer state → OwnStep (defended turn xid terms state says)
+  defends : (xid : ℕ) (terms : Terms4) (state : State4) (says : AcdSays) → HasServer state → OwnStep (defended turn xid terms state says)
   defends xid terms state Quiet n = record { names = n; own = tt }
   defends xid terms state SayProbe n = record { names = n; own = tt }
   defends xid terms state SayAnnounce n = record { names = n; own = tt }
@@ -238,13 +235,13 @@ module _ (turn : Turn4) where
 
   -- ---- ticks
 
-  watches : (xid : ℕ) (terms : Terms4) (state : State4) (acd : Option Acd) → NamesServer state → OwnStep (detects turn xid terms state acd)
+  watches : (xid : ℕ) (terms : Terms4) (state : State4) (acd : Option Acd) → HasServer state → OwnStep (detects turn xid terms state acd)
   watches xid terms state None n = rests_own state n
   watches xid terms state (Some acd) n =
       defends xid terms (with_acd state (detection.acd_tick acd turn.at turn.salt).acd) (detection.acd_tick acd turn.at turn.salt).says
       (with_names state (detection.acd_tick acd turn.at turn.salt).acd n)
 
-  pub tick_own : (state : State4) → FitsState state → NamesServer state → OwnStep (tick_row turn state)
+  pub tick_own : (state : State4) → FitsState state → HasServer state → OwnStep (tick_row turn state)
   tick_own Off f n = rests_own Off tt
   tick_own (Init due) f n = selects (new_xid turn) turn.at Four
   tick_own (Waiting due) f n = selects (new_xid turn) turn.at Four
@@ -279,7 +276,7 @@ module _ (turn : Turn4) where
 
   -- ---- messages
 
-  offering : (xid secs : ℕ) (state : State4) (said : Answer4) → NamesServer state → OwnStep (offered turn xid secs state said)
+  offering : (xid secs : ℕ) (state : State4) (said : Answer4) → HasServer state → OwnStep (offered turn xid secs state said)
   offering xid secs state (answer.Offer address server) n =
       requests (record { xid = xid; address = address; server = Some server; first = turn.at }) secs Four refl
   offering xid secs state answer.Nothing n = rests_own state n
@@ -289,21 +286,21 @@ module _ (turn : Turn4) where
   grants : (xid : ℕ) (terms : Terms4) (origin : Origin4) (stands : Option Terms4) → OwnStep (granted turn xid terms origin stands)
   grants xid terms origin stands = gated OwnStep turn.site.noarp _ _ (record { names = tt; own = tt }) (record { names = tt; own = tt })
 
-  answering : (xid : ℕ) (origin : Origin4) (stands : Option Terms4) (state : State4) (said : Answer4) → NamesServer state
+  answering : (xid : ℕ) (origin : Origin4) (stands : Option Terms4) (state : State4) (said : Answer4) → HasServer state
       → OwnStep (answered turn xid origin stands state said)
   answering xid origin stands state (answer.Ack terms) n = grants xid terms origin stands
   answering xid origin stands state answer.Nak n = record { names = tt; own = tt }
   answering xid origin stands state answer.Nothing n = rests_own state n
   answering xid origin stands state (answer.Offer address server) n = rests_own state n
 
-  renewing_by : (xid : ℕ) (news : News4) (acd : Option Acd) (state : State4) (said : Answer4) → NamesServer state
+  renewing_by : (xid : ℕ) (news : News4) (acd : Option Acd) (state : State4) (said : Answer4) → HasServer state
       → OwnStep (renewed turn xid news acd state said)
   renewing_by xid news acd state (answer.Ack terms) n = record { names = tt; own = tt }
   renewing_by xid news acd state answer.Nak n = record { names = tt; own = tt }
   renewing_by xid news acd state answer.Nothing n = rests_own state n
   renewing_by xid news acd state (answer.Offer address server) n = rests_own state n
 
-  pub heard_own : (said : Answer4) (state : State4) → NamesServer state → OwnStep (heard_row turn said state)
+  pub heard_own : (said : Answer4) (state : State4) → HasServer state → OwnStep (heard_row turn said state)
   heard_own said Off n = rests_own Off n
   heard_own said (Init due) n = rests_own (Init due) n
   heard_own said (Selecting xid began secs backoff due) n = offering xid secs (Selecting xid began secs backoff due) said n
@@ -317,14 +314,14 @@ module _ (turn : Turn4) where
 
   -- ---- ARP packets
 
-  contests : (own : List Mac) (arp : ArpView) (xid : ℕ) (terms : Terms4) (state : State4) (acd : Option Acd) → NamesServer state
+  contests : (own : List Mac) (arp : ArpView) (xid : ℕ) (terms : Terms4) (state : State4) (acd : Option Acd) → HasServer state
       → OwnStep (contested own turn arp xid terms state acd)
   contests own arp xid terms state None n = rests_own state n
   contests own arp xid terms state (Some acd) n =
       defends xid terms (with_acd state (detection.acd_hears own acd arp turn.at).acd) (detection.acd_hears own acd arp turn.at).says
       (with_names state (detection.acd_hears own acd arp turn.at).acd n)
 
-  pub arp_own : (own : List Mac) (arp : ArpView) (state : State4) → NamesServer state → OwnStep (arp_row own turn arp state)
+  pub arp_own : (own : List Mac) (arp : ArpView) (state : State4) → HasServer state → OwnStep (arp_row own turn arp state)
   arp_own own arp Off n = rests_own Off n
   arp_own own arp (Init due) n = rests_own (Init due) n
   arp_own own arp (Selecting xid began secs backoff due) n = rests_own (Selecting xid began secs backoff due) n
@@ -348,7 +345,7 @@ module _ (turn : Turn4) where
   begun : (may_stand : Bool) (kept : Option Terms4) → OwnStep (begins turn may_stand kept)
   begun may_stand kept = let entering : OwnStep (entered turn may_stand kept) = enters may_stand kept in record { names = entering.names; own = entering.own }
 
-  pub begin_own : (may_stand : Bool) (kept : Option Terms4) (state : State4) → NamesServer state → OwnStep (begin_row turn may_stand kept state)
+  pub begin_own : (may_stand : Bool) (kept : Option Terms4) (state : State4) → HasServer state → OwnStep (begin_row turn may_stand kept state)
   begin_own may_stand kept Off n = begun may_stand kept
   begin_own may_stand kept (Init due) n = rests_own (Init due) n
   begin_own may_stand kept (Selecting xid began secs backoff due) n = rests_own (Selecting xid began secs backoff due) n
@@ -360,7 +357,7 @@ module _ (turn : Turn4) where
   begin_own may_stand kept (Renewing exchange terms acd due) n = rests_own (Renewing exchange terms acd due) n
   begin_own may_stand kept (Rebinding exchange terms acd due) n = rests_own (Rebinding exchange terms acd due) n
 
-  pub rebind_own : (kept : Option Terms4) (state : State4) → FitsState state → NamesServer state → OwnStep (rebind_row turn kept state)
+  pub rebind_own : (kept : Option Terms4) (state : State4) → FitsState state → HasServer state → OwnStep (rebind_row turn kept state)
   rebind_own kept Off f n = begun false kept
   rebind_own kept (Init due) f n = rests_own (Init due) n
   rebind_own kept (Selecting xid began secs backoff due) f n = rests_own (Selecting xid began secs backoff due) n
@@ -377,7 +374,7 @@ module _ (turn : Turn4) where
 
   lets_go : (tell : Tell) (terms : Terms4) → IsHost terms → OwnStep (released turn tell terms)
   lets_go Server terms host =
-      record { names = tt; own = (releasing_own mac (new_xid turn) terms.net.ip terms.server_mac terms.server (some_address terms.net.ip host), refl) }
+      record { names = tt; own = releasing_own mac (new_xid turn) turn.site.broadcast terms.net.ip terms.server_mac terms.server (some_address terms.net.ip host) }
   lets_go Nobody terms host = record { names = tt; own = tt }
 
   lets_go_standing : (tell : Tell) (stands : Option Terms4) → IfSome stands FitsTerms → OwnStep (released_standing turn tell stands)
@@ -396,7 +393,7 @@ module _ (turn : Turn4) where
   release_own tell (Renewing exchange terms acd due) f = lets_go tell terms f.renewal.holds.address
   release_own tell (Rebinding exchange terms acd due) f = lets_go tell terms f.renewal.holds.address
 
-pub unsent_names : (turn : Turn4) (state : State4) → NamesServer state → NamesServer (unsent_row turn state)
+pub unsent_names : (turn : Turn4) (state : State4) → HasServer state → HasServer (unsent_row turn state)
 unsent_names turn Off n = n
 unsent_names turn (Init due) n = n
 unsent_names turn (Selecting xid began secs backoff due) n = n
