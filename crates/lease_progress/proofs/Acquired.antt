@@ -67,7 +67,8 @@ module _ (site : Site) (answered : Answered) (wait end : ℕ) (f : Entry) (past 
 
   module _ (one : Step4) (input : Input) (told : IsTold site f.event f.bytes input) where
     -- what a step makes of the client
-    moves : (t before : ClientContent) (step : Step4) → before.kept ≡ t.kept → Out site answered wait end f past fair t.last salt t.kept one step → Goes (moved step before)
+    moves : (t before : ClientContent) (step : Step4) → before.kept ≡ t.kept → Out site answered wait end f past fair t.last salt t.kept one step
+        → Goes (moved step before)
     moves t before step kept (inl pending) = inl pending
     moves t before step kept (inr binds) = inr (record {
       in_time = binds.in_time;
@@ -80,9 +81,11 @@ module _ (site : Site) (answered : Answered) (wait end : ℕ) (f : Entry) (past 
     abbrev Steps : ClientContent → Type 0
     Steps t =
         Amid site answered wait end f past t.kept t.state
-        → On (Lasts f.moment) t.state (shows f.moment (message_in one) (seen_in site past)).current (kept_in site past).answered (ended_by one (kept_in site past)).grant
+        → On (Lasts f.moment) t.state (shows f.moment (message_in one) (seen_in site past)).current (kept_in site past).answered
+        (ended_by one (kept_in site past)).grant
         → Shows site f past one (step_for site.own f.moment salt input t)
-        → On AnyTerms (client_for site.own f.moment salt input t).state (seen_in site (f ∷ past)).current (kept_in site (f ∷ past)).answered (kept_in site (f ∷ past)).grant
+        → On AnyTerms (client_for site.own f.moment salt input t).state (seen_in site (f ∷ past)).current (kept_in site (f ∷ past)).answered
+        (kept_in site (f ∷ past)).grant
         → Goes (client_for site.own f.moment salt input t)
 
   abbrev settled : ClientContent → ClientContent
@@ -111,7 +114,8 @@ module _ (site : Site) (answered : Answered) (wait end : ℕ) (f : Entry) (past 
 
 -- ---- a turn of the interface
 
-module _ (own : List Mac) (b : Beginning) (o : Opening) (answered : Answered) (wait end : ℕ) (runs : runs_dhcp4 b.managed.conf ≡ true) (up : (site_of own b o).up ≡ true)
+module _ (own : List Mac) (b : Beginning) (o : Opening) (answered : Answered) (wait end : ℕ) (runs : runs_dhcp4 b.managed.conf ≡ true)
+    (up : (site_of own b o).up ≡ true)
     (fits : FitsBeginning b) (typed : KeepsTyped b) where
   abbrev site : Site
   site = site_of own b o
@@ -157,14 +161,18 @@ module _ (own : List Mac) (b : Beginning) (o : Opening) (answered : Answered) (w
         both_shown site (ask_fits_so mets before) fits.managed.mac.six f past one two t.between t.after t.others t.more_others
         (messages_so site (ask_fits_so mets before) fits.managed.mac.six f (iface_turned own met.turn (iface_after own b o mets)).said lived.3 now.fit
         ∙ ap (λ (said : List Said). map message_said said) t.said) in
-        let amid : carrying.Amid site (Unit {0}) f past one ticked = tick_carries site (Unit {0}) f past met.turn.salt (client mets) fits.managed.mac.six lived.0 before.client in
-        let after : On AnyTerms (client_for own met.turn.at met.turn.salt t.input ticked).state (seen_in site (f ∷ past)).current (kept_in site (f ∷ past)).answered
+        let amid : carrying.Amid site (Unit {0}) f past one ticked = tick_carries site (Unit {0}) f past met.turn.salt
+        (client mets) fits.managed.mac.six lived.0 before.client in
+        let after : On AnyTerms (client_for own met.turn.at met.turn.salt t.input ticked).state (seen_in site (f ∷ past)).current
+        (kept_in site (f ∷ past)).answered
         (kept_in site (f ∷ past)).grant =
-        subst (λ (c : ClientContent). On AnyTerms c.state (seen_in site (f ∷ past)).current (kept_in site (f ∷ past)).answered (kept_in site (f ∷ past)).grant) t.client
+        subst (λ (c : ClientContent). On AnyTerms c.state (seen_in site (f ∷ past)).current (kept_in site (f ∷ past)).answered
+        (kept_in site (f ∷ past)).grant) t.client
         now.client.watched.on in
         let soon : NotAfter (due_of (client mets).state) (now_in past) met.turn.at =
         sooner (machine_due Dhcp4 (iface_after own b o mets)) (machine_due LinkLocal (iface_after own b o mets)) (now_in past) met.turn.at
-        (sooner (earlier (machine_due Dhcp4 (iface_after own b o mets)) (machine_due LinkLocal (iface_after own b o mets))) (machine_due Dhcp6 (iface_after own b o mets))
+        (sooner (earlier (machine_due Dhcp4 (iface_after own b o mets)) (machine_due LinkLocal (iface_after own b o mets)))
+        (machine_due Dhcp6 (iface_after own b o mets))
         (now_in past) met.turn.at prompt.1) in
         let ticks : Amid site answered wait end f past ticked.kept ticked.state =
         tick_pending site answered wait end f past (now_in past) fair.0.served (client mets).settings.site (client mets).last met.turn.salt
@@ -209,14 +217,14 @@ module _ (own : List Mac) (b : Beginning) (o : Opening) (answered : Answered) (w
   all_go (met ∷ mets) lived prompt fair first = elim (all_go mets lived.4 prompt.2 fair.1 first) [
     | inl pending ↦ by (goes_on met mets lived fair prompt pending)
     | inr h ↦ inr (record {
-        later = met ∷ h.later;
-        earlier = h.earlier;
-        cut = ap (λ (ms : List Met). met ∷ ms) h.cut;
-        in_time = h.in_time;
-        granted = h.granted;
-        lease = h.lease;
-        held = h.held;
-      })
+      later = met ∷ h.later;
+      earlier = h.earlier;
+      cut = ap (λ (ms : List Met). met ∷ ms) h.cut;
+      in_time = h.in_time;
+      granted = h.granted;
+      lease = h.lease;
+      held = h.held;
+    })
   ]
     where
       by : Stands (met ∷ mets) ⊎ Holds end (entry_of met).moment (client (met ∷ mets)) → Stands (met ∷ mets) ⊎ HeldBy own b o (met ∷ mets) end
@@ -238,7 +246,8 @@ module _ (own : List Mac) (b : Beginning) (o : Opening) (answered : Answered) (w
       asked_so : (exchange : Exchange4) (until : ℕ) → Asked site answered wait end exchange until past → ⊥
       asked_so exchange until a =
           unlike (sym (subst (λ (x : Exchange4). AnsweredBy (a.e.moment + wait) (grants site x) a.later) a.same
-          (served.granted a.later a.e a.earlier a.opened a.cut (subst (λ n. a.e.moment + wait ≤ n) (sym is) (due_by a.e.moment (probing site.managed.conf) a.early over)) a.is_open
+          (served.granted a.later a.e a.earlier a.opened a.cut
+          (subst (λ n. a.e.moment + wait ≤ n) (sym is) (due_by a.e.moment (probing site.managed.conf) a.early over)) a.is_open
           (subst (λ (x : Exchange4). list_any (asks answered x.xid) (messages_at site a.e) ≡ true) (sym a.same) a.said)))
           ∙ none_did (a.e.moment + wait) (grants site exchange) a.e a.later a.none)
 

@@ -166,7 +166,8 @@ module _ (site : Site) (mac : FitsMac site.managed.spec.mac) (runs : runs_dhcp4 
     with_arms : (f : Iface) (reports : List Report) → f.managed ≡ site.managed → f.dhcp4 ≡ moved two c
         → Confirms (then_step (then_step (record { iface = f; said = said_in two; reports = reports }) (arms at)) (rebind_dhcp6 at salt))
     with_arms f reports managed client =
-        gated (λ (next : IfaceStep). Confirms (then_step (record { iface = next.iface; said = said_in two ++ next.said; reports = reports ++ next.reports }) (rebind_dhcp6 at salt)))
+        gated (λ (next : IfaceStep). Confirms
+        (then_step (record { iface = next.iface; said = said_in two ++ next.said; reports = reports ++ next.reports }) (rebind_dhcp6 at salt)))
         (holds_lease f) (silent f) (begin_local at f)
         (with_six (record { iface = f; said = said_in two ++ []; reports = reports ++ [] }) managed refl client)
         (with_six (record { iface = (begin_local at f).iface; said = said_in two ++ []; reports = reports ++ [] }) managed refl client)
@@ -235,7 +236,8 @@ pub record TurnGoes (site : Site) (turn : Turn) (c : ClientContent) (step : Ifac
 
 module _ (site : Site) (mac : FitsMac site.managed.spec.mac) (runs : runs_dhcp4 site.managed.conf ≡ true) (turn : Turn)
     (sent : is_in turn.unsent (index_at site) ≡ false) (on : GoesOn true (index_at site) turn.event) where
-  shaped_goes : (c : ClientContent) (rest : Iface) → TurnGoes site turn c (iface_turned site.own turn (record rest { managed = site.managed; up = true; stopped = false; dhcp4 = c }))
+  shaped_goes : (c : ClientContent) (rest : Iface)
+      → TurnGoes site turn c (iface_turned site.own turn (record rest { managed = site.managed; up = true; stopped = false; dhcp4 = c }))
   shaped_goes c rest =
       let f : Iface = record rest { managed = site.managed; up = true; stopped = false; dhcp4 = c } in
       let one : Step4 = tick_step turn.at turn.salt c in
@@ -254,7 +256,8 @@ module _ (site : Site) (mac : FitsMac site.managed.spec.mac) (runs : runs_dhcp4 
         after = h.after;
         more_others = h.others;
         said = ap (λ (more : List Said). ((said_in one ++ arps) ++ six) ++ more) h.said
-            ∙ ap (λ (front : List Said). front ++ (said_in (step_for site.own turn.at turn.salt h.input (moved one c)) ++ h.after)) (append_assoc (said_in one) arps six);
+            ∙ ap (λ (front : List Said). front ++ (said_in (step_for site.own turn.at turn.salt h.input (moved one c)) ++ h.after))
+            (append_assoc (said_in one) arps six);
         client = h.client;
       })
 

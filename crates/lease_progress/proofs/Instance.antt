@@ -1,14 +1,12 @@
 -- Each premise of the life that is written out, by computing.
-use Rattle.std.proofs.Common.{◌≡◌, ℕ, ◌+◌, ◌*◌, ◌<◌, ◌≤◌, ◌==◌, Bool, true, false, ◌&&◌, ◌||◌, nat_le, List, [], ◌∷◌, ◌++◌, map, Option, Some, None, IfSome, refl, sym, ap, subst, ◌∙◌, arith, lit<, lit≤, if◌then◌else◌}
+use Rattle.std.proofs.Common.{◌≡◌, ℕ, ◌+◌, ◌<◌, ◌==◌, Bool, true, false, ◌||◌, List, [], ◌∷◌, ◌++◌, map, Option, Some, None, IfSome, refl, sym, ap, subst, ◌∙◌, arith, lit<, if◌then◌else◌}
 use Rattle.std.proofs.lemmas.Bool.Decides.{nat_tests}
 use Rattle.std.specs.Prelude.{option_map}
 use Rattle.std.specs.List.{list_any, AllByRecursion}
 use Rattle.machine.specs.Since.{Always}
 use Rattle.net_types.specs.declared.address.Ip4.{Ip4}
-use Rattle.net_types.specs.declared.address.Mac.{Mac}
 use Rattle.arp_acd.specs.declared.detection.ArpSay.{ArpSay}
 use Rattle.arp_acd.specs.declared.detection.ArpSay.TheVariants.{Announce, Probe}
-use Rattle.frame_link.specs.declared.arp.ArpView.{ArpView}
 use Rattle.lease_text.specs.declared.lease.Terms4.{Terms4}
 use Rattle.v4_message.specs.declared.kind.MessageKind.TheVariants as kind
 use Rattle.v4_message.specs.Requests.{AskFits}
@@ -18,7 +16,7 @@ use Rattle.v4_client.specs.declared.states.Answer4.{Answer4}
 use Rattle.v4_client.specs.declared.states.Answer4.TheVariants as answer
 use Rattle.v4_client.specs.declared.states.Exchange4.{Exchange4}
 use Rattle.v4_client.specs.declared.states.Say4.{Say4}
-use Rattle.v4_client.specs.Answers.{ack_by, answering, is_chosen, is_good_ack, offer_by, reply_by, reply_in, reply_of}
+use Rattle.v4_client.specs.Answers.{answering, is_chosen, is_good_ack, reply_by, reply_in, reply_of}
 use Rattle.v4_client.specs.Granting.{terms_granted}
 use Rattle.v4_client.specs.Messages.{Arrival}
 use Rattle.v4_client.specs.Moments.{expiry}
@@ -34,19 +32,18 @@ use Rattle.client_model.specs.Dhcp4Steps.{arrival_at}
 use Rattle.client_model.proofs.AskFitting.{ask_fits}
 use Rattle.evidence_words.specs.Entries.{Entry, Offer}
 use Rattle.evidence_words.specs.Inputs.{Site, offers_at, tells_contest}
-use Rattle.evidence_words.specs.IfaceLives.{entry_of, has_failed, opening_entry, shown, site_of}
-use Rattle.lease_evidence.specs.Exchanges.{Numbered, Seen, messages_at, seen_in, show}
-use Rattle.lease_evidence.specs.LeaseBasis.{GoodAck, GoodNak}
+use Rattle.evidence_words.specs.IfaceLives.{has_failed, opening_entry, site_of}
+use Rattle.lease_evidence.specs.Exchanges.{Numbered, messages_at, seen_in, show}
 use Rattle.lease_evidence.specs.PlainIface.{client_mac}
 use Rattle.lease_evidence.specs.Replies as heard_in
 use Rattle.lease_evidence.specs.Replies.{reply_at}
-use Rattle.lease_evidence.specs.SevenTurns.{announces, beginning, discovers, duid, granted, interface, met, opening, probes, reply_frame, requests, server}
+use Rattle.lease_evidence.specs.SevenTurns.{announces, beginning, discovers, duid, granted, interface, opening, probes, reply_frame, requests, server}
 use Rattle.lease_evidence.proofs.ReplyFacts.{offer_replies_nothing}
 use Rattle.lease_evidence.proofs.SevenTurnsHeard.{ack_heard, beginning_fits, interface_fits, offer_heard}
 use Rattle.lease_evidence.proofs.Spoken.{FitsSaid, message_said}
-use Rattle.lease_progress.specs.FairTurns.{Fair, GoesWell, probing}
-use Rattle.lease_progress.specs.OneLife.{OneLifeGoesWell, nine_turns}
-use Rattle.lease_progress.specs.Serving.{AnsweredBy, EachRequest, Serves, asks, grants, is_offer_by, offers, seeks}
+use Rattle.lease_progress.specs.FairTurns.{Fair}
+use Rattle.lease_progress.specs.OneLife.{OneLifeGoesWell}
+use Rattle.lease_progress.specs.Serving.{EachRequest, Serves, asks, grants, is_offer_by, offers, seeks}
 use Rattle.lease_progress.proofs.NineTurns.{ack_alone, heard, nine_lived, nine_prompt, offer_alone}
 use Rattle.lease_progress.proofs.Paying.{AllPaid, ForGood, Paid, all_serve, answers_stay, early_paid, more_for_good, none_paid, one_paid, silent_paid}
 use Rattle.lease_progress.proofs.Shown.{messages_so}
@@ -96,37 +93,44 @@ abbrev request_said : Say4
 request_said = request (settings4.site_of interface) first_exchange 0
 
 discovers_so : messages_at site t1 ≡ Some (sent_of discover_said) ∷ []
-discovers_so = says_so t1 (Dhcp4 discover_said ∷ []) refl (record {
-  from_mac = refl;
-  to_mac = refl;
-  from = lit< tt;
-  to = lit< tt;
-  xid = lit< tt;
-  secs = lit< tt;
-  flags = lit< tt;
-  ciaddr = lit< tt;
-  mac = refl;
-  asked = tt;
-  server = tt;
-}, tt)
+discovers_so = says_so t1 (Dhcp4 discover_said ∷ []) refl (
+  record {
+    from_mac = refl;
+    to_mac = refl;
+    from = lit< tt;
+    to = lit< tt;
+    xid = lit< tt;
+    secs = lit< tt;
+    flags = lit< tt;
+    ciaddr = lit< tt;
+    mac = refl;
+    asked = tt;
+    server = tt;
+  },
+  tt,
+)
 
 requests_so : messages_at site t2 ≡ Some (sent_of request_said) ∷ []
-requests_so = says_so t2 (Dhcp4 request_said ∷ []) refl (record {
-  from_mac = refl;
-  to_mac = refl;
-  from = lit< tt;
-  to = lit< tt;
-  xid = lit< tt;
-  secs = lit< tt;
-  flags = lit< tt;
-  ciaddr = lit< tt;
-  mac = refl;
-  asked = lit< tt;
-  server = lit< tt;
-}, tt)
+requests_so = says_so t2 (Dhcp4 request_said ∷ []) refl (
+  record {
+    from_mac = refl;
+    to_mac = refl;
+    from = lit< tt;
+    to = lit< tt;
+    xid = lit< tt;
+    secs = lit< tt;
+    flags = lit< tt;
+    ciaddr = lit< tt;
+    mac = refl;
+    asked = lit< tt;
+    server = lit< tt;
+  },
+  tt,
+)
 
 -- a probe, or an announcement, is no message of DHCPv4
-arp_so : (at : ℕ) (offers : List Offer) (say : ArpSay) → map (λ o. o.bytes) (offers_at site (at_rest at offers)) ≡ map (frame_of interface.spec (ask_of duid interface)) (Arp say ∷ [])
+arp_so : (at : ℕ) (offers : List Offer) (say : ArpSay)
+    → map (λ o. o.bytes) (offers_at site (at_rest at offers)) ≡ map (frame_of interface.spec (ask_of duid interface)) (Arp say ∷ [])
     → messages_at site (at_rest at offers) ≡ None ∷ []
 arp_so at offers say frames = says_so (at_rest at offers) (Arp say ∷ []) frames (tt, tt)
 
@@ -151,7 +155,8 @@ serves0 : Serves site EachRequest 1000 (t0 ∷ [])
 serves0 = all_serve site EachRequest 1000 (t0 ∷ []) (good0 1000 [])
 
 paid1 : (now : ℕ) (front : List Entry) → now < 2001 → AllPaid site EachRequest 1000 now front (t1 ∷ t0 ∷ [])
-paid1 now front soon = one_paid site EachRequest 1000 now front t1 (t0 ∷ []) (early_paid site EachRequest 1000 now front t1 (t0 ∷ []) soon) (good0 now (front ++ t1 ∷ []))
+paid1 now front soon = one_paid site EachRequest 1000 now front t1 (t0 ∷ []) (early_paid site EachRequest 1000 now front t1 (t0 ∷ []) soon)
+    (good0 now (front ++ t1 ∷ []))
 
 serves1 : Serves site EachRequest 1000 (t1 ∷ t0 ∷ [])
 serves1 = all_serve site EachRequest 1000 (t1 ∷ t0 ∷ []) (paid1 1001 [] (lit< tt))
@@ -159,7 +164,8 @@ serves1 = all_serve site EachRequest 1000 (t1 ∷ t0 ∷ []) (paid1 1001 [] (lit
 serves2 : Serves site EachRequest 1000 (t2 ∷ t1 ∷ t0 ∷ [])
 serves2 =
     all_serve site EachRequest 1000 (t2 ∷ t1 ∷ t0 ∷ [])
-    (one_paid site EachRequest 1000 2000 [] t2 (t1 ∷ t0 ∷ []) (early_paid site EachRequest 1000 2000 [] t2 (t1 ∷ t0 ∷ []) (lit< tt)) (paid1 2000 (t2 ∷ []) (lit< tt)))
+    (one_paid site EachRequest 1000 2000 [] t2 (t1 ∷ t0 ∷ []) (early_paid site EachRequest 1000 2000 [] t2 (t1 ∷ t0 ∷ []) (lit< tt))
+    (paid1 2000 (t2 ∷ []) (lit< tt)))
 
 -- ---- what the server says
 
@@ -288,7 +294,8 @@ since8 = at_rest 8503 announces ∷ since7
 
 arp_good : (at : ℕ) (offers : List Offer) (past : List Entry) → messages_at site (at_rest at offers) ≡ None ∷ [] → Good past → Good (at_rest at offers ∷ past)
 arp_good at offers past is good =
-    more_for_good site EachRequest 1000 (at_rest at offers) past (none_sought (messages_at site (at_rest at offers)) is) (none_asked (messages_at site (at_rest at offers)) is) good
+    more_for_good site EachRequest 1000 (at_rest at offers) past (none_sought (messages_at site (at_rest at offers)) is)
+    (none_asked (messages_at site (at_rest at offers)) is) good
 
 good4 : Good since4
 good4 = arp_good 2501 probes since3 (arp_so 2501 probes (Probe granted) refl) good3
@@ -316,7 +323,8 @@ no_reply h = absurd cc
 no_grant : {A : Type 0} (terms : Terms4) → answer.Nothing ≡ answer.Ack terms → A
 no_grant terms h = absurd cc
 
-rest_fair : (at : ℕ) (offers : List Offer) (past : List Entry) → has_failed site (at_rest at offers) ≡ false → Serves site EachRequest 1000 (at_rest at offers ∷ past)
+rest_fair : (at : ℕ) (offers : List Offer) (past : List Entry) → has_failed site (at_rest at offers) ≡ false
+    → Serves site EachRequest 1000 (at_rest at offers ∷ past)
     → Fair site EachRequest 1000 (at_rest at offers) past
 rest_fair at offers past taken served = record {
   stays = tt;
@@ -348,18 +356,37 @@ ack_fair = record {
 }
 
 all_fair : Always (Fair site EachRequest 1000) (at_rest 65000 [] ∷ since8)
-all_fair =
-    (rest_fair 65000 [] since8 refl (all_serve site EachRequest 1000 _ (good9 65000 [])),
-    (rest_fair 8503 announces since7 refl (all_serve site EachRequest 1000 _ (good8 8503 [])),
-    (rest_fair 6503 announces since6 refl (all_serve site EachRequest 1000 _ (good7 6503 [])),
-    (rest_fair 4503 probes since5 refl (all_serve site EachRequest 1000 _ (good6 4503 [])),
-    (rest_fair 3502 probes since4 refl (all_serve site EachRequest 1000 _ (good5 3502 [])),
-    (rest_fair 2501 probes since3 refl (all_serve site EachRequest 1000 _ (good4 2501 [])),
-    (ack_fair,
-    (offer_fair,
-    (rest_fair 1001 discovers (t0 ∷ []) refl serves1,
-    (rest_fair 1000 [] [] refl serves0,
-    tt))))))))))
+all_fair = (
+  rest_fair 65000 [] since8 refl (all_serve site EachRequest 1000 _ (good9 65000 [])),
+  (
+    rest_fair 8503 announces since7 refl (all_serve site EachRequest 1000 _ (good8 8503 [])),
+    (
+      rest_fair 6503 announces since6 refl (all_serve site EachRequest 1000 _ (good7 6503 [])),
+      (
+        rest_fair 4503 probes since5 refl (all_serve site EachRequest 1000 _ (good6 4503 [])),
+        (
+          rest_fair 3502 probes since4 refl (all_serve site EachRequest 1000 _ (good5 3502 [])),
+          (
+            rest_fair 2501 probes since3 refl (all_serve site EachRequest 1000 _ (good4 2501 [])),
+            (
+              ack_fair,
+              (
+                offer_fair,
+                (
+                  rest_fair 1001 discovers (t0 ∷ []) refl serves1,
+                  (
+                    rest_fair 1000 [] [] refl serves0,
+                    tt,
+                  ),
+                ),
+              ),
+            ),
+          ),
+        ),
+      ),
+    ),
+  ),
+)
 
 pub one_life_goes_well : OneLifeGoesWell
 one_life_goes_well = record {

@@ -143,15 +143,18 @@ module _ (own : List Mac) (b : Beginning) (o : Opening) (fits : FitsBeginning b)
 
   turned : (mets : List Met) → IsLived own b o mets → Turned site (Clean mets) (iface mets) (said_last own b o mets) (shown o mets)
   turned [] lived =
-      opens_leased own (Clean []) o.at o.salt lived.0 o.offers b fits.managed fits.duid (both_hold b.kept4 fits.kept4 typed) (is_up o.up b.managed.spec.index.number)
+      opens_leased own (Clean []) o.at o.salt lived.0 o.offers b fits.managed fits.duid (both_hold b.kept4 fits.kept4 typed)
+      (is_up o.up b.managed.spec.index.number)
       (each_offered b.managed.spec (ask_of b.duid b.managed) (Clean []) (opens b o).said (offers_at site (opening_entry o)) lived.1 (λ k. k))
   turned (met ∷ mets) lived =
       let before : Turned site (is_in met.turn.unsent b.managed.spec.index.number ≡ false) (iface mets) (said_last own b o mets) (shown o mets) =
       subst (λ (f : Bool). Turned site (f ≡ false) (iface mets) (said_last own b o mets) (shown o mets)) (sym lived.2) (turned mets lived.4) in
-      turn_leased site fits.managed (Clean (met ∷ mets)) met.turn.salt (entry_of met) lived.0 lived.1 (shown o mets) met.turn.unsent (iface mets) (same_managed mets)
+      turn_leased site fits.managed (Clean (met ∷ mets)) met.turn.salt (entry_of met) lived.0 lived.1 (shown o mets) met.turn.unsent (iface mets)
+      (same_managed mets)
       (subst (λ (m : Managed). Turned site (is_in met.turn.unsent m.spec.index.number ≡ false) (iface mets) (said_last own b o mets) (shown o mets))
       (sym (same_managed mets)) before).leased
-      (each_offered b.managed.spec (ask_of b.duid b.managed) (Clean (met ∷ mets)) (said_last own b o (met ∷ mets)) (offers_at site (entry_of met)) lived.3 (λ k. k))
+      (each_offered b.managed.spec (ask_of b.duid b.managed) (Clean (met ∷ mets)) (said_last own b o (met ∷ mets)) (offers_at site (entry_of met)) lived.3
+      (λ k. k))
 
   pub known : (answered : Answered) (wait : ℕ) (mets : List Met) → site.up ≡ true → IsLived own b o mets → Always (Fair site answered wait) (shown o mets)
       → Known own b o mets

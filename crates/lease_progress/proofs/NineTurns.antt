@@ -1,5 +1,5 @@
 -- The life that is written out is one, and its turns come in time.
-use Rattle.std.proofs.Common.{◌≡◌, ℕ, ◌+◌, ◌<◌, ◌≤◌, Bool, true, false, List, [], ◌∷◌, map, Option, Some, None, refl, sym, ap, subst, ◌∙◌, lit<, lit≤}
+use Rattle.std.proofs.Common.{◌≡◌, ℕ, List, [], ◌∷◌, map, Option, Some, None, refl, sym, ap, subst, ◌∙◌, lit<, lit≤}
 use lib.Count.{count_leading_zeros}
 use Rattle.net_types.specs.Marks.{AreBytes}
 use Rattle.net_types.specs.declared.address.Mac.{Mac}
@@ -9,8 +9,6 @@ use Rattle.v6_frames.specs.Heard.{HeardMessage6, heard6_in}
 use Rattle.v6_client.specs.Runs.{tick_turned}
 use Rattle.v4_message.specs.declared.kind.MessageKind.{MessageKind}
 use Rattle.v4_message.specs.declared.kind.MessageKind.TheVariants as kind
-use Rattle.v4_message.specs.Messages.{Message4}
-use Rattle.v4_options.specs.OptionArea.{Instance}
 use Rattle.world.specs.declared.wakes.Event.TheVariants.{Frame, Quiet}
 use Rattle.client_model.specs.declared.interfaces.Iface.{Iface}
 use Rattle.client_model.specs.ClientSettings.{ask_of}
@@ -21,7 +19,7 @@ use Rattle.client_model.specs.Interfaces.{iface_due, ticked}
 use Rattle.evidence_words.specs.Entries.{Offer}
 use Rattle.evidence_words.specs.IfaceLives.{iface_after, IsLived}
 use Rattle.lease_evidence.specs.PlainIface.{client_mac}
-use Rattle.lease_evidence.specs.SevenTurns.{announces, beginning, discovers, duid, granted, interface, met, opening, probes, reply_frame, requests, server_mac, seven_turns}
+use Rattle.lease_evidence.specs.SevenTurns.{announces, beginning, discovers, duid, granted, interface, met, opening, reply_frame, requests, server_mac}
 use Rattle.lease_evidence.proofs.LeasedInputs.{packet_no_message}
 use Rattle.lease_evidence.proofs.SevenTurnsHeard.{ack_heard, offer_heard, seven_lived}
 use Rattle.lease_progress.specs.OneLife.{nine_turns}
@@ -42,7 +40,8 @@ heard sort number = record {
 }
 
 -- a message is no ARP packet
-no_packet_so : (bytes : List ℕ) (message : HeardMessage) → heard4_in client_mac bytes ≡ Some message → (arp : Option ArpView) → arp_heard bytes ≡ arp → arp ≡ None
+no_packet_so : (bytes : List ℕ) (message : HeardMessage) → heard4_in client_mac bytes ≡ Some message → (arp : Option ArpView) → arp_heard bytes ≡ arp
+    → arp ≡ None
 no_packet_so bytes message h None is = refl
 no_packet_so bytes message h (Some arp) is = absurd (unlike (sym (packet_no_message client_mac bytes arp is) ∙ h))
   where
@@ -83,7 +82,8 @@ holding =
 abbrev granted_then : IfaceStep
 granted_then = hearing 2500 asked None (Some (heard kind.Ack 5)) None
 
-acked : iface_turned own (met 2500 (Frame 1 304) (reply_frame 5) []).turn (iface_turned own (met 2000 (Frame 1 304) (reply_frame 2) requests).turn seeking).iface ≡ granted_then
+acked : iface_turned own (met 2500 (Frame 1 304) (reply_frame 5) []).turn
+    (iface_turned own (met 2000 (Frame 1 304) (reply_frame 2) requests).turn seeking).iface ≡ granted_then
 acked = ap (λ (step : IfaceStep). iface_turned own (met 2500 (Frame 1 304) (reply_frame 5) []).turn step.iface) asking ∙ holding
 
 abbrev quiet_turn : ℕ → Iface → IfaceStep
@@ -109,7 +109,8 @@ abbrev sixth : IfaceStep → IfaceStep
 sixth step = quiet_turn 65000 (fifth step).iface
 
 abbrev the_ack : IfaceStep
-the_ack = iface_turned own (met 2500 (Frame 1 304) (reply_frame 5) []).turn (iface_turned own (met 2000 (Frame 1 304) (reply_frame 2) requests).turn seeking).iface
+the_ack = iface_turned own (met 2500 (Frame 1 304) (reply_frame 5) []).turn
+    (iface_turned own (met 2000 (Frame 1 304) (reply_frame 2) requests).turn seeking).iface
 
 -- ---- a life
 

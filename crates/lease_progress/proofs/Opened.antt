@@ -126,7 +126,8 @@ module _ (own : List Mac) (b : Beginning) (o : Opening) (runs : runs_dhcp4 b.man
 
   begun : Begun (then_step (then_step four (begin_local o.at)) (begin_dhcp6 o.at o.salt))
   begun =
-      gated (λ (next : IfaceStep). Begun (record { iface = next.iface; said = (said_in first ++ []) ++ next.said; reports = (four.reports ++ []) ++ next.reports }))
+      gated (λ (next : IfaceStep). Begun
+      (record { iface = next.iface; said = (said_in first ++ []) ++ next.said; reports = (four.reports ++ []) ++ next.reports }))
       (runs_dhcp6 b.managed.conf) (dhcp6_step five (carrier_turned carrier6.Up o.at o.salt five.dhcp6)) (silent five)
       (record {
         after = said6_in five (carrier_turned carrier6.Up o.at o.salt five.dhcp6).out;
@@ -147,7 +148,8 @@ module _ (own : List Mac) (b : Beginning) (o : Opening) (runs : runs_dhcp4 b.man
     among : (says : Option Sent4 → Bool) (say : Say4) → first.say ≡ Some say → says (Some (sent_of say)) ≡ true
         → list_any says (messages_at site (opening_entry o)) ≡ true
     among says say is h =
-        ap (list_any says) (messages_so site (subst (λ (s : SettingsContent). AskFits s.ask) opening_known.client.settings opening_known.client.sound.ask) fits.managed.mac.six
+        ap (list_any says) (messages_so site
+        (subst (λ (s : SettingsContent). AskFits s.ask) opening_known.client.settings opening_known.client.sound.ask) fits.managed.mac.six
         (opening_entry o) (opens b o).said lived.1 opening_known.fit ∙ ap (λ (said : List Said). map message_said said) opened_so.said)
         ∙ in_front says (said_in first) opened_so.after (by_step says first say is h)
 
@@ -227,7 +229,8 @@ module _ (own : List Mac) (b : Beginning) (o : Opening) (runs : runs_dhcp4 b.man
       open_so : OpenedAs exchange (kept_in site (shown o [])).answered (seen_in site (shown o [])).current
       open_so =
           opened_as exchange (kept_in site (shown o [])).answered (seen_in site (shown o [])).current
-          (subst (λ (s : State4). On AnyTerms s (seen_in site (shown o [])).current (kept_in site (shown o [])).answered (kept_in site (shown o [])).grant) state_so
+          (subst (λ (s : State4). On AnyTerms s (seen_in site (shown o [])).current (kept_in site (shown o [])).answered
+          (kept_in site (shown o [])).grant) state_so
           opening_known.client.watched.on).0
 
       broadcast : (which : Answered) (sent : Sent4) → (sent.ends.to.number == 4294967295) ≡ true → is_answered which sent ≡ true
@@ -251,7 +254,8 @@ module _ (own : List Mac) (b : Beginning) (o : Opening) (runs : runs_dhcp4 b.man
               opened = open_so.opened;
               is_open = open_so.is;
               same = open_so.same;
-              said = among (asks answered exchange.xid) _ (ap (λ (step : Step4). step.say) asks_kept) (both (equal_number exchange.xid) (broadcast answered _ refl));
+              said = among (asks answered exchange.xid) _ (ap (λ (step : Step4). step.say) asks_kept)
+                  (both (equal_number exchange.xid) (broadcast answered _ refl));
               none = refl;
               lasts = next (o.at + wait);
             };
@@ -278,7 +282,8 @@ first_lived : (own : List Mac) (b : Beginning) (o : Opening) (mets : List Met) �
 first_lived own b o [] lived = lived
 first_lived own b o (met ∷ mets) lived = first_lived own b o mets lived.4
 
-first_fair : (own : List Mac) (b : Beginning) (o : Opening) (answered : Answered) (wait : ℕ) (mets : List Met) → Always (Fair (site_of own b o) answered wait) (shown o mets)
+first_fair : (own : List Mac) (b : Beginning) (o : Opening) (answered : Answered) (wait : ℕ) (mets : List Met)
+    → Always (Fair (site_of own b o) answered wait) (shown o mets)
     → Always (Fair (site_of own b o) answered wait) (shown o [])
 first_fair own b o answered wait [] fair = fair
 first_fair own b o answered wait (met ∷ mets) fair = first_fair own b o answered wait mets fair.1
@@ -291,4 +296,5 @@ acquires own b o mets answered wait g quick anew over =
 pub reacquires : Reacquires
 reacquires own b o mets answered wait lease g kept unexpired quick over =
     held_in_time own b o answered wait (o.at + reacquiring b.managed.conf wait) g.runs g.up g.fits g.typed mets g.lived g.prompt g.fair
-    (asks_again_so own b o g.runs g.up g.fits g.typed answered wait (first_lived own b o mets g.lived) (first_fair own b o answered wait mets g.fair) lease kept unexpired quick) over
+    (asks_again_so own b o g.runs g.up g.fits g.typed answered wait (first_lived own b o mets g.lived)
+    (first_fair own b o answered wait mets g.fair) lease kept unexpired quick) over

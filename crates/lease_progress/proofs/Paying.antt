@@ -1,5 +1,5 @@
 -- How it is shown that servers answered in time, a turn at a time.
-use Rattle.std.proofs.Common.{◌≡◌, ℕ, ◌+◌, ◌<◌, ◌≤◌, Bool, true, false, ◌&&◌, ◌||◌, nat_le, List, [], ◌∷◌, ◌++◌, append_assoc, Option, Some, None, refl, sym, ap, subst, ◌∙◌, arith}
+use Rattle.std.proofs.Common.{◌≡◌, ℕ, ◌+◌, ◌<◌, ◌≤◌, Bool, true, false, ◌&&◌, ◌||◌, nat_le, List, [], ◌∷◌, ◌++◌, append_assoc, Some, refl, sym, ap, subst, ◌∙◌, arith}
 use Rattle.std.specs.List.{list_any}
 use Rattle.evidence_words.specs.Entries.{Entry}
 use Rattle.evidence_words.specs.Inputs.{Site}
@@ -34,7 +34,8 @@ module _ (site : Site) (answered : Answered) (wait : ℕ) where
   append_none [] = refl
   append_none (x ∷ turns) = ap (λ (more : List Entry). x ∷ more) (append_none turns)
 
-  pub one_paid : (now : ℕ) (front : List Entry) (x : Entry) (past : List Entry) → Paid now front x past → AllPaid now (front ++ x ∷ []) past → AllPaid now front (x ∷ past)
+  pub one_paid : (now : ℕ) (front : List Entry) (x : Entry) (past : List Entry) → Paid now front x past → AllPaid now (front ++ x ∷ []) past
+      → AllPaid now front (x ∷ past)
   unfolding first_or others_of
   one_paid now front x past this rest [] e earlier cut =
       subst (λ (later : List Entry). Paid now later e earlier) (sym (append_none front))

@@ -51,7 +51,8 @@ module _ (limit : ℕ) (good : Entry → Bool) (f : Entry) where
   answers_in_time later none answers =
       split (nat_le limit f.moment)
       (λ over. let d : (nat_le f.moment limit ≡ true) × (good f ≡ true) =
-      this_did (nat_le f.moment limit) (good f) (list_any (λ e. nat_le e.moment limit && good e) later) (none_did later none) (answers (at_most limit f.moment over)) in
+      this_did (nat_le f.moment limit) (good f) (list_any (λ e. nat_le e.moment limit && good e) later) (none_did later none)
+      (answers (at_most limit f.moment over)) in
       inr (at_most f.moment limit d.0, d.1))
       (λ not_yet. inl (less limit f.moment not_yet))
     where

@@ -130,7 +130,8 @@ module _ (site : Site) (answered : Answered) (wait : ℕ) (f : Entry) (past : Li
       let g : GrantedOn terms (ended_by one (kept_in site past)).grant = granted_on K terms (ended_by one (kept_in site past)).grant holds in
       subst (λ (t : Terms4). contests site t.net.ip f ≡ false) g.same
       (fair.alone g.found.opened g.found.terms
-      (any_time site g.found.opened g.found.terms past ((observes site past).stands g.found (stood (tells_end (message_in one)) (kept_in site past).grant g.found g.is))))
+      (any_time site g.found.opened g.found.terms past
+      ((observes site past).stands g.found (stood (tells_end (message_in one)) (kept_in site past).grant g.found g.is))))
 
 equal_number : (n : ℕ) → (n == n) ≡ true
 equal_number n = grind (arith, nat_tests)
@@ -195,7 +196,8 @@ module _ (site : Site) (answered : Answered) (wait end : ℕ) (f : Entry) (past 
       -- an address that is probed
       probed_hears : (xid : ℕ) (terms : Terms4) (origin : Origin4) (stands : Option Terms4) (iface : IfIndex) (addr : Ip4) (phase : Phase)
           → Checks site answered wait end f.moment terms (record { iface = iface; addr = addr; phase = phase }) → contests site terms.net.ip f ≡ false
-          → Out (checked turn xid terms origin (detection.heard_row site.own (record { iface = iface; addr = addr; phase = phase }) phase arp f.moment).acd stands
+          → Out (checked turn xid terms origin
+          (detection.heard_row site.own (record { iface = iface; addr = addr; phase = phase }) phase arp f.moment).acd stands
           (detection.heard_row site.own (record { iface = iface; addr = addr; phase = phase }) phase arp f.moment).says)
       probed_hears xid terms origin stands iface addr (Probing sent due) c alone =
           let none : is_contested site.own terms.net.ip arp ≡ false =
@@ -220,7 +222,8 @@ module _ (site : Site) (answered : Answered) (wait end : ℕ) (f : Entry) (past 
           still : (acd : Acd) (arp_said : Option ArpSay) → Out (record (rests turn (Bound xid terms (Some acd))) { arp = arp_said })
           still acd arp_said = inr (record { in_time = h.in_time; bound = refl; keeps = λ name fresh. h.keeps })
 
-    pub packet_pending : (K : Terms4 → Type 0) (arp : ArpView) → arp_on (index_at site) f.event f.bytes ≡ Some arp → (had : ℕ) (current : Option Numbered) (state : State4)
+    pub packet_pending : (K : Terms4 → Type 0) (arp : ArpView) → arp_on (index_at site) f.event f.bytes ≡ Some arp
+        → (had : ℕ) (current : Option Numbered) (state : State4)
         → On K state current had (ended_by one (kept_in site past)).grant → AmidTurn state → Out (row.arp_row site.own turn arp state)
     packet_pending K arp came had current Off on h = absurd h
     packet_pending K arp came had current (Init due) on h = rests_pending (Init due) h
@@ -268,7 +271,8 @@ module _ (site : Site) (answered : Answered) (wait end : ℕ) (f : Entry) (past 
           within = early;
           phase = (omega arith, soon probed, now_soon probed);
           lasts = not_due (expiry terms) (f.moment + probing site.managed.conf)
-              (fair.lasts o.opened terms (record { is_open = open_now (row.granted turn xid terms origin stands) silent shown; grants = replies (answer.Ack terms) is }));
+              (fair.lasts o.opened terms
+              (record { is_open = open_now (row.granted turn xid terms origin stands) silent shown; grants = replies (answer.Ack terms) is }));
           same = refl;
         }))
       where
@@ -292,7 +296,8 @@ module _ (site : Site) (answered : Answered) (wait end : ℕ) (f : Entry) (past 
     answered_out state goes_on (answer.Ack terms) is shown = granted_out terms is shown
     answered_out state goes_on answer.Nak is shown =
         absurd (not_both site o.opened past (granted_nothing site past f.moment one exchange o)
-        (fair.unrefused o.opened (record { is_open = open_now (row.answered turn xid origin stands state answer.Nak) refl shown; refuses = replies answer.Nak is })))
+        (fair.unrefused o.opened
+        (record { is_open = open_now (row.answered turn xid origin stands state answer.Nak) refl shown; refuses = replies answer.Nak is })))
     answered_out state goes_on answer.Nothing is shown = inl (goes_on (ap is_grant is))
     answered_out state goes_on (answer.Offer address server) is shown = inl (goes_on (ap is_grant is))
 
@@ -306,7 +311,8 @@ module _ (site : Site) (answered : Answered) (wait end : ℕ) (f : Entry) (past 
     broadcast BroadcastAlone sent h = h
 
     offered_out : (said : Answer4) → offers site xid f ≡ is_offer said → ShownBy (row.offered turn xid secs selecting_state said)
-        → (K : Terms4 → Type 0) (had : ℕ) (grant : Option Grant) → On K (row.offered turn xid secs selecting_state said).state (seen_in site (f ∷ past)).current had grant
+        → (K : Terms4 → Type 0) (had : ℕ) (grant : Option Grant)
+        → On K (row.offered turn xid secs selecting_state said).state (seen_in site (f ∷ past)).current had grant
         → Out (row.offered turn xid secs selecting_state said)
     offered_out answer.Nothing is shown K had grant on = inl (asks_long, n.unanswered is)
     offered_out (answer.Ack terms) is shown K had grant on = inl (asks_long, n.unanswered is)
@@ -352,7 +358,8 @@ module _ (site : Site) (answered : Answered) (wait end : ℕ) (f : Entry) (past 
     message_pending K L grant after_grant after_had Off on after shown h = absurd h
     message_pending K L grant after_grant after_had (Init due) on after shown h = inl h
     message_pending K L grant after_grant after_had (Selecting xid began secs backoff due) on after shown h =
-        offered_out xid began secs due backoff h.0 h.1 (offer_by settings arrival (answering settings xid arrival)) (offers_is xid) shown L after_had after_grant after
+        offered_out xid began secs due backoff h.0 h.1 (offer_by settings arrival (answering settings xid arrival))
+        (offers_is xid) shown L after_had after_grant after
     message_pending K L grant after_grant after_had (Requesting exchange secs backoff due) on after shown h =
         answered_out exchange (opened_as exchange (kept_in site past).answered (amid site past f.moment one).current on) h.early exchange.xid Offered None
         (Requesting exchange secs backoff due) h.unanswered (reply_in settings arrival exchange) (reply_is exchange) shown

@@ -94,9 +94,11 @@ module _ (site : Site) (answered : Answered) (wait end : ℕ) (f : Entry) (past 
   abbrev After : Step4 → Type 0
   After step = Says step → Amid site answered wait end f past (kept_after step.keep name fresh kept) step.state
 
-  init_tick : (due : ℕ) → Waits site answered wait end now due → NotAfter (Some due) now f.moment → (b : Bool) → After (if b then discovers turn else rests turn (Init due))
+  init_tick : (due : ℕ) → Waits site answered wait end now due → NotAfter (Some due) now f.moment → (b : Bool)
+      → After (if b then discovers turn else rests turn (Init due))
   init_tick due w soon true says =
-      let left : f.moment + (wait + (wait + probing site.managed.conf)) ≤ end = nearer f.moment due now (wait + (wait + probing site.managed.conf)) end soon w.soon w.now_soon in (
+      let left : f.moment + (wait + (wait + probing site.managed.conf)) ≤ end = nearer f.moment due now
+      (wait + (wait + probing site.managed.conf)) end soon w.soon w.now_soon in (
         w.asks_long,
         record {
           early = omega (arith, left);
@@ -149,7 +151,8 @@ module _ (site : Site) (answered : Answered) (wait end : ℕ) (f : Entry) (past 
       over due at le less = omega (arith, le, less)
 
   requesting_after : (exchange : Exchange4) (secs : ℕ) (backoff : Backoff) (due : ℕ) → Asked site answered wait end exchange (due + left_after backoff) past
-      → (b : Bool) → nat_le due f.moment ≡ b → After (if b then requesting_tick turn exchange secs backoff else rests turn (Requesting exchange secs backoff due))
+      → (b : Bool) → nat_le due f.moment ≡ b
+      → After (if b then requesting_tick turn exchange secs backoff else rests turn (Requesting exchange secs backoff due))
   requesting_after exchange secs backoff due a true is says =
       requested exchange secs backoff due (asks_on site answered wait end f past served exchange (due + left_after backoff) a) (has_come due f.moment is) says
   requesting_after exchange secs backoff due a false is says = asks_on site answered wait end f past served exchange (due + left_after backoff) a
@@ -164,10 +167,12 @@ module _ (site : Site) (answered : Answered) (wait end : ℕ) (f : Entry) (past 
       unanswered = λ none. record { limit = a.limit; asked = now_asked.unanswered none; ends = a.ends; stays = a.stays };
     }
 
-    rebooting_after : (b : Bool) → After (if b then rebooting_tick turn exchange backoff stop stands else rests turn (Rebooting exchange backoff stop due stands))
+    rebooting_after : (b : Bool)
+        → After (if b then rebooting_tick turn exchange backoff stop stands else rests turn (Rebooting exchange backoff stop due stands))
     rebooting_after true says =
         otherwise After (is_due (standing_until stands) f.moment) (expires turn) _ (a.stays f.moment now_asked.before)
-        (otherwise After (nat_le stop f.moment) _ (rebooting turn exchange (doubled backoff) stop stands) (not_over stop a.limit f.moment now_asked.before a.ends)
+        (otherwise After (nat_le stop f.moment) _ (rebooting turn exchange (doubled backoff) stop stands)
+        (not_over stop a.limit f.moment now_asked.before a.ends)
         (λ more. again)) says
     rebooting_after false says = again
 
@@ -248,7 +253,8 @@ module _ (site : Site) (answered : Answered) (wait end : ℕ) (f : Entry) (past 
       probed : Early → After (judged (detection.acd_tick machine f.moment salt))
       probed e =
           choose (λ step. After (judged step)) (nat_le due f.moment) (detection.tick_row machine (Probing sent due) f.moment salt) (detection.stays machine)
-          (λ come. choose (λ step. After (judged step)) (nat_lt sent 3) (detection.moves machine (Probing (sent + 1) (detection.due_after iface (sent + 1) f.moment salt)) SayProbe)
+          (λ come. choose (λ step. After (judged step)) (nat_lt sent 3)
+          (detection.moves machine (Probing (sent + 1) (detection.due_after iface (sent + 1) f.moment salt)) SayProbe)
           (detection.moves machine (Announcing (f.moment + 2000) None) Passed)
           (λ few. probes_on e (less sent 3 few)) (λ enough. passes e))
           (λ not_yet says. rested e)
@@ -256,17 +262,20 @@ module _ (site : Site) (answered : Answered) (wait end : ℕ) (f : Entry) (past 
           less : (a b : ℕ) → nat_lt a b ≡ true → a < b
           less a b h = grind (arith, nat_tests)
 
-      checking_after : Early → (b : Bool) → After (if b then checking_tick turn xid terms origin machine stands else rests turn (Checking xid terms origin machine stands))
+      checking_after : Early → (b : Bool)
+          → After (if b then checking_tick turn xid terms origin machine stands else rests turn (Checking xid terms origin machine stands))
       checking_after e true says =
           choose After (is_due (standing_until stands) f.moment) _ _
           (λ over more. rested e)
-          (λ goes_on. otherwise After (is_due (expiry terms) f.moment) _ _ (not_due_before (expiry terms) f.moment e.limit (soon e.here) e.lasts) (probed e)) says
+          (λ goes_on. otherwise After (is_due (expiry terms) f.moment) _ _ (not_due_before (expiry terms) f.moment e.limit (soon e.here) e.lasts)
+          (probed e)) says
         where
           soon : f.moment + left_in sent ≤ e.limit → f.moment ≤ e.limit
           soon h = omega (arith, h)
       checking_after e false says = rested e
 
-    checking_by : (iface : IfIndex) (addr : Ip4) (phase : Phase) → Checks site answered wait end now terms (record { iface = iface; addr = addr; phase = phase })
+    checking_by : (iface : IfIndex) (addr : Ip4) (phase : Phase)
+        → Checks site answered wait end now terms (record { iface = iface; addr = addr; phase = phase })
         → NotAfter (detection.due_of phase) now f.moment
         → (b : Bool) → After (if b then checking_tick turn xid terms origin (record { iface = iface; addr = addr; phase = phase }) stands
         else rests turn (Checking xid terms origin (record { iface = iface; addr = addr; phase = phase }) stands))

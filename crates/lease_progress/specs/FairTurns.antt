@@ -25,8 +25,8 @@ abbrev pub probing : IfConf → ℕ
 probing conf = if conf.noarp then 0 else PROBE_WAIT + (PROBE_NUM - 1) * PROBE_MAX + ANNOUNCE_WAIT
 
 -- The carrier stays, nothing is given back, and no stop comes. The link takes the frames. An exchange that wasn't
--- granted isn't refused (RFC 2131, section 3.2), and no other host contests an address that was granted. What is granted
--- isn't over before it is probed. Servers answer in time.
+-- granted isn't refused (RFC 2131, section 3.2), and no other host contests an address that was granted. What is
+-- granted isn't over before it is probed. Servers answer in time.
 pub record Fair (site : Site) (answered : Answered) (wait : ℕ) (e : Entry) (past : List Entry) : Type 0 where
   pub stays : StaysOn site e past
   pub taken : has_failed site e ≡ false

@@ -8,8 +8,8 @@ use Rattle.lease_progress.specs.FairTurns.{GoesWell}
 use Rattle.lease_progress.specs.LeaseHeld.{acquiring, asks_again, least_asking}
 use Rattle.lease_progress.specs.Serving.{EachRequest}
 
--- DISCOVER; an OFFER after 999, and REQUEST; an ACK after 500; three probes, the gain, and the second announcement; and a
--- minute later
+-- DISCOVER; an OFFER after 999, and REQUEST; an ACK after 500; three probes, the gain, and the second announcement; and
+-- a minute later
 abbrev pub nine_turns : List Met
 nine_turns = met 65000 Quiet [] [] ∷ met 8503 Quiet [] announces ∷ seven_turns
 
