@@ -184,7 +184,8 @@ module _ (site : Site) (answered_so : Answered) (wait : ℕ) (free : Type 0) (pa
     answering_so xid from stands state (answer.Offer address server) it on granted = on
 
     -- none of these says anything
-    answered_silent : (xid : ℕ) (from : Origin4) (stands : Option Terms4) (state : State4) (said : Answer4) → message_in (answered turn xid from stands state said) ≡ None
+    answered_silent : (xid : ℕ) (from : Origin4) (stands : Option Terms4) (state : State4) (said : Answer4)
+        → message_in (answered turn xid from stands state said) ≡ None
     answered_silent xid from stands state (answer.Ack terms) = gated (λ (step : Step4). message_in step ≡ None) turn.site.noarp _ _ refl refl
     answered_silent xid from stands state answer.Nak = refl
     answered_silent xid from stands state answer.Nothing = refl
@@ -196,7 +197,8 @@ module _ (site : Site) (answered_so : Answered) (wait : ℕ) (free : Type 0) (pa
     renewed_silent xid told acd state answer.Nothing = refl
     renewed_silent xid told acd state (answer.Offer address server) = refl
 
-    renewing_so : (exchange : Exchange4) (told : News4) (old : Terms4) (acd : Option Acd) (state : State4) (said : Answer4) → reply_in settings arrival exchange ≡ said
+    renewing_so : (exchange : Exchange4) (told : News4) (old : Terms4) (acd : Option Acd) (state : State4) (said : Answer4)
+        → reply_in settings arrival exchange ≡ said
         → DetectsIp old.net.ip acd → exchange.address ≡ old.net.ip → HeardWell exchange → (is_grant said ≡ false → KeepsSo state)
         → KeepsSo (renewed turn exchange.xid told acd state said).state
     renewing_so exchange told old acd state (answer.Ack terms) is detected asked well on =
@@ -214,9 +216,6 @@ module _ (site : Site) (answered_so : Answered) (wait : ℕ) (free : Type 0) (pa
 
     abbrev step_of : State4 → Step4
     step_of state = heard_row turn (answer_of settings arrival state) state
-
-    grant_of : (exchange : Exchange4) (said : Answer4) → reply_in settings arrival exchange ≡ said → is_grant said ≡ false → is_grant (reply_in settings arrival exchange) ≡ false
-    grant_of exchange said is none = ap is_grant is ∙ none
 
     pub heard_so : (K : Terms4 → Type 0) (grant : Option Grant) (state : State4) → On K state current k grant
         → ((exchange : Exchange4) → Asks exchange k current → message_in (step_of state) ≡ None → HeardWell exchange)

@@ -5,7 +5,7 @@ use Rattle.std.specs.List.{list_any}
 use Rattle.std.specs.Prelude.{◌==◌}
 use Rattle.machine.specs.Moment.{is_due}
 use Rattle.machine.specs.Since.{Always}
-use Rattle.net_types.proofs.CaseLaws.{split, gated}
+use Rattle.net_types.proofs.CaseLaws.{gated}
 use Rattle.net_types.specs.declared.address.Mac.{Mac}
 use Rattle.frame_link.specs.declared.arp.ArpView.{ArpView}
 use Rattle.lease_text.specs.Bounds.{FitsTerms}
@@ -44,72 +44,27 @@ use Rattle.client_model.specs.IfaceTurns.{arp_heard, input_step, iface_turned}
 use Rattle.client_model.specs.Interfaces.{begins as machines_begin, carrier_at_opening, opening_told, resting, restarted, ticked}
 use Rattle.client_model.specs.KeptLeases.{Beginning}
 use Rattle.evidence_words.specs.Entries.{Entry}
-use Rattle.evidence_words.specs.Inputs.{Site, GoesOn, StaysOn, arp_on, carrier_after, has_carrier, index_at, is_stop, is_stopped}
-use Rattle.evidence_words.specs.IfaceLives.{Opening, Met, site_of, entry_of, shown, opens, iface_after, failed_last, now_in}
+use Rattle.evidence_words.specs.Inputs.{Site, GoesOn, arp_on, index_at}
+use Rattle.evidence_words.specs.IfaceLives.{Opening, Met, site_of, entry_of, shown, opens, iface_after, now_in}
 use Rattle.lease_evidence.specs.Exchanges.{messages_at, seen_in, show, shows}
 use Rattle.lease_evidence.specs.Replies.{message_on}
 use Rattle.lease_evidence.proofs.Carrying as evidence
-use Rattle.lease_evidence.proofs.LeasedInputs.{Leased, packet_no_message}
+use Rattle.lease_evidence.proofs.LeasedInputs.{packet_no_message}
 use Rattle.lease_evidence.proofs.Spoken.{message_said, said_all, shows_all}
-use Rattle.lease_evidence.proofs.Watching.{AnyTerms, Lasts, message_in}
-use Rattle.lease_progress.specs.FairTurns.{Fair, GoesWell}
+use Rattle.lease_evidence.proofs.Watching.{AnyTerms, message_in}
+use Rattle.lease_progress.proofs.Lived.{Known, carried, known, none_failed}
+use Rattle.lease_progress.specs.FairTurns.{GoesWell}
 use Rattle.lease_progress.specs.LeaseStays.{Renewable, StaysHeld}
 use Rattle.lease_progress.specs.Prompt.{NotAfter}
 use Rattle.lease_progress.specs.Serving.{Answered, EachRequest, BroadcastAlone, asks}
 use Rattle.lease_keeping.specs.LeaseKept.{HoldsAt, HoldsMeanwhile}
 use Rattle.lease_keeping.proofs.Asking.{AskedIn, by_then}
 use Rattle.lease_keeping.proofs.Carrying.{Ahead, Keeps, WhileRebinding, WhileRenewing, is_bound_so, none_free}
-use Rattle.lease_keeping.proofs.Lives.{Clean, leased, messages, same_managed}
+use Rattle.lease_keeping.proofs.Lives.{messages}
 use Rattle.lease_keeping.proofs.Moments.{sooner}
 use Rattle.lease_keeping.proofs.Ticking.{bound_broadcast, bound_each, rebinding_broadcast, renewing_broadcast, renewing_each, tick_keeps}
 use Rattle.lease_keeping.proofs.TurnParts.{TurnParts, hearing, parts_of}
 use Rattle.lease_keeping.proofs.Turning.{said_first, turn_keeps}
-
--- ---- the carrier stays, and no stop comes
-
-same_number : (a b : ℕ) → (a == b) ≡ true → a ≡ b
-same_number a b h = grind (arith, nat_tests)
-
-still_up : (up : Bool) (index : ℕ) (event : Event) → GoesOn up index event → up ≡ true → carrier_after index event up ≡ true
-still_up up index (Carrier other now) goes is =
-    split (index == other) (λ here. rw here (goes (same_number index other here) is)) (λ elsewhere. rw elsewhere is)
-still_up up index (Frame other len) goes is = is
-still_up up index (Duplicate other addr) goes is = is
-still_up up index (Release other) goes is = is
-still_up up index (Rebind other) goes is = is
-still_up up index Stop goes is = is
-still_up up index Quiet goes is = is
-still_up up index End goes is = is
-
-always_up : (site : Site) (past : List Entry) → site.up ≡ true → Always (StaysOn site) past → has_carrier site past ≡ true
-always_up site [] up stays = up
-always_up site (e ∷ past) up stays = still_up (has_carrier site past) (index_at site) e.event stays.0 (always_up site past up stays.1)
-
-no_stop : (up : Bool) (index : ℕ) (event : Event) → GoesOn up index event → is_stop event ≡ false
-no_stop up index (Carrier other now) goes = refl
-no_stop up index (Frame other len) goes = refl
-no_stop up index (Duplicate other addr) goes = refl
-no_stop up index (Release other) goes = refl
-no_stop up index (Rebind other) goes = refl
-no_stop up index Stop goes = absurd goes
-no_stop up index Quiet goes = refl
-no_stop up index End goes = refl
-
-never_stopped : (site : Site) (past : List Entry) → Always (StaysOn site) past → is_stopped past ≡ false
-never_stopped site [] stays = refl
-never_stopped site (e ∷ past) stays =
-    ap (λ (s : Bool). s || is_stopped past) (no_stop (has_carrier site past) (index_at site) e.event stays.0) ∙ never_stopped site past stays.1
-
--- ---- what fair turns say of those before
-
-module _ (site : Site) (answered : Answered) (wait : ℕ) where
-  all_stay : (past : List Entry) → Always (Fair site answered wait) past → Always (StaysOn site) past
-  all_stay [] fair = tt
-  all_stay (e ∷ past) fair = (fair.0.stays, all_stay past fair.1)
-
-  none_failed : (past : List Entry) → Always (Fair site answered wait) past → failed_last site past ≡ false
-  none_failed [] fair = refl
-  none_failed (e ∷ past) fair = fair.0.taken
 
 -- an ARP packet is no message
 one_kind_of : (site : Site) (event : Event) (bytes : List ℕ) (packet : ArpView) → arp_on (index_at site) event bytes ≡ Some packet
@@ -179,14 +134,11 @@ module _ (own : List Mac) (b : Beginning) (o : Opening) (answered : Answered) (w
   abbrev one : Step4
   one = tick_step met.turn.at met.turn.salt c
 
-  held_before : Leased site (Clean own b well.fits well.typed o mets) before past
-  held_before = leased own b well.fits well.typed o mets well.lived.4
-
-  clean : failed_last site past ≡ false
-  clean = none_failed site answered wait past well.fair.1
+  k : Known own b o mets
+  k = known own b o well.fits well.typed answered wait mets well.up well.lived.4 well.fair.1
 
   carries : evidence.Carries AnyTerms site (Unit {0}) c past
-  carries = evidence.clean_carries (Lasts (now_in past)) site (Clean own b well.fits well.typed o mets) c past clean held_before.client
+  carries = k.client
 
   -- what it was due
   prompt : NotAfter (due_of c.state) (now_in past) met.turn.at
@@ -200,7 +152,8 @@ module _ (own : List Mac) (b : Beginning) (o : Opening) (answered : Answered) (w
   -- no send failed in the turn before
   not_failed : is_in met.turn.unsent (index_of before) ≡ false
   not_failed =
-      ap (λ (n : ℕ). is_in met.turn.unsent n) (ap (λ (m : Managed). m.spec.index.number) (same_managed own b well.fits well.typed o mets)) ∙ well.lived.2 ∙ clean
+      ap (λ (n : ℕ). is_in met.turn.unsent n) (ap (λ (m : Managed). m.spec.index.number) k.managed) ∙ well.lived.2
+      ∙ none_failed site answered wait past well.fair.1
 
   abbrev turned : Iface → IfaceStep
   turned g = then_step (ticked met.turn.at met.turn.salt g) (input_step own met.turn.at met.turn.salt met.turn.event met.turn.bytes)
@@ -257,17 +210,12 @@ module _ (own : List Mac) (b : Beginning) (o : Opening) (answered : Answered) (w
   abbrev two : Step4
   two = hearing own met.turn.at met.turn.salt arp message (moved one c)
 
-  is_up_so : has_carrier site past ≡ true
-  is_up_so = always_up site past well.up (all_stay site answered wait past well.fair.1)
-
-  not_stopped : before.stopped ≡ false
-  not_stopped = held_before.stopped ∙ never_stopped site past (all_stay site answered wait past well.fair.1)
-
   parts : Renewable site answered wait e past → TurnParts own met.turn.at met.turn.salt arp message c (turned before)
   parts renewable =
       parts_of site well.fits.managed.mac.six met.turn.at met.turn.salt met.turn.bytes met.turn.event
-      (subst (λ (up : Bool). GoesOn up (index_at site) met.turn.event) is_up_so well.fair.0.stays) renewable.undisturbed before
-      (same_managed own b well.fits well.typed o mets) (held_before.carrier not_stopped ∙ is_up_so) not_stopped
+      (subst (λ (up : Bool). GoesOn up (index_at site) met.turn.event) (carried site answered wait well.up past well.fair.1) well.fair.0.stays)
+      renewable.undisturbed before
+      k.managed k.up k.running
 
   abbrev KeptBy : Type 0 → ClientContent → Type 0
   KeptBy free client = Keeps site answered wait free (e ∷ past) met.turn.at client.state

@@ -1,11 +1,15 @@
 mod Asking
 mod Carrying
 mod Chains
+mod FirstTurns
 mod Hearing
 mod Keeping
-mod KeptLives
 mod Lives
 mod Moments
+mod OneTurns
+mod ReboundLife
+mod RenewedLife
+mod ServerFrames
 mod Ticking
 mod TurnParts
 mod Turning

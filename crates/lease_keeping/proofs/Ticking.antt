@@ -81,7 +81,8 @@ endless_probe at phase GivenUp = tt
 abbrev StepProbes : (end : Option ℕ) → (at : ℕ) → detection.AcdStep → Type 0
 StepProbes end at step = AfterProbe end at step.acd.phase step.says
 
-probing_on : (i : IfIndex) (a : Ip4) (end n due at salt : ℕ) → Probed end at n due → StepProbes (Some end) at (detection.acd_tick (mk i a (Probing n due)) at salt)
+probing_on : (i : IfIndex) (a : Ip4) (end n due at salt : ℕ) → Probed end at n due
+    → StepProbes (Some end) at (detection.acd_tick (mk i a (Probing n due)) at salt)
 probing_on i a end n due at salt p =
     gated (StepProbes (Some end) at) (nat_le due at) (detection.tick_row (mk i a (Probing n due)) (Probing n due) at salt)
     (detection.stays (mk i a (Probing n due))) come p
@@ -331,7 +332,8 @@ module _ (site : Site) (wait : ℕ) (free : Type 0) (past : List Entry) (last : 
     ticks (Rebooting exchange backoff end due stands) fits prompt h =
         gated (AfterFor answered) (is_due (standing_until stands) turn.at) _ _ h (gated (AfterFor answered) (nat_le end turn.at) _ _ h h)
     ticks (Checking xid terms from acd stands) fits prompt h =
-        checking_row site answered wait free past last turn then_by xid terms from acd.iface acd.addr acd.phase stands (checking_prompt xid terms acd stands prompt) h
+        checking_row site answered wait free past last turn then_by xid terms from acd.iface acd.addr acd.phase stands
+        (checking_prompt xid terms acd stands prompt) h
     ticks (Waiting due) fits prompt h = h
     ticks (Bound xid terms acd) fits prompt h =
         bound_row answered then_by xid terms acd fits (sooner (renewal_at terms) (acd_due acd) last turn.at prompt) h
@@ -357,4 +359,5 @@ module _ (site : Site) (wait : ℕ) (free : Type 0) (past : List Entry) (last : 
     pub tick_keeps : (state : State4) → FitsState state → NotAfter (due_of state) last turn.at → Kept answered state
         → AfterFor answered (if is_due (due_of state) turn.at then tick_row turn state else rests turn state)
     tick_keeps state fits prompt h =
-        gated (AfterFor answered) (is_due (due_of state) turn.at) (tick_row turn state) (rests turn state) (ticks state fits prompt h) (waits state fits prompt h)
+        gated (AfterFor answered) (is_due (due_of state) turn.at) (tick_row turn state) (rests turn state) (ticks state fits prompt h)
+        (waits state fits prompt h)

@@ -130,7 +130,8 @@ module _ (site : Site) (answered : Answered) (wait : ℕ) (free : Type 0) (e : E
     open_now : (x : Numbered) → current ≡ Some x → (seen_in site (e ∷ past)).current ≡ Some x
     open_now x is = ap (λ (s : Seen). s.current) seen ∙ is
 
-    asked_now : (exchange : Exchange4) (opened : Option Numbered) → current ≡ opened → Asks exchange k opened → asks answered exchange.xid (message_in one) ≡ true
+    asked_now : (exchange : Exchange4) (opened : Option Numbered) → current ≡ opened → Asks exchange k opened
+        → asks answered exchange.xid (message_in one) ≡ true
         → e.moment ≡ exchange.first → AskedIn site answered exchange (e ∷ past)
     asked_now exchange None is h says when = absurd h
     asked_now exchange (Some x) is h says when = record {
@@ -166,7 +167,8 @@ module _ (site : Site) (answered : Answered) (wait : ℕ) (free : Type 0) (e : E
           let good : GoodAck site x terms e past = record { is_open = open_now x is; grants = reply_so exchange x (answer.Ack terms) h.0 reply } in
           record { probed = renewable.probed x terms good; enough = renewable.renewed x terms good }
 
-      unrefused_so : (exchange : Exchange4) (opened : Option Numbered) → current ≡ opened → Asks exchange k opened → reply_in settings arrival exchange ≡ answer.Nak → ⊥
+      unrefused_so : (exchange : Exchange4) (opened : Option Numbered) → current ≡ opened → Asks exchange k opened
+          → reply_in settings arrival exchange ≡ answer.Nak → ⊥
       unrefused_so exchange None is h reply = absurd h
       unrefused_so exchange (Some x) is h reply =
           not_both site e past (message_in one) x past
@@ -199,7 +201,8 @@ module _ (site : Site) (answered : Answered) (wait : ℕ) (free : Type 0) (e : E
       free_of terms holds =
           ap (tells_contest site.own terms.net.ip) (sym came) ∙ contested_not (tells_end (message_in one)) (kept_in site past).grant refl terms holds
 
-      by : (state : State4) → On (Lasts e.moment) state current k grant → Amid site answered wait free past e.moment (message_in one) state → Unharmed site.own arp state
+      by : (state : State4) → On (Lasts e.moment) state current k grant → Amid site answered wait free past e.moment (message_in one) state
+          → Unharmed site.own arp state
       by Off on h = tt
       by (Init due) on h = tt
       by (Selecting xid began secs backoff due) on h = tt
@@ -250,7 +253,8 @@ module _ (site : Site) (answered : Answered) (wait : ℕ) (free : Type 0) (e : E
       heard_so site answered wait free past e (message_in one) current k after_tick.settings arrival turn refl noarp (Lasts e.moment) grant one.state on
       (λ exchange h silent. well (shown.seen silent) shown.said after_tick.settings arrival refl noarp replies exchange h) tick
 
-  pub turn_keeps : (arp : Option ArpView) (message : Option HeardMessage) → arp_on (index_at site) e.event e.bytes ≡ arp → message_on site e.event e.bytes ≡ message
+  pub turn_keeps : (arp : Option ArpView) (message : Option HeardMessage) → arp_on (index_at site) e.event e.bytes ≡ arp
+      → message_on site e.event e.bytes ≡ message
       → ((packet : ArpView) → arp ≡ Some packet → message ≡ None)
       → (message_in (hearing site.own e.moment salt arp message after_tick) ≡ None → seen_in site (e ∷ past) ≡ seen_so site e past (message_in one))
       → ((xid : ℕ) → asks answered xid (message_in one) ≡ true → list_any (asks answered xid) (messages_at site e) ≡ true)

@@ -1,10 +1,12 @@
--- A life in which a lease is renewed twice, and one in which it is rebound twice, written out. Moments are in milliseconds.
+-- A life in which a lease is renewed twice, and one in which it is rebound twice, written out. Moments are in
+-- milliseconds.
 use Rattle.std.specs.Prelude.{◌≡◌, ℕ, true, List, [], ◌∷◌, ◌++◌, replicate, None, Some}
 use Rattle.machine.specs.Since.{Always}
 use Rattle.net_types.specs.declared.address.Mac.{Mac}
 use Rattle.udp_frame.specs.Udp4Frames.{udp4_frame_text}
 use Rattle.lease_text.specs.declared.lease.Terms4.{Terms4}
 use Rattle.v4_frames.specs.declared.sent.TheConstants.{CLIENT_PORT, SERVER_PORT}
+use Rattle.v4_client.specs.declared.states.Exchange4.{Exchange4}
 use Rattle.v4_client.specs.Clients.{is_bound}
 use Rattle.v4_client.specs.Saying.{discover, request, renewing_request, rebinding_request}
 use Rattle.world.specs.declared.wakes.Event.TheVariants.{Frame, Quiet}
@@ -46,8 +48,8 @@ reply_text xid kind =
 
 abbrev pub reply_frame : (xid kind : ℕ) → List ℕ
 reply_frame xid kind =
-    udp4_frame_text (record { from_mac = server_mac; to_mac = client_mac; from = server; to = granted }) SERVER_PORT CLIENT_PORT
-    (reply_text xid kind)
+    udp4_frame_text (record { from_mac = server_mac; to_mac = client_mac; from = server; to = granted }) SERVER_PORT
+    CLIENT_PORT (reply_text xid kind)
 
 -- ---- what the client says
 
@@ -81,12 +83,15 @@ acked at xid = met at (Frame 1 316) (reply_frame xid 5) []
 abbrev pub quiet : (at : ℕ) → List Offer → Met
 quiet at offers = met at Quiet [] offers
 
+abbrev pub first_exchange : Exchange4
+first_exchange = record { xid = 1; address = granted; server = Some server; first = 2000 }
+
 -- DISCOVER; an OFFER, and REQUEST; an ACK. The newest is the first.
 abbrev pub three_turns : List Met
 three_turns =
     acked 2500 1
     ∷ met 2000 (Frame 1 316) (reply_frame 1 2)
-    (says (Dhcp4 (request (site_of unprobed) (record { xid = 1; address = granted; server = Some server; first = 2000 }) 0)))
+    (says (Dhcp4 (request (site_of unprobed) first_exchange 0)))
     ∷ quiet 1001 (says (Dhcp4 (discover (site_of unprobed) 1 0)))
     ∷ []
 

@@ -1,4 +1,5 @@
-use Rattle.lease_keeping.proofs.KeptLives.{rebound_life, renewed_life}
+use Rattle.lease_keeping.proofs.ReboundLife.{rebound_life}
+use Rattle.lease_keeping.proofs.RenewedLife.{renewed_life}
 use Rattle.lease_keeping.proofs.laws.keeping_premises_are_met.Goals as goal
 
 pub returns : goal.returns
