@@ -1,4 +1,5 @@
--- That each value is what its form says, where what a hook is told of is within its bounds: an address is one, and a number has its limit.
+-- That each value is what its form says, where what a hook is told of is within its bounds: an address is one, and a
+-- number has its limit.
 use Rattle.std.specs.Prelude.{◌<◌, ◌^◌, List}
 use Rattle.std.specs.List.{AllByRecursion}
 use Rattle.net_types.specs.AddressText.{FitsNet4, FitsNet6}

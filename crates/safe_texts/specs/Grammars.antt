@@ -1,4 +1,5 @@
--- What the value of a variable is, and what it is made of. It stands as plain text in a shell, a file or a log, whatever a server sent.
+-- What the value of a variable is, and what it is made of. It stands as plain text in a shell, a file or a log, whatever
+-- a server sent.
 use Rattle.std.specs.Prelude.{◌≡◌, ◌≢◌, ℕ, ◌<◌, ◌≤◌, Bool, ◌==◌, ◌||◌, IsTrue, List, [], ◌++◌, codes, decimal}
 use Rattle.std.specs.Char.{is_ascii_alphanumeric, is_ascii_digit}
 use Rattle.std.specs.Int.{is_in_range}
@@ -15,8 +16,8 @@ use Rattle.hook_env.specs.Lists.{listed}
 
 -- ---- grammars
 
--- One of some words of letters and digits; a decimal number below a limit; the name of an interface or of a domain; an address; a network
--- with the length of its prefix; a route, which is a network and the address of its gateway.
+-- One of some words of letters and digits; a decimal number below a limit; the name of an interface or of a domain; an
+-- address; a network with the length of its prefix; a route, which is a network and the address of its gateway.
 pub data Grammar : Type 0 where
   OneOf : (words : List (List ℕ)) → Grammar
   Number : (limit : ℕ) → Grammar

@@ -1,4 +1,5 @@
--- Which variables a hook is given of an event, their forms, and that the values are made of the bytes of these (dhcpcd-run-hooks(8)).
+-- Which variables a hook is given of an event, their forms, and that the values are made of the bytes of these
+-- (dhcpcd-run-hooks(8)).
 use Rattle.std.specs.Prelude.{ℕ, ◌^◌, List, [], ◌∷◌, ◌++◌, codes}
 use Rattle.std.specs.List.{AllByRecursion, Contains}
 use Rattle.net_types.specs.Marks.{IsPrintable}
@@ -56,7 +57,8 @@ pub data IsNamed : (name : List ℕ) → Form → Type 0 where
   OfJob : (word : List ℕ) (form : Form) → Contains JOB_FORMS (word, form) → IsNamed word form
   OfHeld : (stage : Stage) (word : List ℕ) (form : Form) → Contains HELD_FORMS (word, form) → IsNamed (prefix stage ++ word) form
 
--- The name is one of these, and the value is made of the bytes of its form: it has no control character, and no byte past ASCII.
+-- The name is one of these, and the value is made of the bytes of its form: it has no control character, and no byte
+-- past ASCII.
 pub record IsSafe (variable : Variable) : Type 0 where
   pub form : Form
   pub named : IsNamed variable.name form

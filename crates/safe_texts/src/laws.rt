@@ -15,10 +15,10 @@ pub fn job_variables_are_safe()
     ensures life { LifeJobsAreSafe }
 {}
 
-/// Law of a hook's job: where the lease that is held has a text, as each has that is granted or read, or an address and its length are such,
-/// each value that is made of an event is what its form says: an address reads as one, a number is below its limit (a length of 32, an
-/// MTU of 65,535, a time or metric of 32 bits), a name is one, and a reason is one of those of dhcpcd-run-hooks(8). That is more than the
-/// law above says of every event.
+/// Law of a hook's job: where the lease that is held has a text, as each has that is granted or read, or an address and
+/// its length are such, each value that is made of an event is what its form says: an address reads as one, a number is
+/// below its limit (a length of 32, an MTU of 65,535, a time or metric of 32 bits), a name is one, and a reason is one
+/// of those of dhcpcd-run-hooks(8). That is more than the law above says of every event.
 pub fn job_variables_are_exact()
     ensures exact { MadeVariablesAreExact }
     ensures safe { ExactVariablesAreSafe }

@@ -1,4 +1,5 @@
--- An example: eth0 is delegated 2001:db8:0:100::/56, as in the life of its four messages, and eth1 has its subnet 1 of 64 bits.
+-- An example: eth0 is delegated 2001:db8:0:100::/56, as in the life of its four messages, and eth1 has its subnet 1 of
+-- 64 bits.
 use Rattle.std.specs.Prelude.{ℕ, true, List, [], ◌∷◌}
 use Rattle.net_types.specs.declared.address.Mac.{Mac}
 use Rattle.net_types.specs.declared.address.Net.{Net}
@@ -49,7 +50,8 @@ coming =
     ∷ given 2000 (Frame 1 183) (from_server 129 0x98 0x49 reply)
     ∷ []
 
--- a link that takes every frame, an empty store, a host without rows of which no call fails, and hooks that are never asked
+-- a link that takes every frame, an empty store, a host without rows of which no call fails, and hooks that are never
+-- asked
 abbrev pub devices : World
 devices = record {
   link = record { told = record { begin = record { at = 1000; salt = 0; up = 3 }; coming = coming; waits = 0; sends = 0; calls = [] }; failing = [] };

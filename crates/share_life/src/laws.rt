@@ -10,9 +10,9 @@ ghost use Rattle.lease6_evidence.specs.FourMessages.{downstream, opening, three_
 ghost use Rattle.evidence.specs.Laws.{AreMade, HasShareBasis};
 ghost use Rattle.share_life.specs.ShareLife.{coming, devices, managed, opens, shared, specs, turns};
 
-/// Law: a life of two interfaces, in which SOLICIT, an Advertise, REQUEST and a Reply delegate a prefix to the first. Then the client
-/// wants on the second the address that its share of the prefix gives, the host has it, and it has its basis (RFC 8415, section
-/// 18.2.10.1).
+/// Law: a life of two interfaces, in which SOLICIT, an Advertise, REQUEST and a Reply delegate a prefix to the first.
+/// Then the client wants on the second the address that its share of the prefix gives, the host has it, and it has its
+/// basis (RFC 8415, section 18.2.10.1).
 pub fn four_messages_give_a_share()
     ensures opened { IsOpening managed specs opens }
     ensures made { AreMade managed opens.life turns }
