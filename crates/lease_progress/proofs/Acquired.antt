@@ -159,7 +159,7 @@ module _ (own : List Mac) (b : Beginning) (o : Opening) (answered : Answered) (w
         let two : Step4 = step_for own met.turn.at met.turn.salt t.input ticked in
         let shown_so : Shows site f past one two =
         both_shown site (ask_fits_so mets before) fits.managed.mac.six f past one two t.between t.after t.others t.more_others
-        (messages_so site (ask_fits_so mets before) fits.managed.mac.six f (iface_turned own met.turn (iface_after own b o mets)).said lived.3 now.fit
+        (messages_so site (ask_fits_so mets before) fits.managed.mac.six f (iface_turned own met.turn (iface_after own b o mets)).said lived.3 now.fit now.ours
         ∙ ap (λ (said : List Said). map message_said said) t.said) in
         let amid : carrying.Amid site (Unit {0}) f past one ticked = tick_carries site (Unit {0}) f past met.turn.salt
         (client mets) fits.managed.mac.six lived.0 before.client in

@@ -40,7 +40,8 @@ use Rattle.lease_evidence.specs.Replies.{reply_at}
 use Rattle.lease_evidence.specs.SevenTurns.{announces, beginning, discovers, duid, granted, interface, opening, probes, reply_frame, requests, server}
 use Rattle.lease_evidence.proofs.ReplyFacts.{offer_replies_nothing}
 use Rattle.lease_evidence.proofs.SevenTurnsHeard.{ack_heard, beginning_fits, interface_fits, offer_heard}
-use Rattle.lease_evidence.proofs.Spoken.{FitsSaid, message_said}
+use Rattle.lease_evidence.specs.OwnMessages.{speaker_of}
+use Rattle.lease_evidence.proofs.Spoken.{FitsSaid, OwnSaid, message_said}
 use Rattle.lease_progress.specs.FairTurns.{Fair}
 use Rattle.lease_progress.specs.OneLife.{OneLifeGoesWell}
 use Rattle.lease_progress.specs.Serving.{EachRequest, Serves, asks, grants, is_offer_by, offers, seeks}
@@ -80,8 +81,8 @@ client_ask : AskFits (ask_of duid interface)
 client_ask = ask_fits duid interface beginning_fits.duid interface_fits
 
 says_so : (e : Entry) (said : List Said) → map (λ o. o.bytes) (offers_at site e) ≡ map (frame_of interface.spec (ask_of duid interface)) said
-    → AllByRecursion FitsSaid said → messages_at site e ≡ map message_said said
-says_so e said frames fit = messages_so site client_ask interface_fits.mac.six e said frames fit
+    → AllByRecursion FitsSaid said → AllByRecursion (OwnSaid (speaker_of interface)) said → messages_at site e ≡ map message_said said
+says_so e said frames fit ours = messages_so site client_ask interface_fits.mac.six e said frames fit ours
 
 abbrev discover_said : Say4
 discover_said = discover (settings4.site_of interface) 1 0
@@ -108,7 +109,7 @@ discovers_so = says_so t1 (Dhcp4 discover_said ∷ []) refl (
     server = tt;
   },
   tt,
-)
+) (refl, tt)
 
 requests_so : messages_at site t2 ≡ Some (sent_of request_said) ∷ []
 requests_so = says_so t2 (Dhcp4 request_said ∷ []) refl (
@@ -126,13 +127,13 @@ requests_so = says_so t2 (Dhcp4 request_said ∷ []) refl (
     server = lit< tt;
   },
   tt,
-)
+) (refl, tt)
 
 -- a probe, or an announcement, is no message of DHCPv4
 arp_so : (at : ℕ) (offers : List Offer) (say : ArpSay)
     → map (λ o. o.bytes) (offers_at site (at_rest at offers)) ≡ map (frame_of interface.spec (ask_of duid interface)) (Arp say ∷ [])
     → messages_at site (at_rest at offers) ≡ None ∷ []
-arp_so at offers say frames = says_so (at_rest at offers) (Arp say ∷ []) frames (tt, tt)
+arp_so at offers say frames = says_so (at_rest at offers) (Arp say ∷ []) frames (tt, tt) (tt, tt)
 
 -- ---- in time
 

@@ -26,10 +26,11 @@ use Rattle.evidence_words.specs.Inputs.{Site, GoesOn, carrier_after, has_carrier
 use Rattle.evidence_words.proofs.Offers.{Offered}
 use Rattle.evidence_words.specs.IfaceLives.{Opening, Met, site_of, opening_entry, entry_of, shown, opens, iface_after, failed_last, IsLived, now_in}
 use Rattle.lease_evidence.specs.HeldLeases.{KeepsTyped}
+use Rattle.lease_evidence.specs.OwnMessages.{speaker_of}
 use Rattle.lease_evidence.proofs.Carrying.{Carries, clean_carries}
 use Rattle.lease_evidence.proofs.LeasedInputs.{Turned}
 use Rattle.lease_evidence.proofs.LeasedTurns.{opens_leased, turn_leased}
-use Rattle.lease_evidence.proofs.Spoken.{FitsSaid}
+use Rattle.lease_evidence.proofs.Spoken.{FitsSaid, OwnSaid}
 use Rattle.lease_evidence.proofs.Watching.{AnyTerms, Lasts}
 use Rattle.lease_progress.specs.FairTurns.{Fair}
 use Rattle.lease_progress.specs.Serving.{Answered}
@@ -126,6 +127,7 @@ pub record Known (own : List Mac) (b : Beginning) (o : Opening) (mets : List Met
   pub running : (iface_after own b o mets).stopped ≡ false
   pub client : Carries AnyTerms (site_of own b o) (Unit {0}) (iface_after own b o mets).dhcp4 (shown o mets)
   pub fit : AllByRecursion FitsSaid (said_last own b o mets)
+  pub ours : AllByRecursion (OwnSaid (speaker_of b.managed)) (said_last own b o mets)
 
 module _ (own : List Mac) (b : Beginning) (o : Opening) (fits : FitsBeginning b) (typed : KeepsTyped b) where
   abbrev site : Site
@@ -168,4 +170,5 @@ module _ (own : List Mac) (b : Beginning) (o : Opening) (fits : FitsBeginning b)
         client = clean_carries (Lasts (now_in (shown o mets))) site (Clean mets) (iface mets).dhcp4 (shown o mets)
             (none_failed site answered wait (shown o mets) fair) t.leased.client;
         fit = t.fit;
+        ours = t.own;
       }

@@ -150,7 +150,7 @@ module _ (own : List Mac) (b : Beginning) (o : Opening) (runs : runs_dhcp4 b.man
     among says say is h =
         ap (list_any says) (messages_so site
         (subst (λ (s : SettingsContent). AskFits s.ask) opening_known.client.settings opening_known.client.sound.ask) fits.managed.mac.six
-        (opening_entry o) (opens b o).said lived.1 opening_known.fit ∙ ap (λ (said : List Said). map message_said said) opened_so.said)
+        (opening_entry o) (opens b o).said lived.1 opening_known.fit opening_known.ours ∙ ap (λ (said : List Said). map message_said said) opened_so.said)
         ∙ in_front says (said_in first) opened_so.after (by_step says first say is h)
 
     abbrev client : ClientContent

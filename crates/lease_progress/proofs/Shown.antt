@@ -15,7 +15,8 @@ use Rattle.client_model.specs.Dhcp4Steps.{said_in}
 use Rattle.evidence_words.specs.Entries.{Entry}
 use Rattle.evidence_words.specs.Inputs.{Site, offers_at}
 use Rattle.lease_evidence.specs.Exchanges.{messages_at, seen_in, show, shows}
-use Rattle.lease_evidence.proofs.Spoken.{AreOther, FitsSaid, message_said, messages_are, said_all, shows_all}
+use Rattle.lease_evidence.specs.OwnMessages.{speaker_of}
+use Rattle.lease_evidence.proofs.Spoken.{AreOther, FitsSaid, OwnSaid, message_said, messages_are, said_all, shows_all}
 use Rattle.lease_evidence.proofs.Watching.{message_in}
 use Rattle.lease_progress.proofs.Lived.{each_offered}
 
@@ -51,10 +52,10 @@ pub record Shows (site : Site) (e : Entry) (past : List Entry) (one two : Step4)
 
 module _ (site : Site) (ask : AskFits (ask_of site.duid site.managed)) (mac : FitsMac site.managed.spec.mac) (e : Entry) where
   pub messages_so : (said : List Said) → map (λ o. o.bytes) (offers_at site e) ≡ map (frame_of site.managed.spec (ask_of site.duid site.managed)) said
-      → AllByRecursion FitsSaid said → messages_at site e ≡ map message_said said
-  messages_so said frames fit =
+      → AllByRecursion FitsSaid said → AllByRecursion (OwnSaid (speaker_of site.managed)) said → messages_at site e ≡ map message_said said
+  messages_so said frames fit own =
       messages_are site ask mac ⊥ said (offers_at site e)
-      (each_offered site.managed.spec (ask_of site.duid site.managed) ⊥ said (offers_at site e) frames (λ never. absurd never)) fit
+      (each_offered site.managed.spec (ask_of site.duid site.managed) ⊥ said (offers_at site e) frames (λ never. absurd never)) fit own
 
   pub both_shown : (past : List Entry) (one two : Step4) (between after : List Said) → AreOther between → AreOther after
       → messages_at site e ≡ map message_said (said_all one between two after) → Shows site e past one two
