@@ -9,7 +9,7 @@ use Rattle.script_model.specs.Lines.{Line, Start}
 use Rattle.transcript_lines.specs.declared.role.Role.{Role}
 use Rattle.transcript_lines.specs.declared.role.Role.TheVariants as roles
 use Rattle.transcript_lines.specs.Roles.{role_of}
-use Rattle.transcript_model.specs.Told.{LifeTold, TurnTold, lines_within}
+use Rattle.transcript_model.specs.Told.{LifeTold, lines_within}
 
 -- ---- rows
 
