@@ -1,0 +1,4 @@
+mod EventLaws
+mod LastLaws
+pub mod LineLaws
+mod NameLaws

@@ -1,0 +1,3 @@
+pub mod Told
+pub mod LifeShapes
+pub mod Transcripts

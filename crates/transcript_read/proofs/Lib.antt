@@ -1,0 +1,5 @@
+mod BodyLaws
+mod InnerLaws
+mod LifeLaws
+mod LoopLaws
+mod WalkLaws

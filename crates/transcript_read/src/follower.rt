@@ -1,0 +1,23 @@
+//! What goes through the lines of a transcript.
+ghost use Rattle.std.specs.Prelude.{◌≡◌, ℕ, IfOk};
+ghost use Rattle.script_model.specs.Lines.{Line};
+ghost use Rattle.transcript_lines.specs.Contents.{line_of};
+
+use net_types::NoMemory;
+use std::alloc::Global;
+use transcript_lines::ToldLine;
+
+/// What is told each line after the head of a transcript, one after another: those of interfaces, and those of lives,
+/// from the number of a life to its end.
+pub trait Follower: Sized {
+    ghost State: { Type 0 };
+
+    ghost state: { Self → State };
+
+    // The state after a line more.
+    ghost after: { State → Line → State };
+
+    /// Takes one line more.
+    fn follow(self, alloc: Global, line: &ToldLine<'_>) -> Result<Self, NoMemory>
+        ensures { IfOk result (λ next. state next ≡ after (state self) (line_of line.now)) };
+}

@@ -1,0 +1,9 @@
+//! Transcripts, read line by line, each line told to what goes through them.
+#![tactic(auto)]
+
+mod body;
+mod follower;
+mod place;
+
+pub use body::{BodyAnswer, follow_body};
+pub use follower::Follower;
