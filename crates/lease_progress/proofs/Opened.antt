@@ -173,8 +173,8 @@ module _ (own : List Mac) (b : Beginning) (o : Opening) (runs : runs_dhcp4 b.man
           below : (n : ℕ) → n % 9001 < 9001
           below n = omega arith
 
-      soon : (at wait first most more : ℕ) → wait ≤ most → (at + wait) + more ≤ at + (most + more)
-      soon at wait first most more le = omega (arith, le)
+      soon : (at delay most more : ℕ) → delay ≤ most → (at + delay) + more ≤ at + (most + more)
+      soon at delay most more le = omega (arith, le)
 
       pub waits : Pending site answered wait (o.at + acquiring b.managed.conf wait) o.at (shown o []) client.state
       waits =
@@ -182,13 +182,13 @@ module _ (own : List Mac) (b : Beginning) (o : Opening) (runs : runs_dhcp4 b.man
           (sym (stands_so (Init (o.at + first_delay turn.site o.salt)) (ap (λ (step : Step4). step.state) (enters b.kept4 anew))))
           (record {
             asks_long = quick;
-            soon = soon o.at (first_delay turn.site o.salt) 0 (first_wait b.managed.conf) (wait + (wait + probing b.managed.conf))
+            soon = soon o.at (first_delay turn.site o.salt) (first_wait b.managed.conf) (wait + (wait + probing b.managed.conf))
                 (delay b.managed.conf.nodelay (o.salt % 4294967296 + b.managed.spec.index.number));
             now_soon = now_too o.at (first_wait b.managed.conf) (wait + (wait + probing b.managed.conf));
           })
         where
-          now_too : (at first more : ℕ) → at + more ≤ at + (first + more)
-          now_too at first more = omega arith
+          now_too : (at most more : ℕ) → at + more ≤ at + (most + more)
+          now_too at most more = omega arith
 
     -- ---- Rebooting
 
