@@ -10,6 +10,7 @@ use Rattle.device_calls.specs.Worlds.{Seen, world_of}
 use Rattle.daemon.specs.declared.serving.ServeEnd.{ServeEnd}
 use Rattle.daemon.specs.Streams.{WritesLines, WritesFront}
 use Rattle.daemon.specs.Cuts.{Leaves}
+use Rattle.daemon.specs.Filed.{LeavesFiled}
 use Rattle.daemon.specs.Served.{Served}
 use Rattle.daemon.proofs.CutOffs.{front_none}
 use Rattle.dhcpcd.specs.declared.status.Status.{Status}
@@ -58,12 +59,14 @@ head_cut answer ask out out_to seen front stops = answers answer stops
     answers status.NoMemory stops = inl cut
 
 pub served_whole : (ask : Asked) (out middle out_to : Option (List ℕ)) (seen seen_to : Seen) → WritesLines out middle (head_of ask)
-    → Served ask.turns (managed_of ask.conf ask.specs) ask.specs seen seen_to middle out_to → IsServed ask (around out out_to seen seen_to)
-served_whole ask out middle out_to seen seen_to head served = record { middle = middle; head = head; served = served }
+    → Served ask.turns (managed_of ask.conf ask.specs) ask.specs seen seen_to middle out_to → LeavesFiled (managed_of ask.conf ask.specs) ask.specs seen seen_to
+    → IsServed ask (around out out_to seen seen_to)
+served_whole ask out middle out_to seen seen_to head served files = record { middle = middle; head = head; served = served; files = files }
 
 pub cut_off : (end : ServeEnd) (ask : Asked) (out middle out_to : Option (List ℕ)) (seen seen_to : Seen) → WritesLines out middle (head_of ask)
-    → Leaves end ask.turns (managed_of ask.conf ask.specs) ask.specs seen seen_to middle out_to → IsCutOff end ask (around out out_to seen seen_to)
-cut_off end ask out middle out_to seen seen_to head left = record { middle = middle; head = head; left = left }
+    → Leaves end ask.turns (managed_of ask.conf ask.specs) ask.specs seen seen_to middle out_to → LeavesFiled (managed_of ask.conf ask.specs) ask.specs seen seen_to
+    → IsCutOff end ask (around out out_to seen seen_to)
+cut_off end ask out middle out_to seen seen_to head left files = record { middle = middle; head = head; left = left; files = files }
 
 -- ---- the answers
 

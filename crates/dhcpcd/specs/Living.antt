@@ -16,6 +16,7 @@ use Rattle.daemon.specs.declared.serving.ServeEnd.TheVariants as ends
 use Rattle.daemon.specs.Streams.{WritesLines, WritesFront}
 use Rattle.daemon.specs.Served.{Served}
 use Rattle.daemon.specs.Cuts.{Leaves}
+use Rattle.daemon.specs.Filed.{LeavesFiled}
 use Rattle.dhcpcd.specs.declared.status.Status.{Status}
 use Rattle.dhcpcd.specs.declared.status.Status.TheVariants as status
 use Rattle.dhcpcd.specs.Input.{limit, IsInput, IsTooLong}
@@ -74,17 +75,19 @@ asked text conf specs turns = record { text = text; conf = conf; specs = specs; 
 abbrev pub head_of : Asked → List Line
 head_of ask = live_head ask.text ask.conf.notices ask.specs
 
--- the head was written, and then the life was lived to its end and its lines written
+-- the head was written, and then the life was lived to its end and its lines written; at each moment its files were whole
 pub record IsServed (ask : Asked) (told : Around) : Type 0 where
   pub middle : Option (List ℕ)
   pub head : WritesLines told.out_from middle (head_of ask)
   pub served : Served ask.turns (managed_of ask.conf ask.specs) ask.specs told.seen_from told.seen_to middle told.out_to
+  pub files : LeavesFiled (managed_of ask.conf ask.specs) ask.specs told.seen_from told.seen_to
 
--- the head was written, and then the life was cut off
+-- the head was written, and then the life was cut off; up to then its files were whole
 pub record IsCutOff (end : ServeEnd) (ask : Asked) (told : Around) : Type 0 where
   pub middle : Option (List ℕ)
   pub head : WritesLines told.out_from middle (head_of ask)
   pub left : Leaves end ask.turns (managed_of ask.conf ask.specs) ask.specs told.seen_from told.seen_to middle told.out_to
+  pub files : LeavesFiled (managed_of ask.conf ask.specs) ask.specs told.seen_from told.seen_to
 
 -- a front of the head was written, maybe none of it, and no device was asked
 pub record IsHeadCut (ask : Asked) (told : Around) : Type 0 where
