@@ -8,6 +8,7 @@ use Rattle.conf_text.specs.Configurations.{Configuration, IsConfOf}
 use Rattle.conf_text.specs.Settings.{managed_of}
 use Rattle.device_calls.specs.Worlds.{Seen, world_of}
 use Rattle.daemon.specs.declared.serving.ServeEnd.{ServeEnd}
+use Rattle.daemon.specs.declared.serving.ServeEnd.TheVariants as ends
 use Rattle.daemon.specs.Streams.{WritesLines, WritesFront}
 use Rattle.daemon.specs.Cuts.{Leaves}
 use Rattle.daemon.specs.Filed.{LeavesFiled}
@@ -67,6 +68,12 @@ pub cut_off : (end : ServeEnd) (ask : Asked) (out middle out_to : Option (List �
     → Leaves end ask.turns (managed_of ask.conf ask.specs) ask.specs seen seen_to middle out_to → LeavesFiled (managed_of ask.conf ask.specs) ask.specs seen seen_to
     → IsCutOff end ask (around out out_to seen seen_to)
 cut_off end ask out middle out_to seen seen_to head left files = record { middle = middle; head = head; left = left; files = files }
+
+pub out_of_memory : (ask : Asked) (out middle out_to : Option (List ℕ)) (seen seen_to : Seen) → WritesLines out middle (head_of ask)
+    → Leaves ends.NoMemory ask.turns (managed_of ask.conf ask.specs) ask.specs seen seen_to middle out_to
+    → LeavesFiled (managed_of ask.conf ask.specs) ask.specs seen seen_to → IsLifeAnswer status.NoMemory ask (around out out_to seen seen_to)
+out_of_memory ask out middle out_to seen seen_to head left files =
+    inr (cut_off ends.NoMemory ask out middle out_to seen seen_to head left files)
 
 -- ---- the answers
 

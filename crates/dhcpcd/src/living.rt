@@ -29,7 +29,7 @@ struct Asked<'a> {
 }
 
 /// Writes the lines before a life, and lives it. `turns` are the wakes that it may handle.
-#[tactic(auto, using(crate::proofs::LiveAnswers::live_managed, crate::proofs::LiveAnswers::no_head, crate::proofs::LiveAnswers::head_cut, crate::proofs::LiveAnswers::served_whole, crate::proofs::LiveAnswers::cut_off))]
+#[tactic(auto, using(crate::proofs::LiveAnswers::live_managed, crate::proofs::LiveAnswers::no_head, crate::proofs::LiveAnswers::head_cut, crate::proofs::LiveAnswers::served_whole, crate::proofs::LiveAnswers::cut_off, crate::proofs::LiveAnswers::out_of_memory))]
 fn live_on<O: Sink, W: Outside>(
     alloc: Global,
     ask: Asked<'_>,
