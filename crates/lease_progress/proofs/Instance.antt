@@ -3,7 +3,6 @@ use Rattle.std.proofs.Common.{◌≡◌, ℕ, ◌+◌, ◌<◌, ◌==◌, Bool, 
 use Rattle.std.proofs.lemmas.Bool.Decides.{nat_tests}
 use Rattle.std.specs.Prelude.{option_map}
 use Rattle.std.specs.List.{list_any, AllByRecursion}
-use Rattle.machine.specs.Since.{Always}
 use Rattle.net_types.specs.declared.address.Ip4.{Ip4}
 use Rattle.arp_acd.specs.declared.detection.ArpSay.{ArpSay}
 use Rattle.arp_acd.specs.declared.detection.ArpSay.TheVariants.{Announce, Probe}
@@ -23,7 +22,6 @@ use Rattle.v4_client.specs.Moments.{expiry}
 use Rattle.v4_client.specs.Moves.{is_grant}
 use Rattle.v4_client.specs.Saying.{discover, request, sent_of}
 use Rattle.v4_client.specs.Settings.{SettingsContent}
-use Rattle.world.specs.declared.wakes.Event.TheVariants.{Frame, Quiet}
 use Rattle.client_model.specs.Messages.{Said, Arp, Dhcp4}
 use Rattle.client_model.specs.ClientSettings.{ask_of, settings_of}
 use Rattle.client_model.specs.ClientSettings as settings4
@@ -32,12 +30,12 @@ use Rattle.client_model.specs.Dhcp4Steps.{arrival_at}
 use Rattle.client_model.proofs.AskFitting.{ask_fits}
 use Rattle.evidence_words.specs.Entries.{Entry, Offer}
 use Rattle.evidence_words.specs.Inputs.{Site, offers_at, tells_contest}
-use Rattle.evidence_words.specs.IfaceLives.{has_failed, opening_entry, site_of}
+use Rattle.evidence_words.specs.IfaceLives.{opening_entry, site_of}
 use Rattle.lease_evidence.specs.Exchanges.{Numbered, messages_at, seen_in, show}
 use Rattle.lease_evidence.specs.PlainIface.{client_mac}
 use Rattle.lease_evidence.specs.Replies as heard_in
 use Rattle.lease_evidence.specs.Replies.{reply_at}
-use Rattle.lease_evidence.specs.SevenTurns.{announces, beginning, discovers, duid, granted, interface, opening, probes, reply_frame, requests, server}
+use Rattle.lease_evidence.specs.SevenTurns.{announces, beginning, discovers, duid, granted, interface, opening, probes, requests, server}
 use Rattle.lease_evidence.proofs.ReplyFacts.{offer_replies_nothing}
 use Rattle.lease_evidence.proofs.SevenTurnsHeard.{ack_heard, beginning_fits, interface_fits, offer_heard}
 use Rattle.lease_evidence.specs.OwnMessages.{speaker_of}
@@ -47,6 +45,7 @@ use Rattle.lease_progress.specs.OneLife.{OneLifeGoesWell}
 use Rattle.lease_progress.specs.Serving.{EachRequest, Serves, asks, grants, is_offer_by, offers, seeks}
 use Rattle.lease_progress.proofs.NineTurns.{ack_alone, heard, nine_lived, nine_prompt, offer_alone}
 use Rattle.lease_progress.proofs.Paying.{AllPaid, ForGood, Paid, all_serve, answers_stay, early_paid, more_for_good, none_paid, one_paid, silent_paid}
+use Rattle.lease_progress.proofs.Resting.{Going, ack_goes, after_ack, at_rest, by_frame, no_grant, no_reply, rest_fair}
 use Rattle.lease_progress.proofs.Shown.{messages_so}
 
 abbrev site : Site
@@ -54,12 +53,6 @@ site = site_of (client_mac ∷ []) beginning opening
 
 abbrev settings : SettingsContent
 settings = settings_of duid interface
-
-abbrev at_rest : ℕ → List Offer → Entry
-at_rest at offers = record { moment = at; event = Quiet; bytes = []; offers = offers }
-
-abbrev by_frame : ℕ → ℕ → List Offer → Entry
-by_frame at number offers = record { moment = at; event = Frame 1 304; bytes = reply_frame number; offers = offers }
 
 -- ---- the turns
 
@@ -77,7 +70,7 @@ t3 = by_frame 2500 5 []
 
 -- ---- what they say
 
-client_ask : AskFits (ask_of duid interface)
+pub client_ask : AskFits (ask_of duid interface)
 client_ask = ask_fits duid interface beginning_fits.duid interface_fits
 
 says_so : (e : Entry) (said : List Said) → map (λ o. o.bytes) (offers_at site e) ≡ map (frame_of interface.spec (ask_of duid interface)) said
@@ -130,7 +123,7 @@ requests_so = says_so t2 (Dhcp4 request_said ∷ []) refl (
 ) (refl, tt)
 
 -- a probe, or an announcement, is no message of DHCPv4
-arp_so : (at : ℕ) (offers : List Offer) (say : ArpSay)
+pub arp_so : (at : ℕ) (offers : List Offer) (say : ArpSay)
     → map (λ o. o.bytes) (offers_at site (at_rest at offers)) ≡ map (frame_of interface.spec (ask_of duid interface)) (Arp say ∷ [])
     → messages_at site (at_rest at offers) ≡ None ∷ []
 arp_so at offers say frames = says_so (at_rest at offers) (Arp say ∷ []) frames (tt, tt) (tt, tt)
@@ -139,12 +132,6 @@ arp_so at offers say frames = says_so (at_rest at offers) (Arp say ∷ []) frame
 
 abbrev Good : List Entry → Type 0
 Good past = ForGood site EachRequest 1000 past
-
-none_sought : (messages : List (Option Sent4)) → messages ≡ None ∷ [] → (xid : ℕ) → list_any (seeks xid) messages ≡ false
-none_sought messages is xid = ap (list_any (seeks xid)) is
-
-none_asked : (messages : List (Option Sent4)) → messages ≡ None ∷ [] → (xid : ℕ) → list_any (asks EachRequest xid) messages ≡ false
-none_asked messages is xid = ap (list_any (asks EachRequest xid)) is
 
 same_number : (a b : ℕ) → ((a == b) || false) ≡ true → a ≡ b
 same_number a b h = grind (arith, nat_tests)
@@ -278,63 +265,7 @@ good3 now front =
 abbrev since3 : List Entry
 since3 = t3 ∷ t2 ∷ t1 ∷ t0 ∷ []
 
-abbrev since4 : List Entry
-since4 = at_rest 2501 probes ∷ since3
-
-abbrev since5 : List Entry
-since5 = at_rest 3502 probes ∷ since4
-
-abbrev since6 : List Entry
-since6 = at_rest 4503 probes ∷ since5
-
-abbrev since7 : List Entry
-since7 = at_rest 6503 announces ∷ since6
-
-abbrev since8 : List Entry
-since8 = at_rest 8503 announces ∷ since7
-
-arp_good : (at : ℕ) (offers : List Offer) (past : List Entry) → messages_at site (at_rest at offers) ≡ None ∷ [] → Good past → Good (at_rest at offers ∷ past)
-arp_good at offers past is good =
-    more_for_good site EachRequest 1000 (at_rest at offers) past (none_sought (messages_at site (at_rest at offers)) is)
-    (none_asked (messages_at site (at_rest at offers)) is) good
-
-good4 : Good since4
-good4 = arp_good 2501 probes since3 (arp_so 2501 probes (Probe granted) refl) good3
-
-good5 : Good since5
-good5 = arp_good 3502 probes since4 (arp_so 3502 probes (Probe granted) refl) good4
-
-good6 : Good since6
-good6 = arp_good 4503 probes since5 (arp_so 4503 probes (Probe granted) refl) good5
-
-good7 : Good since7
-good7 = arp_good 6503 announces since6 (arp_so 6503 announces (Announce granted) refl) good6
-
-good8 : Good since8
-good8 = arp_good 8503 announces since7 (arp_so 8503 announces (Announce granted) refl) good7
-
-good9 : Good (at_rest 65000 [] ∷ since8)
-good9 = more_for_good site EachRequest 1000 (at_rest 65000 []) since8 (λ xid. refl) (λ xid. refl) good8
-
 -- ---- fair
-
-no_reply : {A : Type 0} → answer.Nothing ≡ answer.Nak → A
-no_reply h = absurd cc
-
-no_grant : {A : Type 0} (terms : Terms4) → answer.Nothing ≡ answer.Ack terms → A
-no_grant terms h = absurd cc
-
-rest_fair : (at : ℕ) (offers : List Offer) (past : List Entry) → has_failed site (at_rest at offers) ≡ false
-    → Serves site EachRequest 1000 (at_rest at offers ∷ past)
-    → Fair site EachRequest 1000 (at_rest at offers) past
-rest_fair at offers past taken served = record {
-  stays = tt;
-  taken = taken;
-  unrefused = λ opened nak. no_reply nak.refuses;
-  alone = λ opened terms some. refl;
-  lasts = λ opened terms good. no_grant terms good.grants;
-  served = served;
-}
 
 offer_fair : Fair site EachRequest 1000 t2 (t1 ∷ t0 ∷ [])
 offer_fair = record {
@@ -356,38 +287,16 @@ ack_fair = record {
   served = all_serve site EachRequest 1000 since3 (good3 2500 []);
 }
 
-all_fair : Always (Fair site EachRequest 1000) (at_rest 65000 [] ∷ since8)
-all_fair = (
-  rest_fair 65000 [] since8 refl (all_serve site EachRequest 1000 _ (good9 65000 [])),
-  (
-    rest_fair 8503 announces since7 refl (all_serve site EachRequest 1000 _ (good8 8503 [])),
-    (
-      rest_fair 6503 announces since6 refl (all_serve site EachRequest 1000 _ (good7 6503 [])),
-      (
-        rest_fair 4503 probes since5 refl (all_serve site EachRequest 1000 _ (good6 4503 [])),
-        (
-          rest_fair 3502 probes since4 refl (all_serve site EachRequest 1000 _ (good5 3502 [])),
-          (
-            rest_fair 2501 probes since3 refl (all_serve site EachRequest 1000 _ (good4 2501 [])),
-            (
-              ack_fair,
-              (
-                offer_fair,
-                (
-                  rest_fair 1001 discovers (t0 ∷ []) refl serves1,
-                  (
-                    rest_fair 1000 [] [] refl serves0,
-                    tt,
-                  ),
-                ),
-              ),
-            ),
-          ),
-        ),
-      ),
-    ),
-  ),
-)
+going3 : Going site since3
+going3 = record {
+  good = good3;
+  fair = (ack_fair, (offer_fair, (rest_fair site 1001 discovers (t0 ∷ []) refl serves1, (rest_fair site 1000 [] [] refl serves0, tt))));
+}
+
+going9 : Going site (after_ack 2500 since3)
+going9 =
+    ack_goes site 2500 since3 (record { none = λ at. arp_so at probes (Probe granted) refl; taken = λ at. refl })
+    (record { none = λ at. arp_so at announces (Announce granted) refl; taken = λ at. refl }) going3
 
 pub one_life_goes_well : OneLifeGoesWell
 one_life_goes_well = record {
@@ -398,7 +307,7 @@ one_life_goes_well = record {
     up = refl;
     lived = nine_lived;
     prompt = nine_prompt;
-    fair = all_fair;
+    fair = going9.fair;
   };
   quick = lit< tt;
   anew = refl;

@@ -7,5 +7,8 @@ pub mod PendingInputs
 pub mod Acquired
 pub mod Opened
 pub mod Paying
+pub mod Resting
 pub mod NineTurns
 pub mod Instance
+pub mod AgainTurns
+pub mod AgainInstance

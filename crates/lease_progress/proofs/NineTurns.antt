@@ -1,5 +1,5 @@
 -- The life that is written out is one, and its turns come in time.
-use Rattle.std.proofs.Common.{◌≡◌, ℕ, List, [], ◌∷◌, map, Option, Some, None, refl, sym, ap, subst, ◌∙◌, lit<, lit≤}
+use Rattle.std.proofs.Common.{◌≡◌, ℕ, ◌+◌, List, [], ◌∷◌, map, Option, Some, None, refl, sym, ap, subst, ◌∙◌, lit<, lit≤}
 use lib.Count.{count_leading_zeros}
 use Rattle.net_types.specs.Marks.{AreBytes}
 use Rattle.net_types.specs.declared.address.Mac.{Mac}
@@ -56,68 +56,72 @@ ack_alone = no_packet_so (reply_frame 5) (heard kind.Ack 5) ack_heard (arp_heard
 
 -- ---- the turns
 
-abbrev own : List Mac
+abbrev pub own : List Mac
 own = client_mac ∷ []
 
 -- the interface after the turn of its DISCOVER
 abbrev seeking : Iface
 seeking = iface_after own beginning opening (met 1001 Quiet [] discovers ∷ [])
 
-abbrev hearing : ℕ → Iface → Option ArpView → Option HeardMessage → Option HeardMessage6 → IfaceStep
+abbrev pub hearing : ℕ → Iface → Option ArpView → Option HeardMessage → Option HeardMessage6 → IfaceStep
 hearing at iface arp message other = then_step (ticked at 0 iface) (hears_either own at 0 arp message other)
 
+-- a message is heard as what it says
+pub heard_as : (at number : ℕ) (sort : MessageKind) → arp_heard (reply_frame number) ≡ None
+    → heard4_in client_mac (reply_frame number) ≡ Some (heard sort number) → (f : Iface)
+    → hearing at f (arp_heard (reply_frame number)) (heard4_in client_mac (reply_frame number)) (heard6_in client_mac (reply_frame number))
+    ≡ hearing at f None (Some (heard sort number)) None
+heard_as at number sort alone is f =
+    ap (λ (arp : Option ArpView). hearing at f arp (heard4_in client_mac (reply_frame number)) (heard6_in client_mac (reply_frame number))) alone
+    ∙ ap (λ (message : Option HeardMessage). hearing at f None message (heard6_in client_mac (reply_frame number))) is
+
 asking : iface_turned own (met 2000 (Frame 1 304) (reply_frame 2) requests).turn seeking ≡ hearing 2000 seeking None (Some (heard kind.Offer 2)) None
-asking =
-    ap (λ (arp : Option ArpView). hearing 2000 seeking arp (heard4_in client_mac (reply_frame 2)) (heard6_in client_mac (reply_frame 2))) offer_alone
-    ∙ ap (λ (message : Option HeardMessage). hearing 2000 seeking None message (heard6_in client_mac (reply_frame 2))) offer_heard
+asking = heard_as 2000 2 kind.Offer offer_alone offer_heard seeking
 
 abbrev asked : Iface
 asked = (hearing 2000 seeking None (Some (heard kind.Offer 2)) None).iface
 
 holding : iface_turned own (met 2500 (Frame 1 304) (reply_frame 5) []).turn asked ≡ hearing 2500 asked None (Some (heard kind.Ack 5)) None
-holding =
-    ap (λ (arp : Option ArpView). hearing 2500 asked arp (heard4_in client_mac (reply_frame 5)) (heard6_in client_mac (reply_frame 5))) ack_alone
-    ∙ ap (λ (message : Option HeardMessage). hearing 2500 asked None message (heard6_in client_mac (reply_frame 5))) ack_heard
+holding = heard_as 2500 5 kind.Ack ack_alone ack_heard asked
 
 abbrev granted_then : IfaceStep
 granted_then = hearing 2500 asked None (Some (heard kind.Ack 5)) None
-
-acked : iface_turned own (met 2500 (Frame 1 304) (reply_frame 5) []).turn
-    (iface_turned own (met 2000 (Frame 1 304) (reply_frame 2) requests).turn seeking).iface ≡ granted_then
-acked = ap (λ (step : IfaceStep). iface_turned own (met 2500 (Frame 1 304) (reply_frame 5) []).turn step.iface) asking ∙ holding
-
-abbrev quiet_turn : ℕ → Iface → IfaceStep
-quiet_turn at iface = iface_turned own (met at Quiet [] []).turn iface
-
--- the turns after that of the ACK
-abbrev first : IfaceStep → IfaceStep
-first step = quiet_turn 2501 step.iface
-
-abbrev second : IfaceStep → IfaceStep
-second step = quiet_turn 3502 (first step).iface
-
-abbrev third : IfaceStep → IfaceStep
-third step = quiet_turn 4503 (second step).iface
-
-abbrev fourth : IfaceStep → IfaceStep
-fourth step = quiet_turn 6503 (third step).iface
-
-abbrev fifth : IfaceStep → IfaceStep
-fifth step = quiet_turn 8503 (fourth step).iface
-
-abbrev sixth : IfaceStep → IfaceStep
-sixth step = quiet_turn 65000 (fifth step).iface
 
 abbrev the_ack : IfaceStep
 the_ack = iface_turned own (met 2500 (Frame 1 304) (reply_frame 5) []).turn
     (iface_turned own (met 2000 (Frame 1 304) (reply_frame 2) requests).turn seeking).iface
 
+acked : the_ack ≡ granted_then
+acked = ap (λ (step : IfaceStep). iface_turned own (met 2500 (Frame 1 304) (reply_frame 5) []).turn step.iface) asking ∙ holding
+
+abbrev quiet_turn : ℕ → Iface → IfaceStep
+quiet_turn at iface = iface_turned own (met at Quiet [] []).turn iface
+
+-- the turns after that of an ACK: three probes, two announcements, and a minute later
+abbrev pub probing1 : (ack : ℕ) → IfaceStep → IfaceStep
+probing1 ack step = quiet_turn (ack + 1) step.iface
+
+abbrev pub probing2 : (ack : ℕ) → IfaceStep → IfaceStep
+probing2 ack step = quiet_turn (ack + 1002) (probing1 ack step).iface
+
+abbrev pub probing3 : (ack : ℕ) → IfaceStep → IfaceStep
+probing3 ack step = quiet_turn (ack + 2003) (probing2 ack step).iface
+
+abbrev pub announcing1 : (ack : ℕ) → IfaceStep → IfaceStep
+announcing1 ack step = quiet_turn (ack + 4003) (probing3 ack step).iface
+
+abbrev pub announcing2 : (ack : ℕ) → IfaceStep → IfaceStep
+announcing2 ack step = quiet_turn (ack + 6003) (announcing1 ack step).iface
+
+abbrev pub resting : (ack : ℕ) → IfaceStep → IfaceStep
+resting ack step = quiet_turn (ack + 62500) (announcing2 ack step).iface
+
 -- ---- a life
 
-nothing : AreBytes []
+pub nothing : AreBytes []
 nothing i = lit< tt
 
-abbrev SaidBy : List Offer → IfaceStep → Type 0
+abbrev pub SaidBy : List Offer → IfaceStep → Type 0
 SaidBy offers step = map (λ o. o.bytes) offers ≡ map (frame_of interface.spec (ask_of duid interface)) step.said
 
 said_after : (offers : List Offer) (next : IfaceStep → IfaceStep) → SaidBy offers (next granted_then) → SaidBy offers (next the_ack)
@@ -125,11 +129,11 @@ said_after offers next said = subst (λ (step : IfaceStep). SaidBy offers (next 
 
 pub nine_lived : IsLived own beginning opening nine_turns
 unfolding count_leading_zeros tick_turned
-nine_lived = (lit< tt, nothing, refl, said_after [] sixth refl, (lit< tt, nothing, refl, said_after announces fifth refl, seven_lived))
+nine_lived = (lit< tt, nothing, refl, said_after [] (resting 2500) refl, (lit< tt, nothing, refl, said_after announces (announcing2 2500) refl, seven_lived))
 
 -- ---- in time
 
-abbrev SoonBy : ℕ → ℕ → IfaceStep → Type 0
+abbrev pub SoonBy : ℕ → ℕ → IfaceStep → Type 0
 SoonBy last at step = NotAfter (iface_due step.iface) last at
 
 soon_after : (last at : ℕ) (next : IfaceStep → IfaceStep) → SoonBy last at (next granted_then) → SoonBy last at (next the_ack)
@@ -139,19 +143,19 @@ pub nine_prompt : IsPrompt own beginning opening nine_turns
 unfolding count_leading_zeros tick_turned
 nine_prompt = (
   lit≤ tt,
-  soon_after 8503 65000 fifth (lit≤ tt),
+  soon_after 8503 65000 (announcing2 2500) (lit≤ tt),
   (
     lit≤ tt,
-    soon_after 6503 8503 fourth (lit≤ tt),
+    soon_after 6503 8503 (announcing1 2500) (lit≤ tt),
     (
       lit≤ tt,
-      soon_after 4503 6503 third (lit≤ tt),
+      soon_after 4503 6503 (probing3 2500) (lit≤ tt),
       (
         lit≤ tt,
-        soon_after 3502 4503 second (lit≤ tt),
+        soon_after 3502 4503 (probing2 2500) (lit≤ tt),
         (
           lit≤ tt,
-          soon_after 2501 3502 first (lit≤ tt),
+          soon_after 2501 3502 (probing1 2500) (lit≤ tt),
           (
             lit≤ tt,
             soon_after 2500 2501 (λ step. step) (lit≤ tt),

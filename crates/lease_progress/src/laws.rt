@@ -1,7 +1,7 @@
 //! What ought to happen does. These functions do nothing: their contracts are the laws.
 
 ghost use Rattle.lease_progress.specs.LeaseHeld.{Acquires, Reacquires};
-ghost use Rattle.lease_progress.specs.OneLife.{OneLifeGoesWell};
+ghost use Rattle.lease_progress.specs.OneLife.{AgainLifeGoesWell, OneLifeGoesWell};
 
 /// Law of the life of an interface, over every setting, salt and moment, from an opening with carrier. Where turns come
 /// no later than asked for, the link takes the frames, the carrier stays, no other host contests what was granted, and
@@ -13,7 +13,9 @@ pub fn leases_are_acquired()
     ensures reacquires { Reacquires }
 {}
 
-/// Law: the premises can be met. One life is written out for which they hold, up to a minute after the lease is held.
+/// Law: the premises can be met. A life is written out for which they hold, up to a minute after the lease is held; and
+/// one that asks for its kept lease again.
 pub fn premises_are_met()
-    ensures { OneLifeGoesWell }
+    ensures anew { OneLifeGoesWell }
+    ensures again { AgainLifeGoesWell }
 {}
